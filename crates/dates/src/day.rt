@@ -1,0 +1,57 @@
+ghost use Rattle.std.specs.Prelude.{◌≡◌, ◌↔◌, pos, ◌≤ℤ◌, unsigned_abs, IsSome, IfSome};
+ghost use Rattle.jiff.specs.Words.{IsBetween, IsDate, IsYmd, epoch_day, weekday_of};
+ghost use Rattle.jiff_core.specs.Weekday.{monday_zero};
+ghost use Rattle.dates.specs.DaysLeft.{days_left, IsDay};
+
+use jiff::civil::{Date, Weekday};
+use std::marker::Model;
+
+/// A civil day from 1900-01-01 to 2154-12-31. Days compare by their order in time.
+#[derive(Clone, Copy, PartialEq, Eq, PartialOrd, Ord, Hash)]
+pub struct Day {
+    date: Date,
+}
+
+impl Model for Day {
+    ghost use Rattle.std.specs.Prelude.{pos};
+    ghost use Rattle.jiff.specs.Words.{IsBetween};
+    ghost use Rattle.jiff_core.specs.declared.civil.date.Date.{Date as Plain};
+
+    ghost Value = { Plain };
+
+    ghost view = { λ d. d.date };
+
+    ghost invariant = { λ d. IsBetween (pos 1900) (pos 2154) d.date.year };
+
+    ghost inverse = { λ d. record { date = d } };
+}
+
+impl Day {
+    /// The day with these parts, where the calendar has it and its year is 1900 to 2154.
+    pub fn new(year: i32, month: u8, day: u8) -> Option<Day>
+        ensures exists { IsSome result ↔ IsDay year month day }
+        ensures value { IfSome result (IsYmd year (pos month) (pos day)) }
+    {
+        if year < 1900 || year > 2154 || month > 12 || day > 31 {
+            return None;
+        }
+        match Date::new(year as i16, month as i8, day as i8) {
+            Ok(date) => Some(Day { date }),
+            Err(_) => None,
+        }
+    }
+
+    /// The day of the week.
+    pub fn weekday(self) -> Weekday
+        ensures { monday_zero result ≡ weekday_of self }
+    {
+        self.date.weekday()
+    }
+
+    /// How many days follow this one in its month, 0 to 30.
+    pub fn days_left_in_month(self) -> u8
+        ensures { result ≡ days_left self }
+    {
+        (self.date.days_in_month() - self.date.day()) as u8
+    }
+}
