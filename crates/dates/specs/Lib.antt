@@ -1,1 +1,2 @@
 pub mod DaysLeft
+pub mod HoldsOn

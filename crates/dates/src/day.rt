@@ -1,4 +1,5 @@
 ghost use Rattle.std.specs.Prelude.{◌≡◌, ◌↔◌, pos, ◌≤ℤ◌, unsigned_abs, IsSome, IfSome};
+ghost use Rattle.std.specs.Int.{IsInRange};
 ghost use Rattle.jiff.specs.Words.{IsBetween, IsDate, IsYmd, epoch_day, weekday_of};
 ghost use Rattle.jiff_core.specs.Weekday.{monday_zero};
 ghost use Rattle.dates.specs.DaysLeft.{days_left, IsDay};
@@ -7,7 +8,7 @@ use jiff::civil::{Date, Weekday};
 use std::marker::Model;
 
 /// A civil day from 1900-01-01 to 2154-12-31. Days compare by their order in time.
-#[derive(Clone, Copy, PartialEq, Eq, PartialOrd, Ord, Hash)]
+#[derive(Clone, Copy, PartialEq, Eq, PartialOrd, Ord, Hash, Debug)]
 pub struct Day {
     date: Date,
 }
@@ -39,6 +40,30 @@ impl Day {
             Ok(date) => Some(Day { date }),
             Err(_) => None,
         }
+    }
+
+    /// The year, 1900 to 2154.
+    pub fn year(self) -> u16
+        ensures value { pos result ≡ self.year }
+        ensures range { IsInRange 1900 2154 result }
+    {
+        self.date.year() as u16
+    }
+
+    /// The month, 1 to 12.
+    pub fn month(self) -> u8
+        ensures value { result ≡ self.month }
+        ensures range { IsInRange 1 12 result }
+    {
+        self.date.month() as u8
+    }
+
+    /// The day of the month, 1 to 31.
+    pub fn day_of_month(self) -> u8
+        ensures value { result ≡ self.day }
+        ensures range { IsInRange 1 31 result }
+    {
+        self.date.day() as u8
     }
 
     /// The day of the week.

@@ -1,10 +1,28 @@
 //! Which days does this entry hold on?
 //!
 //! The date patterns, date ranges and week-and-days of a calendar or a schedule (ANSI/ASHRAE
-//! 135-2016, 12.9 and clause 21), over civil days from 1900-01-01 to 2154-12-31.
+//! 135-2016, 12.9, 12.24 and clause 21), over civil days from 1900-01-01 to 2154-12-31.
 #![tactic(auto)]
 
 mod day;
+mod entry;
+mod month_days;
+mod months;
+mod pattern;
+mod range;
+mod week_n_day;
+mod weekdays;
+mod weeks;
+mod years;
 
 pub use day::Day;
+pub use entry::Entry;
 pub use jiff::civil::Weekday;
+pub use month_days::{MonthDay, MonthDays};
+pub use months::{Month, Months};
+pub use pattern::Pattern;
+pub use range::Range;
+pub use week_n_day::WeekNDay;
+pub use weekdays::Weekdays;
+pub use weeks::{Week, Weeks};
+pub use years::{Year, Years};

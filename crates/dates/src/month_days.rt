@@ -1,0 +1,74 @@
+ghost use Rattle.std.specs.Prelude.{◌≡◌, ◌↔◌, IsSome, IfSome};
+ghost use Rattle.std.specs.Int.{IsInRange};
+
+use crate::Day;
+use std::marker::Model;
+
+/// A day of a month, from 1 to 31.
+#[derive(Clone, Copy, Debug, PartialEq, Eq, Hash)]
+pub struct MonthDay {
+    number: u8,
+}
+
+impl Model for MonthDay {
+    ghost use Rattle.std.specs.Prelude.{ℕ};
+    ghost use Rattle.std.specs.Int.{IsInRange};
+
+    ghost Value = { ℕ };
+
+    ghost view = { λ d. d.number };
+
+    ghost invariant = { λ d. IsInRange 1 31 d.number };
+
+    ghost inverse = { λ n. record { number = n } };
+}
+
+impl MonthDay {
+    /// The day of the month with this number, where it is 1 to 31.
+    pub fn new(number: u8) -> Option<MonthDay>
+        ensures valid { IsSome result ↔ IsInRange 1 31 number }
+        ensures value { IfSome result (λ day. day ≡ number) }
+    {
+        if 1 <= number && number <= 31 {
+            Some(MonthDay { number })
+        } else {
+            None
+        }
+    }
+
+    /// The number of the day.
+    pub fn number(self) -> u8
+        ensures value { result ≡ self }
+        ensures range { IsInRange 1 31 result }
+    {
+        self.number
+    }
+}
+
+/// The days of the month that a date pattern names. The standard writes the last day as 32, the
+/// odd days as 33 and the even ones as 34.
+#[derive(Clone, Copy, Debug, PartialEq, Eq, Hash)]
+pub enum MonthDays {
+    Any,
+    Last,
+    Odd,
+    Even,
+    One(MonthDay),
+}
+
+impl MonthDays {
+    ghost use Rattle.dates.specs.HoldsOn.{in_month_days};
+
+    /// Whether the day is one of these in its month.
+    pub fn holds(self, day: Day) -> bool
+        ensures { result ≡ in_month_days self day }
+    {
+        match self {
+            MonthDays::Any => true,
+            MonthDays::Last => day.days_left_in_month() == 0,
+            MonthDays::Odd => day.day_of_month() % 2 == 1,
+            MonthDays::Even => day.day_of_month() % 2 == 0,
+            MonthDays::One(number) => day.day_of_month() == number.number(),
+        }
+    }
+}

@@ -1,0 +1,72 @@
+ghost use Rattle.std.specs.Prelude.{◌≡◌, ◌↔◌, IsSome, IfSome};
+ghost use Rattle.std.specs.Int.{IsInRange};
+
+use crate::Day;
+use std::marker::Model;
+
+/// A month from 1, January, to 12, December.
+#[derive(Clone, Copy, Debug, PartialEq, Eq, Hash)]
+pub struct Month {
+    number: u8,
+}
+
+impl Model for Month {
+    ghost use Rattle.std.specs.Prelude.{ℕ};
+    ghost use Rattle.std.specs.Int.{IsInRange};
+
+    ghost Value = { ℕ };
+
+    ghost view = { λ m. m.number };
+
+    ghost invariant = { λ m. IsInRange 1 12 m.number };
+
+    ghost inverse = { λ n. record { number = n } };
+}
+
+impl Month {
+    /// The month with this number, where it is 1 to 12.
+    pub fn new(number: u8) -> Option<Month>
+        ensures valid { IsSome result ↔ IsInRange 1 12 number }
+        ensures value { IfSome result (λ month. month ≡ number) }
+    {
+        if 1 <= number && number <= 12 {
+            Some(Month { number })
+        } else {
+            None
+        }
+    }
+
+    /// The month's number.
+    pub fn number(self) -> u8
+        ensures value { result ≡ self }
+        ensures range { IsInRange 1 12 result }
+    {
+        self.number
+    }
+}
+
+/// The months that a date pattern or a week-and-day names. The standard writes the odd months as
+/// 13 and the even ones as 14.
+#[derive(Clone, Copy, Debug, PartialEq, Eq, Hash)]
+pub enum Months {
+    Any,
+    Odd,
+    Even,
+    One(Month),
+}
+
+impl Months {
+    ghost use Rattle.dates.specs.HoldsOn.{in_months};
+
+    /// Whether the day's month is one of these.
+    pub fn holds(self, day: Day) -> bool
+        ensures { result ≡ in_months self day }
+    {
+        match self {
+            Months::Any => true,
+            Months::Odd => day.month() % 2 == 1,
+            Months::Even => day.month() % 2 == 0,
+            Months::One(month) => day.month() == month.number(),
+        }
+    }
+}

@@ -1,0 +1,42 @@
+ghost use Rattle.std.specs.Prelude.{◌≡◌};
+
+use crate::Day;
+
+/// A date range: the days from its start to its end, both included (clause 21).
+///
+/// An end that is `None` is unspecified, and the range then goes on without limit. A range whose
+/// start is after its end holds on no day, which is this profile's own.
+#[derive(Clone, Copy, Debug, PartialEq, Eq, Hash)]
+pub struct Range {
+    pub start: Option<Day>,
+    pub end: Option<Day>,
+}
+
+impl Range {
+    ghost use Rattle.dates.specs.HoldsOn.{in_range, is_from, is_up_to};
+
+    /// Whether the day is one of the range's.
+    pub fn holds(&self, day: Day) -> bool
+        ensures { result ≡ in_range self.now day }
+    {
+        self.starts_by(day) && self.ends_after(day)
+    }
+
+    fn starts_by(&self, day: Day) -> bool
+        ensures { result ≡ is_from self.now.start day }
+    {
+        match self.start {
+            Some(start) => start <= day,
+            None => true,
+        }
+    }
+
+    fn ends_after(&self, day: Day) -> bool
+        ensures { result ≡ is_up_to self.now.end day }
+    {
+        match self.end {
+            Some(end) => day <= end,
+            None => true,
+        }
+    }
+}

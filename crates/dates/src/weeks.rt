@@ -1,0 +1,72 @@
+ghost use Rattle.std.specs.Prelude.{◌≡◌};
+
+use crate::Day;
+
+/// A week of a month: seven days counted from its start, or from its end.
+///
+/// Weeks 1 to 6 are the standard's. Weeks 7 to 9 are this profile's own.
+#[derive(Clone, Copy, Debug, PartialEq, Eq, Hash)]
+pub enum Week {
+    /// Week 1: the days 1 to 7.
+    First,
+    /// Week 2: the days 8 to 14.
+    Second,
+    /// Week 3: the days 15 to 21.
+    Third,
+    /// Week 4: the days 22 to 28.
+    Fourth,
+    /// Week 5: the days 29 to 31.
+    Fifth,
+    /// Week 6: the last seven days.
+    Last,
+    /// Week 7: the seven days before the last seven.
+    SecondLast,
+    /// Week 8: the seven days before the last 14.
+    ThirdLast,
+    /// Week 9: the seven days before the last 21.
+    FourthLast,
+}
+
+impl Week {
+    ghost use Rattle.dates.specs.HoldsOn.{in_week};
+
+    /// Whether the day lies in this week of its month.
+    pub fn holds(self, day: Day) -> bool
+        ensures { result ≡ in_week self day }
+    {
+        let weeks_before = (day.day_of_month() - 1) / 7;
+        let weeks_after = day.days_left_in_month() / 7;
+        match self {
+            Week::First => weeks_before == 0,
+            Week::Second => weeks_before == 1,
+            Week::Third => weeks_before == 2,
+            Week::Fourth => weeks_before == 3,
+            Week::Fifth => weeks_before == 4,
+            Week::Last => weeks_after == 0,
+            Week::SecondLast => weeks_after == 1,
+            Week::ThirdLast => weeks_after == 2,
+            Week::FourthLast => weeks_after == 3,
+        }
+    }
+}
+
+/// The weeks that a week-and-day names.
+#[derive(Clone, Copy, Debug, PartialEq, Eq, Hash)]
+pub enum Weeks {
+    Any,
+    One(Week),
+}
+
+impl Weeks {
+    ghost use Rattle.dates.specs.HoldsOn.{in_weeks};
+
+    /// Whether the day lies in one of these weeks of its month.
+    pub fn holds(self, day: Day) -> bool
+        ensures { result ≡ in_weeks self day }
+    {
+        match self {
+            Weeks::Any => true,
+            Weeks::One(week) => week.holds(day),
+        }
+    }
+}

@@ -1,0 +1,67 @@
+ghost use Rattle.std.specs.Prelude.{◌≡◌, ◌↔◌, IsSome, IfSome};
+ghost use Rattle.std.specs.Int.{IsInRange};
+
+use crate::Day;
+use std::marker::Model;
+
+/// A year from 1900 to 2154.
+#[derive(Clone, Copy, Debug, PartialEq, Eq, Hash)]
+pub struct Year {
+    number: u16,
+}
+
+impl Model for Year {
+    ghost use Rattle.std.specs.Prelude.{ℕ};
+    ghost use Rattle.std.specs.Int.{IsInRange};
+
+    ghost Value = { ℕ };
+
+    ghost view = { λ y. y.number };
+
+    ghost invariant = { λ y. IsInRange 1900 2154 y.number };
+
+    ghost inverse = { λ n. record { number = n } };
+}
+
+impl Year {
+    /// The year with this number, where it is 1900 to 2154.
+    pub fn new(number: u16) -> Option<Year>
+        ensures valid { IsSome result ↔ IsInRange 1900 2154 number }
+        ensures value { IfSome result (λ year. year ≡ number) }
+    {
+        if 1900 <= number && number <= 2154 {
+            Some(Year { number })
+        } else {
+            None
+        }
+    }
+
+    /// The year's number.
+    pub fn number(self) -> u16
+        ensures value { result ≡ self }
+        ensures range { IsInRange 1900 2154 result }
+    {
+        self.number
+    }
+}
+
+/// The years that a date pattern names.
+#[derive(Clone, Copy, Debug, PartialEq, Eq, Hash)]
+pub enum Years {
+    Any,
+    One(Year),
+}
+
+impl Years {
+    ghost use Rattle.dates.specs.HoldsOn.{in_years};
+
+    /// Whether the day's year is one of these.
+    pub fn holds(self, day: Day) -> bool
+        ensures { result ≡ in_years self day }
+    {
+        match self {
+            Years::Any => true,
+            Years::One(year) => day.year() == year.number(),
+        }
+    }
+}
