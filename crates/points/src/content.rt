@@ -1,0 +1,29 @@
+//! What a panel's command asks for.
+use crate::name::Name;
+use std::alloc::AllocError;
+
+/// What a command asks for: a value, or NULL, in one place of a point's priority array. It is what came,
+/// so any of it may be refused.
+#[derive(Debug, Drop, PartialEq, Eq)]
+pub struct Content {
+    pub point: Name,
+    /// 1 to 16 where it names a place; a command without one is at 16.
+    pub priority: i64,
+    /// The value; `None` is NULL, which relinquishes the place.
+    pub value: Option<i64>,
+}
+
+/// A clone of a content takes no memory: it is always `Ok`.
+impl Clone for Content {
+    ghost use Rattle.std.specs.Prelude.{◌≡◌};
+
+    ghost is_clone = { λ content copy. copy ≡ content };
+
+    fn clone(&self) -> Result<Content, AllocError> {
+        Ok(Content {
+            point: self.point.clone()?,
+            priority: self.priority,
+            value: self.value,
+        })
+    }
+}

@@ -1,0 +1,28 @@
+//! The kinds of value that a point can have.
+ghost use Rattle.std.specs.Prelude.{◌≡◌};
+ghost use Rattle.points.specs.Kind.{lies_in};
+
+/// The kind of a point, and so the values that may stand in it. NULL lies in every kind.
+#[derive(Clone, Copy, Debug, PartialEq, Eq)]
+pub enum Kind {
+    /// 0 inactive, 1 active.
+    Binary,
+    /// 1 to the number of states (this profile takes 1 to 1,000 states).
+    Multistate { states: i64 },
+    /// Whole hundredths of the point's unit, `low` and `high` included (this profile takes both from
+    /// -1,000,000,000 to 1,000,000,000).
+    Analog { low: i64, high: i64 },
+}
+
+impl Kind {
+    /// Whether a value, other than NULL, lies in the kind.
+    pub fn admits(&self, value: i64) -> bool
+        ensures { result ≡ lies_in self.now value }
+    {
+        match *self {
+            Kind::Binary => 0 <= value && value <= 1,
+            Kind::Multistate { states } => 1 <= value && value <= states,
+            Kind::Analog { low, high } => low <= value && value <= high,
+        }
+    }
+}

@@ -1,0 +1,173 @@
+//! The names of points, panels, calendars and schedules.
+ghost use Rattle.std.specs.Prelude.{◌≡◌, ◌<◌, ◌↔◌, [], Some, length, nat_eq, refl, IsOk, IfOk, IsErrOf};
+ghost use Rattle.std.specs.Ordering.{nat_cmp};
+ghost use Rattle.std.specs.Cmp.{partial_equiv_from_equiv};
+ghost use Rattle.std.specs.Cmp.Lexicographic.{pointwise, slice_cmp, nat_list_eq_equiv, nat_list_cmp_total, texts_ties, texts_po};
+ghost use Rattle.std.specs.List.{list_all};
+ghost use Rattle.points.specs.Name.{IsName, is_name_byte};
+ghost use Rattle.points.specs.declared.name.TheConstants.{LONGEST};
+
+use arrayvec::ArrayString;
+use std::alloc::AllocError;
+use std::cmp::Ordering;
+use std::convert::AsStr;
+use std::error::Error;
+use std::fmt;
+use std::marker::Model;
+
+/// How many bytes a name has at most.
+pub const LONGEST: usize = 32;
+
+/// The name of a point, a panel, a calendar or a schedule: 1 to 32 ASCII letters, digits, `-`, `_` and
+/// `.` (this profile's choice). A contract sees it as its bytes. It takes no memory.
+#[derive(Drop)]
+pub struct Name {
+    text: ArrayString<LONGEST>,
+}
+
+impl Model for Name {
+    ghost use Rattle.std.specs.Prelude.{ℕ, List};
+    ghost use Rattle.points.specs.Name.{is_name};
+    ghost use Rattle.std.specs.Bool.{IsTrue};
+
+    ghost Value = { List ℕ };
+
+    ghost view = { λ name. name.text.bytes };
+
+    ghost invariant = { λ name. IsTrue (is_name name.text.bytes) };
+}
+
+/// Why a text is no name.
+#[derive(Clone, Copy, Debug, PartialEq, Eq)]
+pub enum NameFault {
+    /// The text is empty.
+    Empty,
+    /// The text has more than 32 bytes.
+    TooLong,
+    /// The text has a byte that is no ASCII letter, no digit and none of `-`, `_` and `.`.
+    OtherCharacter,
+}
+
+fn is_name_byte(byte: u8) -> bool
+    ensures { result ≡ is_name_byte byte }
+{
+    matches!(byte, b'a'..=b'z' | b'A'..=b'Z' | b'0'..=b'9' | b'-' | b'_' | b'.')
+}
+
+fn has_name_bytes(text: &str) -> bool
+    ensures { result ≡ list_all is_name_byte text.now }
+{
+    text.as_bytes().iter().all(|byte| is_name_byte(*byte))
+}
+
+impl Name {
+    /// Reads a name: the text, or why it is none.
+    pub fn read(text: &str) -> Result<Name, NameFault>
+        ensures is_name { IsOk result ↔ IsName text.now }
+        ensures named { IfOk result (λ name. name ≡ text.now) }
+        ensures empty { IsErrOf result NameFault.Empty ↔ (text.now ≡ []) }
+        ensures too_long { IsErrOf result NameFault.TooLong ↔ (LONGEST < length text.now) }
+    {
+        if text.is_empty() {
+            return Err(NameFault::Empty);
+        }
+        let Ok(held) = ArrayString::from(text) else {
+            return Err(NameFault::TooLong);
+        };
+        if has_name_bytes(text) {
+            Ok(Name { text: held })
+        } else {
+            Err(NameFault::OtherCharacter)
+        }
+    }
+
+    /// The name as text.
+    pub fn as_str(&self) -> &str
+        ensures text { result.now ≡ self.now }
+        ensures is_name { IsName self.now }
+    {
+        self.text.as_str()
+    }
+}
+
+/// A clone of a name takes no memory: it is always `Ok`.
+impl Clone for Name {
+    ghost is_clone = { λ name copy. copy ≡ name };
+
+    fn clone(&self) -> Result<Name, AllocError> {
+        Ok(Name { text: self.text })
+    }
+}
+
+impl AsStr for Name {
+    ghost text = { λ name. name };
+
+    fn as_str(&self) -> &str {
+        Name::as_str(self)
+    }
+}
+
+impl PartialEq for Name {
+    ghost eq = { pointwise nat_eq };
+
+    ghost laws = { partial_equiv_from_equiv nat_list_eq_equiv };
+
+    fn eq(&self, other: &Name) -> bool {
+        self.as_str() == other.as_str()
+    }
+}
+
+impl Eq for Name {
+    ghost laws = { nat_list_eq_equiv };
+}
+
+impl PartialOrd for Name {
+    ghost partial_cmp = { λ x y. Some (slice_cmp nat_cmp x y) };
+
+    ghost laws = { texts_po };
+
+    fn partial_cmp(&self, other: &Name) -> Option<Ordering> {
+        Some(self.cmp(other))
+    }
+}
+
+/// Names are ordered by their bytes.
+impl Ord for Name {
+    ghost cmp = { slice_cmp nat_cmp };
+
+    ghost total = { nat_list_cmp_total };
+
+    ghost matches_partial_cmp = { λ x y. refl };
+
+    ghost matches_eq = { texts_ties };
+
+    fn cmp(&self, other: &Name) -> Ordering {
+        self.as_str().cmp(other.as_str())
+    }
+}
+
+impl fmt::Debug for Name {
+    fn fmt<W: fmt::Write>(&self, f: &mut fmt::Formatter<W>) -> fmt::Result {
+        f.write_str(self.as_str())
+    }
+}
+
+impl fmt::Display for Name {
+    ghost output = { λ name. Some name };
+
+    fn fmt<W: fmt::Write>(&self, f: &mut fmt::Formatter<W>) -> fmt::Result {
+        f.pad(self.as_str())
+    }
+}
+
+impl fmt::Display for NameFault {
+    fn fmt<W: fmt::Write>(&self, f: &mut fmt::Formatter<W>) -> fmt::Result {
+        f.write_str(match self {
+            NameFault::Empty => "a name has at least one character",
+            NameFault::TooLong => "a name has at most 32 characters",
+            NameFault::OtherCharacter => "a name has letters, digits, `-`, `_` and `.` alone",
+        })
+    }
+}
+
+impl Error for NameFault {}

@@ -1,0 +1,13 @@
+//! A wall panel and its rights.
+use crate::listing::Listing;
+use crate::name::Name;
+
+/// A panel: what it may write, and with which priorities (this profile's choice).
+#[derive(Debug, Drop)]
+pub struct Panel {
+    pub name: Name,
+    /// The names of the points that are granted to it.
+    pub points: Listing<Name>,
+    /// The priorities that are granted to it, each 1 to 16 and not 6.
+    pub priorities: Listing<u8>,
+}
