@@ -1,5 +1,6 @@
 pub mod Kind
 pub mod Name
+pub mod NameFaultText
 pub mod Numbered
 pub mod PriorityArray
 pub mod Rights

@@ -3,6 +3,7 @@
 #![tactic(auto)]
 
 pub use answer::Answer;
+pub use command_row::{CommandRow, CommandState};
 pub use content::Content;
 pub use kind::Kind;
 pub use listing::Listing;
@@ -14,6 +15,7 @@ pub use rights::permit;
 pub use rule::Rule;
 
 mod answer;
+mod command_row;
 mod content;
 mod kind;
 mod listing;
@@ -23,3 +25,5 @@ mod point;
 mod priority_array;
 mod rights;
 mod rule;
+#[cfg(test)]
+mod tests;

@@ -61,7 +61,8 @@ impl PriorityArray {
         ensures value { result ≡ map.get self.now priority }
         ensures places { HasSixteenPlaces self.now }
     {
-        self.places[usize::from(priority - 1)]
+        let index = usize::from(priority - 1);
+        self.places[index]
     }
 
     /// The present value, and the priority of the place that gives it: the value of the highest place that
