@@ -1,3 +1,4 @@
+pub mod ContentEq
 pub mod Kind
 pub mod Name
 pub mod NameFaultText

@@ -2,7 +2,7 @@ use Rattle.std.specs.Prelude.{ℕ, Bool, true, false, not, ◌&&◌, ◌||◌, L
 use Rattle.std.specs.Option.{option_map_or}
 use Rattle.std.specs.Ordering.{int_eq}
 use Rattle.std.specs.List.{list_any}
-use Rattle.std.specs.Cmp.Lexicographic.{pointwise}
+use Rattle.std.specs.Str.{bytes_eq}
 use Rattle.points.specs.declared.kind.Kind.{Kind}
 use Rattle.points.specs.declared.point.Point.{Point}
 use Rattle.points.specs.declared.panel.Panel.{Panel}
@@ -12,7 +12,7 @@ use Rattle.points.specs.declared.rule.Rule.TheVariants.{X1, X2, X3, X4, X5, X6}
 use Rattle.points.specs.Kind.{lies_in}
 
 abbrev pub is_same : List ℕ → List ℕ → Bool
-is_same x y = pointwise nat_eq x y
+is_same x y = bytes_eq x y
 
 -- the first point of that name
 abbrev pub point_named : List Point → List ℕ → Option Point

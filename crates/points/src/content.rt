@@ -13,6 +13,19 @@ pub struct Content {
     pub value: Option<i64>,
 }
 
+impl Content {
+    ghost use Rattle.std.specs.Prelude.{◌≡◌};
+    ghost use Rattle.points.specs.ContentEq.{content_eq};
+
+    /// Whether the two ask for the same: the same point, priority and value.
+    #[tactic(auto, unfolding(crate::specs::ContentEq::content_eq))]
+    pub fn is_same_as(&self, other: &Content) -> bool
+        ensures { result ≡ content_eq self.now other.now }
+    {
+        self.point == other.point && self.priority == other.priority && self.value == other.value
+    }
+}
+
 /// A clone of a content takes no memory: it is always `Ok`.
 impl Clone for Content {
     ghost use Rattle.std.specs.Prelude.{◌≡◌};
