@@ -1,5 +1,5 @@
 -- The set of days that an entry names (ANSI/ASHRAE 135-2016, clause 21), as the test of its members.
-use Rattle.std.specs.Prelude.{ℕ, ◌%◌, Bool, true, ◌&&◌, ◌==◌, nat_le, pos, int_le, Option, Some, None}
+use Rattle.std.specs.Prelude.{ℕ, ◌%◌, Bool, true, ◌&&◌, ◌==◌, pos, int_le, Option, Some, None}
 use Rattle.std.specs.Ordering.{int_eq}
 use Rattle.jiff.specs.Words.{epoch_day, weekday_of}
 use Rattle.jiff_core.specs.Weekday.{monday_zero}
@@ -21,6 +21,7 @@ use Rattle.dates.specs.declared.range.Range.{Range}
 use Rattle.dates.specs.declared.week_n_day.WeekNDay.{WeekNDay}
 use Rattle.dates.specs.declared.entry.Entry.{Entry}
 use Rattle.dates.specs.declared.entry.Entry.TheVariants as entry
+use Rattle.dates.specs.Between.{is_between}
 use Rattle.dates.specs.DaysLeft.{days_left}
 
 -- the days of the years that the field names
@@ -47,9 +48,6 @@ in_month_days (month_day.One number) day = day.day == number
 abbrev pub in_weekdays : Weekdays → Date → Bool
 in_weekdays weekday.Any day = true
 in_weekdays (weekday.One name) day = weekday_of day == monday_zero name
-
-abbrev pub is_between : ℕ → ℕ → ℕ → Bool
-is_between low high n = nat_le low n && nat_le n high
 
 -- weeks 1 to 5 are counted by the day of the month, weeks 6 to 9 by the days that follow in it
 abbrev pub in_week : Week → Date → Bool

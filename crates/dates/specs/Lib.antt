@@ -1,2 +1,10 @@
+pub mod Between
+pub mod CutAt
+pub mod DayOf
 pub mod DaysLeft
+pub mod FaultText
+pub mod FieldAt
 pub mod HoldsOn
+pub mod IsDay
+pub mod OneDay
+pub mod Reading

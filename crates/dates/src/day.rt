@@ -2,7 +2,8 @@ ghost use Rattle.std.specs.Prelude.{◌≡◌, ◌↔◌, pos, ◌≤ℤ◌, uns
 ghost use Rattle.std.specs.Int.{IsInRange};
 ghost use Rattle.jiff.specs.Words.{IsBetween, IsDate, IsYmd, epoch_day, weekday_of};
 ghost use Rattle.jiff_core.specs.Weekday.{monday_zero};
-ghost use Rattle.dates.specs.DaysLeft.{days_left, IsDay};
+ghost use Rattle.dates.specs.DaysLeft.{days_left};
+ghost use Rattle.dates.specs.IsDay.{IsDay};
 
 use jiff::civil::{Date, Weekday};
 use std::marker::Model;

@@ -1,6 +1,6 @@
 ghost use Rattle.std.specs.Prelude.{◌≡◌};
 
-use crate::{Day, Pattern, Range, WeekNDay};
+use crate::{Day, EntryFault, Pattern, Range, WeekNDay, notation};
 
 /// An entry of a calendar, or the period of an exception (12.9 and 12.24).
 #[derive(Clone, Copy, Debug, PartialEq, Eq, Hash)]
@@ -12,6 +12,21 @@ pub enum Entry {
 
 impl Entry {
     ghost use Rattle.dates.specs.HoldsOn.{holds_on};
+    ghost use Rattle.dates.specs.Reading.{reading};
+
+    /// Reads an entry, or tells the first fault.
+    #[tactic(auto, unfolding(crate::specs::Reading::reading, crate::specs::Reading::dates_at))]
+    pub fn read(text: &str) -> Result<Entry, EntryFault>
+        ensures { result ≡ reading text.now }
+    {
+        if let Some(parts) = notation::without_prefix(text, "wnd:") {
+            return Ok(Entry::WeekNDay(WeekNDay::read(parts)?));
+        }
+        if let Some((start, end)) = notation::cut_at(text, "..") {
+            return Ok(Entry::Range(Range::read(start, end)?));
+        }
+        Ok(Entry::Pattern(Pattern::read(text)?))
+    }
 
     /// Whether the day is one of the entry's.
     pub fn holds(&self, day: Day) -> bool

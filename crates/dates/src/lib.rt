@@ -4,10 +4,13 @@
 //! 135-2016, 12.9, 12.24 and clause 21), over civil days from 1900-01-01 to 2154-12-31.
 #![tactic(auto)]
 
+mod date_fields;
 mod day;
 mod entry;
+mod entry_fault;
 mod month_days;
 mod months;
+mod notation;
 mod pattern;
 mod range;
 mod week_n_day;
@@ -17,6 +20,7 @@ mod years;
 
 pub use day::Day;
 pub use entry::Entry;
+pub use entry_fault::EntryFault;
 pub use jiff::civil::Weekday;
 pub use month_days::{MonthDay, MonthDays};
 pub use months::{Month, Months};

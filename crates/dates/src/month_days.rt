@@ -1,7 +1,7 @@
-ghost use Rattle.std.specs.Prelude.{◌≡◌, ◌↔◌, IsSome, IfSome};
+ghost use Rattle.std.specs.Prelude.{◌≡◌, ℕ, ◌↔◌, IsSome, IfSome};
 ghost use Rattle.std.specs.Int.{IsInRange};
 
-use crate::Day;
+use crate::{Day, notation};
 use std::marker::Model;
 
 /// A day of a month, from 1 to 31.
@@ -11,9 +11,6 @@ pub struct MonthDay {
 }
 
 impl Model for MonthDay {
-    ghost use Rattle.std.specs.Prelude.{ℕ};
-    ghost use Rattle.std.specs.Int.{IsInRange};
-
     ghost Value = { ℕ };
 
     ghost view = { λ d. d.number };
@@ -58,6 +55,32 @@ pub enum MonthDays {
 
 impl MonthDays {
     ghost use Rattle.dates.specs.HoldsOn.{in_month_days};
+    ghost use Rattle.dates.specs.FieldAt.{month_days_at};
+    ghost use Rattle.dates.specs.OneDay.{one_month_day};
+
+    /// Reads two digits, `last`, `odd`, `even` or `*`.
+    #[tactic(auto, unfolding(crate::specs::FieldAt::month_days_at))]
+    pub(crate) fn read(text: &str) -> Option<MonthDays>
+        ensures { result ≡ month_days_at text.now }
+    {
+        match text {
+            "*" => Some(MonthDays::Any),
+            "last" => Some(MonthDays::Last),
+            "odd" => Some(MonthDays::Odd),
+            "even" => Some(MonthDays::Even),
+            _ => Some(MonthDays::One(MonthDay::new(notation::two_digits(text)?)?)),
+        }
+    }
+
+    /// The number of the day of the month, where the field names one alone.
+    pub fn number(self) -> Option<u8>
+        ensures { result ≡ one_month_day self }
+    {
+        match self {
+            MonthDays::One(day) => Some(day.number()),
+            _ => None,
+        }
+    }
 
     /// Whether the day is one of these in its month.
     pub fn holds(self, day: Day) -> bool

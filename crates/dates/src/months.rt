@@ -1,7 +1,7 @@
-ghost use Rattle.std.specs.Prelude.{◌≡◌, ◌↔◌, IsSome, IfSome};
+ghost use Rattle.std.specs.Prelude.{◌≡◌, ℕ, ◌↔◌, IsSome, IfSome};
 ghost use Rattle.std.specs.Int.{IsInRange};
 
-use crate::Day;
+use crate::{Day, notation};
 use std::marker::Model;
 
 /// A month from 1, January, to 12, December.
@@ -11,9 +11,6 @@ pub struct Month {
 }
 
 impl Model for Month {
-    ghost use Rattle.std.specs.Prelude.{ℕ};
-    ghost use Rattle.std.specs.Int.{IsInRange};
-
     ghost Value = { ℕ };
 
     ghost view = { λ m. m.number };
@@ -57,6 +54,31 @@ pub enum Months {
 
 impl Months {
     ghost use Rattle.dates.specs.HoldsOn.{in_months};
+    ghost use Rattle.dates.specs.FieldAt.{months_at};
+    ghost use Rattle.dates.specs.OneDay.{one_month};
+
+    /// Reads two digits, `odd`, `even` or `*`.
+    #[tactic(auto, unfolding(crate::specs::FieldAt::months_at))]
+    pub(crate) fn read(text: &str) -> Option<Months>
+        ensures { result ≡ months_at text.now }
+    {
+        match text {
+            "*" => Some(Months::Any),
+            "odd" => Some(Months::Odd),
+            "even" => Some(Months::Even),
+            _ => Some(Months::One(Month::new(notation::two_digits(text)?)?)),
+        }
+    }
+
+    /// The number of the month, where the field names one alone.
+    pub fn number(self) -> Option<u8>
+        ensures { result ≡ one_month self }
+    {
+        match self {
+            Months::One(month) => Some(month.number()),
+            _ => None,
+        }
+    }
 
     /// Whether the day's month is one of these.
     pub fn holds(self, day: Day) -> bool

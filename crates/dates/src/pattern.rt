@@ -1,6 +1,7 @@
 ghost use Rattle.std.specs.Prelude.{◌≡◌};
 
-use crate::{Day, MonthDays, Months, Weekdays, Years};
+use crate::date_fields::DateFields;
+use crate::{Day, EntryFault, MonthDays, Months, Weekdays, Years, notation};
 
 /// A date pattern: the days that each of its four fields names (clause 21).
 ///
@@ -15,6 +16,30 @@ pub struct Pattern {
 
 impl Pattern {
     ghost use Rattle.dates.specs.HoldsOn.{in_pattern};
+    ghost use Rattle.dates.specs.Reading.{pattern_at};
+
+    /// Reads `Y-M-D` or `Y-M-D/W`.
+    #[tactic(auto, unfolding(crate::specs::Reading::pattern_at, crate::specs::Reading::date_part, crate::specs::Reading::weekday_part))]
+    pub(crate) fn read(text: &str) -> Result<Pattern, EntryFault>
+        ensures { result ≡ pattern_at text.now }
+    {
+        let (date, weekday) = match notation::cut_at(text, "/") {
+            Some((date, weekday)) => (date, Weekdays::read_one(weekday).map(Weekdays::One)),
+            None => (text, Some(Weekdays::Any)),
+        };
+        let DateFields {
+            years,
+            months,
+            days,
+        } = DateFields::read(date)?;
+        let weekdays = weekday.ok_or(EntryFault::Weekday)?;
+        Ok(Pattern {
+            years,
+            months,
+            days,
+            weekdays,
+        })
+    }
 
     /// Whether the day is one of the pattern's.
     pub fn holds(&self, day: Day) -> bool

@@ -1,6 +1,7 @@
 ghost use Rattle.std.specs.Prelude.{◌≡◌};
 
-use crate::Day;
+use crate::date_fields::DateFields;
+use crate::{Day, EntryFault};
 
 /// A date range: the days from its start to its end, both included (clause 21).
 ///
@@ -14,6 +15,27 @@ pub struct Range {
 
 impl Range {
     ghost use Rattle.dates.specs.HoldsOn.{in_range, is_from, is_up_to};
+    ghost use Rattle.dates.specs.Reading.{range_at, range_end_at};
+
+    /// Reads the two ends of a range.
+    #[tactic(auto, unfolding(crate::specs::Reading::range_at))]
+    pub(crate) fn read(left: &str, right: &str) -> Result<Range, EntryFault>
+        ensures { result ≡ range_at left.now right.now }
+    {
+        let start = Range::read_end(left)?;
+        let end = Range::read_end(right)?;
+        Ok(Range { start, end })
+    }
+
+    #[tactic(auto, unfolding(crate::specs::Reading::range_end_at))]
+    fn read_end(text: &str) -> Result<Option<Day>, EntryFault>
+        ensures { result ≡ range_end_at text.now }
+    {
+        match text {
+            "*" => Ok(None),
+            _ => Ok(Some(DateFields::read_day(text)?)),
+        }
+    }
 
     /// Whether the day is one of the range's.
     pub fn holds(&self, day: Day) -> bool

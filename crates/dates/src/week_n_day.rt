@@ -1,6 +1,6 @@
 ghost use Rattle.std.specs.Prelude.{◌≡◌};
 
-use crate::{Day, Months, Weekdays, Weeks};
+use crate::{Day, EntryFault, Months, Weekdays, Weeks, notation};
 
 /// A week-and-day, the standard's WeekNDay: the days of a weekday in a week of a month.
 #[derive(Clone, Copy, Debug, PartialEq, Eq, Hash)]
@@ -12,6 +12,23 @@ pub struct WeekNDay {
 
 impl WeekNDay {
     ghost use Rattle.dates.specs.HoldsOn.{in_week_n_day};
+    ghost use Rattle.dates.specs.Reading.{week_n_day_at};
+
+    /// Reads `M:K:W`.
+    #[tactic(auto, unfolding(crate::specs::Reading::week_n_day_at))]
+    pub(crate) fn read(text: &str) -> Result<WeekNDay, EntryFault>
+        ensures { result ≡ week_n_day_at text.now }
+    {
+        let (months, weeks, weekdays) = notation::parts_at(text, ":").ok_or(EntryFault::Shape)?;
+        let months = Months::read(months).ok_or(EntryFault::Month)?;
+        let weeks = Weeks::read(weeks).ok_or(EntryFault::Week)?;
+        let weekdays = Weekdays::read(weekdays).ok_or(EntryFault::Weekday)?;
+        Ok(WeekNDay {
+            months,
+            weeks,
+            weekdays,
+        })
+    }
 
     /// Whether the day is one of these.
     pub fn holds(&self, day: Day) -> bool

@@ -11,6 +11,35 @@ pub enum Weekdays {
 
 impl Weekdays {
     ghost use Rattle.dates.specs.HoldsOn.{in_weekdays};
+    ghost use Rattle.dates.specs.FieldAt.{weekday_at, weekdays_at};
+
+    /// Reads the three letters of a weekday.
+    #[tactic(auto, unfolding(crate::specs::FieldAt::weekday_at))]
+    pub(crate) fn read_one(text: &str) -> Option<Weekday>
+        ensures { result ≡ weekday_at text.now }
+    {
+        match text {
+            "mon" => Some(Weekday::Monday),
+            "tue" => Some(Weekday::Tuesday),
+            "wed" => Some(Weekday::Wednesday),
+            "thu" => Some(Weekday::Thursday),
+            "fri" => Some(Weekday::Friday),
+            "sat" => Some(Weekday::Saturday),
+            "sun" => Some(Weekday::Sunday),
+            _ => None,
+        }
+    }
+
+    /// Reads the three letters of a weekday, or `*`.
+    #[tactic(auto, unfolding(crate::specs::FieldAt::weekdays_at))]
+    pub(crate) fn read(text: &str) -> Option<Weekdays>
+        ensures { result ≡ weekdays_at text.now }
+    {
+        match text {
+            "*" => Some(Weekdays::Any),
+            _ => Some(Weekdays::One(Weekdays::read_one(text)?)),
+        }
+    }
 
     /// Whether the day is one of these in its week.
     pub fn holds(self, day: Day) -> bool

@@ -29,6 +29,26 @@ pub enum Week {
 
 impl Week {
     ghost use Rattle.dates.specs.HoldsOn.{in_week};
+    ghost use Rattle.dates.specs.FieldAt.{week_at};
+
+    /// Reads one digit.
+    #[tactic(auto, unfolding(crate::specs::FieldAt::week_at))]
+    fn read(text: &str) -> Option<Week>
+        ensures { result ≡ week_at text.now }
+    {
+        match text {
+            "1" => Some(Week::First),
+            "2" => Some(Week::Second),
+            "3" => Some(Week::Third),
+            "4" => Some(Week::Fourth),
+            "5" => Some(Week::Fifth),
+            "6" => Some(Week::Last),
+            "7" => Some(Week::SecondLast),
+            "8" => Some(Week::ThirdLast),
+            "9" => Some(Week::FourthLast),
+            _ => None,
+        }
+    }
 
     /// Whether the day lies in this week of its month.
     pub fn holds(self, day: Day) -> bool
@@ -59,6 +79,18 @@ pub enum Weeks {
 
 impl Weeks {
     ghost use Rattle.dates.specs.HoldsOn.{in_weeks};
+    ghost use Rattle.dates.specs.FieldAt.{weeks_at};
+
+    /// Reads one digit, or `*`.
+    #[tactic(auto, unfolding(crate::specs::FieldAt::weeks_at))]
+    pub(crate) fn read(text: &str) -> Option<Weeks>
+        ensures { result ≡ weeks_at text.now }
+    {
+        match text {
+            "*" => Some(Weeks::Any),
+            _ => Some(Weeks::One(Week::read(text)?)),
+        }
+    }
 
     /// Whether the day lies in one of these weeks of its month.
     pub fn holds(self, day: Day) -> bool

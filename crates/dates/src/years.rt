@@ -1,7 +1,7 @@
-ghost use Rattle.std.specs.Prelude.{◌≡◌, ◌↔◌, IsSome, IfSome};
+ghost use Rattle.std.specs.Prelude.{◌≡◌, ℕ, ◌↔◌, IsSome, IfSome};
 ghost use Rattle.std.specs.Int.{IsInRange};
 
-use crate::Day;
+use crate::{Day, notation};
 use std::marker::Model;
 
 /// A year from 1900 to 2154.
@@ -11,9 +11,6 @@ pub struct Year {
 }
 
 impl Model for Year {
-    ghost use Rattle.std.specs.Prelude.{ℕ};
-    ghost use Rattle.std.specs.Int.{IsInRange};
-
     ghost Value = { ℕ };
 
     ghost view = { λ y. y.number };
@@ -54,6 +51,29 @@ pub enum Years {
 
 impl Years {
     ghost use Rattle.dates.specs.HoldsOn.{in_years};
+    ghost use Rattle.dates.specs.FieldAt.{years_at};
+    ghost use Rattle.dates.specs.OneDay.{one_year};
+
+    /// Reads four digits, or `*`.
+    #[tactic(auto, unfolding(crate::specs::FieldAt::years_at))]
+    pub(crate) fn read(text: &str) -> Option<Years>
+        ensures { result ≡ years_at text.now }
+    {
+        match text {
+            "*" => Some(Years::Any),
+            _ => Some(Years::One(Year::new(notation::four_digits(text)?)?)),
+        }
+    }
+
+    /// The number of the year, where the field names one alone.
+    pub fn number(self) -> Option<u16>
+        ensures { result ≡ one_year self }
+    {
+        match self {
+            Years::One(year) => Some(year.number()),
+            _ => None,
+        }
+    }
 
     /// Whether the day's year is one of these.
     pub fn holds(self, day: Day) -> bool

@@ -1,0 +1,56 @@
+-- A day is known by its parts.
+use Rattle.std.proofs.Common.{◌≡◌, ◌↔◌, ℕ, Bool, true, false, pos, Option, Some, None, option_map, IsSome, IfSome, refl, sym, ap, ◌∙◌, arith}
+use Rattle.std.proofs.lemmas.Bool.{false≢true}
+use Rattle.std.proofs.lemmas.Bool.Decides.{nat_tests}
+use Rattle.jiff.specs.Words.{IsYmd, epoch_day}
+use Rattle.jiff_core.specs.declared.civil.date.Date.{Date}
+use Rattle.jiff_core.proofs.DateLemmas.{epoch_day_same}
+use Rattle.jiff_core.proofs.SignedLemmas.{signed_arith}
+use Rattle.jiff.proofs.Family.{same_date}
+use Rattle.dates.specs.DayOf.{day_of, day_with, passed, is_day-year, is_day-month, is_day-day, is_between-true, first-true}
+use Rattle.dates.specs.IsDay.{IsDay, is_day}
+
+pub IsDay-is_day : (y m d : ℕ) → is_day y m d ≡ true → IsDay (pos y) m d
+IsDay-is_day y m d e =
+    let year = is_between-true 1900 2154 y (first-true _ _ e) in
+    let month = is_day-month y m d e in
+    let day = is_day-day y m d e in (
+      (omega (arith, signed_arith), omega (arith, signed_arith)),
+      (is_day-year y m d e, (omega (arith, signed_arith), omega (arith, signed_arith)), (omega (arith, signed_arith), omega (arith, signed_arith))),
+    )
+
+pub is_day-IsDay : (y m d : ℕ) → IsDay (pos y) m d → is_day y m d ≡ true
+is_day-IsDay y m d h = grind (arith, signed_arith, nat_tests)
+
+pub same_parts : (a b : Date) → a.year ≡ b.year → a.month ≡ b.month → a.day ≡ b.day → a ≡ b
+same_parts a b year month day = same_date a b (epoch_day_same a b year month day)
+
+passed-some : (test : Bool) → test ≡ true → (ok : test ≡ true) × (passed test ≡ Some ok)
+passed-some true e = (refl, refl)
+passed-some false e = absurd (false≢true e)
+
+passed-none : (test : Bool) → test ≡ false → passed test ≡ None
+passed-none true e = absurd (false≢true (sym e))
+passed-none false e = refl
+
+pub day_of-some : (y m d : ℕ) → is_day y m d ≡ true → (ok : is_day y m d ≡ true) × (day_of y m d ≡ Some (day_with y m d ok))
+unfolding day_of
+day_of-some y m d e =
+    let some = passed-some (is_day y m d) e in
+    (some.0, ap (option_map (day_with y m d)) some.1)
+
+pub day_of-none : (y m d : ℕ) → is_day y m d ≡ false → day_of y m d ≡ None
+unfolding day_of
+day_of-none y m d e = ap (option_map (day_with y m d)) (passed-none (is_day y m d) e)
+
+-- what `Day::new` answers
+pub day_of-new : (y m d : ℕ) (r : Option Date) → (IsSome r ↔ IsDay (pos y) m d) → IfSome r (IsYmd (pos y) (pos m) (pos d)) → r ≡ day_of y m d
+day_of-new y m d None exists value = by_test (is_day y m d) refl
+  where
+    by_test : (test : Bool) → is_day y m d ≡ test → None ≡ day_of y m d
+    by_test true e = absurd (false≢true (exists.1 (IsDay-is_day y m d e)))
+    by_test false e = sym (day_of-none y m d e)
+day_of-new y m d (Some x) exists value =
+    let some = day_of-some y m d (is_day-IsDay y m d (exists.0 refl)) in
+    let same : x ≡ day_with y m d some.0 = same_parts x _ value.0 (omega (arith, signed_arith)) (omega (arith, signed_arith)) in
+    ap Some same ∙ sym some.1

@@ -1,0 +1,84 @@
+-- What a text reads as: an entry, or the first fault in the order of the notation.
+use Rattle.std.specs.Prelude.{ℕ, codes, Option, Some, None, option_map, option_and_then, is_some, Result, Ok, Err, if◌then◌else◌}
+use Rattle.std.specs.Option.{ok_or, option_map_or}
+use Rattle.std.specs.Str.{bytes_eq}
+use Rattle.jiff_core.specs.declared.civil.date.Date.{Date}
+use Rattle.dates.specs.declared.weekdays.Weekdays.{Weekdays}
+use Rattle.dates.specs.declared.weekdays.Weekdays.TheVariants as weekday
+use Rattle.dates.specs.declared.date_fields.DateFields.{DateFields}
+use Rattle.dates.specs.declared.pattern.Pattern.{Pattern}
+use Rattle.dates.specs.declared.range.Range.{Range}
+use Rattle.dates.specs.declared.week_n_day.WeekNDay.{WeekNDay}
+use Rattle.dates.specs.declared.entry.Entry.{Entry}
+use Rattle.dates.specs.declared.entry.Entry.TheVariants as entry
+use Rattle.dates.specs.declared.entry_fault.EntryFault.{EntryFault}
+use Rattle.dates.specs.declared.entry_fault.EntryFault.TheVariants as fault
+use Rattle.dates.specs.CutAt.{Text, cut_at, parts_at, without_prefix}
+use Rattle.dates.specs.FieldAt.{years_at, months_at, month_days_at, weekday_at, weekdays_at, weeks_at}
+use Rattle.dates.specs.OneDay.{one_day}
+
+-- the first fault ends the reading
+infixl 10 ◌>>=◌
+abbrev ◌>>=◌ : {A B : Type 0} → Result A EntryFault → (A → Result B EntryFault) → Result B EntryFault
+Ok x >>= f = f x
+Err fault >>= f = Err fault
+
+-- Y-M-D
+unfoldable pub date_fields_at : Text → Result DateFields EntryFault
+date_fields_at text = do
+  parts ← ok_or (parts_at (codes "-") text) fault.Shape
+  years ← ok_or (years_at parts.0) fault.Year
+  months ← ok_or (months_at parts.1) fault.Month
+  days ← ok_or (month_days_at parts.2) fault.Day
+  Ok (record { years = years; months = months; days = days })
+
+-- a text before its first `/`, and what follows that, if it has one
+unfoldable pub date_part : Text → Text
+date_part text = option_map_or (λ cut. cut.0) (cut_at (codes "/") text) text
+
+unfoldable pub weekday_part : Text → Option Weekdays
+weekday_part text =
+    option_map_or (λ cut. option_map weekday.One (weekday_at cut.1)) (cut_at (codes "/") text) (Some weekday.Any)
+
+-- Y-M-D or Y-M-D/W
+unfoldable pub pattern_at : Text → Result Pattern EntryFault
+pattern_at text = do
+  date ← date_fields_at (date_part text)
+  weekdays ← ok_or (weekday_part text) fault.Weekday
+  Ok (record { years = date.years; months = date.months; days = date.days; weekdays = weekdays })
+
+-- a day written whole
+unfoldable pub full_date_at : Text → Result Date EntryFault
+full_date_at text =
+    if is_some (cut_at (codes "/") text) then Err fault.Shape
+    else (date_fields_at text >>= λ date. one_day date.years date.months date.days)
+
+-- an end of a range
+unfoldable pub range_end_at : Text → Result (Option Date) EntryFault
+range_end_at text =
+    if bytes_eq text (codes "*") then Ok None else (full_date_at text >>= λ date. Ok (Some date))
+
+-- the two ends of a range
+unfoldable pub range_at : Text → Text → Result Range EntryFault
+range_at left right = do
+  start ← range_end_at left
+  end ← range_end_at right
+  Ok (record { start = start; end = end })
+
+-- M:K:W
+unfoldable pub week_n_day_at : Text → Result WeekNDay EntryFault
+week_n_day_at text = do
+  parts ← ok_or (parts_at (codes ":") text) fault.Shape
+  months ← ok_or (months_at parts.0) fault.Month
+  weeks ← ok_or (weeks_at parts.1) fault.Week
+  weekdays ← ok_or (weekdays_at parts.2) fault.Weekday
+  Ok (record { months = months; weeks = weeks; weekdays = weekdays })
+
+-- a text that does not begin with `wnd:`
+unfoldable pub dates_at : Text → Result Entry EntryFault
+dates_at text = option_map_or (λ ends. range_at ends.0 ends.1 >>= λ r. Ok (entry.Range r))
+    (cut_at (codes "..") text) (pattern_at text >>= λ p. Ok (entry.Pattern p))
+
+unfoldable pub reading : Text → Result Entry EntryFault
+reading text = option_map_or (λ parts. week_n_day_at parts >>= λ w. Ok (entry.WeekNDay w))
+    (without_prefix (codes "wnd:") text) (dates_at text)
