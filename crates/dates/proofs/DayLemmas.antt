@@ -2,7 +2,7 @@
 use Rattle.std.proofs.Common.{◌≡◌, ◌↔◌, ℕ, Bool, true, false, pos, Option, Some, None, option_map, IsSome, IfSome, refl, sym, ap, ◌∙◌, arith}
 use Rattle.std.proofs.lemmas.Bool.{false≢true}
 use Rattle.std.proofs.lemmas.Bool.Decides.{nat_tests}
-use Rattle.jiff.specs.Words.{IsYmd, epoch_day}
+use Rattle.jiff.specs.Words.{IsYmd}
 use Rattle.jiff_core.specs.declared.civil.date.Date.{Date}
 use Rattle.jiff_core.proofs.DateLemmas.{epoch_day_same}
 use Rattle.jiff_core.proofs.SignedLemmas.{signed_arith}

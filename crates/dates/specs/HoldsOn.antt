@@ -1,5 +1,5 @@
 -- The set of days that an entry names (ANSI/ASHRAE 135-2016, clause 21), as the test of its members.
-use Rattle.std.specs.Prelude.{ℕ, ◌%◌, Bool, true, ◌&&◌, ◌==◌, pos, int_le, Option, Some, None}
+use Rattle.std.specs.Prelude.{◌%◌, Bool, true, ◌&&◌, ◌==◌, pos, int_le, Option, Some, None}
 use Rattle.std.specs.Ordering.{int_eq}
 use Rattle.jiff.specs.Words.{epoch_day, weekday_of}
 use Rattle.jiff_core.specs.Weekday.{monday_zero}

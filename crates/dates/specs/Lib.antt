@@ -8,3 +8,5 @@ pub mod HoldsOn
 pub mod IsDay
 pub mod OneDay
 pub mod Reading
+pub mod Spelling
+pub mod WeekdayText

@@ -1,5 +1,5 @@
 -- What a text reads as: an entry, or the first fault in the order of the notation.
-use Rattle.std.specs.Prelude.{ℕ, codes, Option, Some, None, option_map, option_and_then, is_some, Result, Ok, Err, if◌then◌else◌}
+use Rattle.std.specs.Prelude.{codes, Option, Some, None, option_map, is_some, Result, Ok, Err, if◌then◌else◌}
 use Rattle.std.specs.Option.{ok_or, option_map_or}
 use Rattle.std.specs.Str.{bytes_eq}
 use Rattle.jiff_core.specs.declared.civil.date.Date.{Date}

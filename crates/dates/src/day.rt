@@ -6,6 +6,7 @@ ghost use Rattle.dates.specs.DaysLeft.{days_left};
 ghost use Rattle.dates.specs.IsDay.{IsDay};
 
 use jiff::civil::{Date, Weekday};
+use std::fmt;
 use std::marker::Model;
 
 /// A civil day from 1900-01-01 to 2154-12-31. Days compare by their order in time.
@@ -79,5 +80,22 @@ impl Day {
         ensures { result ≡ days_left self }
     {
         (self.date.days_in_month() - self.date.day()) as u8
+    }
+}
+
+impl fmt::Display for Day {
+    ghost use Rattle.std.specs.Prelude.{Some};
+    ghost use Rattle.dates.specs.Spelling.{day_text};
+
+    ghost output = { λ x. Some (day_text x) };
+
+    fn fmt<W: fmt::Write>(&self, f: &mut fmt::Formatter<W>) -> fmt::Result {
+        write!(
+            f,
+            "{}-{:02}-{:02}",
+            self.year(),
+            self.month(),
+            self.day_of_month()
+        )
     }
 }

@@ -1,6 +1,8 @@
-ghost use Rattle.std.specs.Prelude.{◌≡◌};
+ghost use Rattle.std.specs.Prelude.{◌≡◌, IfOk, string_bytes};
 
 use crate::{Day, EntryFault, Pattern, Range, WeekNDay, notation};
+use std::alloc::{AllocError, Global};
+use std::fmt;
 
 /// An entry of a calendar, or the period of an exception (12.9 and 12.24).
 #[derive(Clone, Copy, Debug, PartialEq, Eq, Hash)]
@@ -13,6 +15,7 @@ pub enum Entry {
 impl Entry {
     ghost use Rattle.dates.specs.HoldsOn.{holds_on};
     ghost use Rattle.dates.specs.Reading.{reading};
+    ghost use Rattle.dates.specs.Spelling.{spelling};
 
     /// Reads an entry, or tells the first fault.
     #[tactic(auto, unfolding(crate::specs::Reading::reading, crate::specs::Reading::dates_at))]
@@ -28,6 +31,13 @@ impl Entry {
         Ok(Entry::Pattern(Pattern::read(text)?))
     }
 
+    /// Writes the entry in its one spelling.
+    pub fn write(&self, alloc: Global) -> Result<String, AllocError>
+        ensures { IfOk result (λ text. string_bytes text ≡ spelling self.now) }
+    {
+        self.to_string(alloc)
+    }
+
     /// Whether the day is one of the entry's.
     pub fn holds(&self, day: Day) -> bool
         ensures { result ≡ holds_on self.now day }
@@ -36,6 +46,21 @@ impl Entry {
             Entry::Pattern(pattern) => pattern.holds(day),
             Entry::Range(range) => range.holds(day),
             Entry::WeekNDay(week_n_day) => week_n_day.holds(day),
+        }
+    }
+}
+
+impl fmt::Display for Entry {
+    ghost use Rattle.std.specs.Prelude.{Some};
+    ghost use Rattle.dates.specs.Spelling.{spelling};
+
+    ghost output = { λ x. Some (spelling x) };
+
+    fn fmt<W: fmt::Write>(&self, f: &mut fmt::Formatter<W>) -> fmt::Result {
+        match self {
+            Entry::Pattern(pattern) => pattern.fmt(f),
+            Entry::Range(range) => range.fmt(f),
+            Entry::WeekNDay(week_n_day) => week_n_day.fmt(f),
         }
     }
 }

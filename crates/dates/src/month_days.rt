@@ -2,6 +2,7 @@ ghost use Rattle.std.specs.Prelude.{◌≡◌, ℕ, ◌↔◌, IsSome, IfSome};
 ghost use Rattle.std.specs.Int.{IsInRange};
 
 use crate::{Day, notation};
+use std::fmt;
 use std::marker::Model;
 
 /// A day of a month, from 1 to 31.
@@ -92,6 +93,34 @@ impl MonthDays {
             MonthDays::Odd => day.day_of_month() % 2 == 1,
             MonthDays::Even => day.day_of_month() % 2 == 0,
             MonthDays::One(number) => day.day_of_month() == number.number(),
+        }
+    }
+}
+
+impl fmt::Display for MonthDay {
+    ghost use Rattle.std.specs.Prelude.{Some};
+    ghost use Rattle.dates.specs.Spelling.{two_digit_text};
+
+    ghost output = { λ x. Some (two_digit_text x) };
+
+    fn fmt<W: fmt::Write>(&self, f: &mut fmt::Formatter<W>) -> fmt::Result {
+        write!(f, "{:02}", self.number())
+    }
+}
+
+impl fmt::Display for MonthDays {
+    ghost use Rattle.std.specs.Prelude.{Some};
+    ghost use Rattle.dates.specs.Spelling.{month_days_text};
+
+    ghost output = { λ x. Some (month_days_text x) };
+
+    fn fmt<W: fmt::Write>(&self, f: &mut fmt::Formatter<W>) -> fmt::Result {
+        match self {
+            MonthDays::Any => f.write_str("*"),
+            MonthDays::Last => f.write_str("last"),
+            MonthDays::Odd => f.write_str("odd"),
+            MonthDays::Even => f.write_str("even"),
+            MonthDays::One(day) => day.fmt(f),
         }
     }
 }

@@ -2,6 +2,7 @@ ghost use Rattle.std.specs.Prelude.{◌≡◌, ℕ, ◌↔◌, IsSome, IfSome};
 ghost use Rattle.std.specs.Int.{IsInRange};
 
 use crate::{Day, notation};
+use std::fmt;
 use std::marker::Model;
 
 /// A month from 1, January, to 12, December.
@@ -89,6 +90,33 @@ impl Months {
             Months::Odd => day.month() % 2 == 1,
             Months::Even => day.month() % 2 == 0,
             Months::One(month) => day.month() == month.number(),
+        }
+    }
+}
+
+impl fmt::Display for Month {
+    ghost use Rattle.std.specs.Prelude.{Some};
+    ghost use Rattle.dates.specs.Spelling.{two_digit_text};
+
+    ghost output = { λ x. Some (two_digit_text x) };
+
+    fn fmt<W: fmt::Write>(&self, f: &mut fmt::Formatter<W>) -> fmt::Result {
+        write!(f, "{:02}", self.number())
+    }
+}
+
+impl fmt::Display for Months {
+    ghost use Rattle.std.specs.Prelude.{Some};
+    ghost use Rattle.dates.specs.Spelling.{months_text};
+
+    ghost output = { λ x. Some (months_text x) };
+
+    fn fmt<W: fmt::Write>(&self, f: &mut fmt::Formatter<W>) -> fmt::Result {
+        match self {
+            Months::Any => f.write_str("*"),
+            Months::Odd => f.write_str("odd"),
+            Months::Even => f.write_str("even"),
+            Months::One(month) => month.fmt(f),
         }
     }
 }

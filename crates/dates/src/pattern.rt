@@ -1,7 +1,9 @@
 ghost use Rattle.std.specs.Prelude.{◌≡◌};
 
 use crate::date_fields::DateFields;
+use crate::weekdays::weekday_name;
 use crate::{Day, EntryFault, MonthDays, Months, Weekdays, Years, notation};
+use std::fmt;
 
 /// A date pattern: the days that each of its four fields names (clause 21).
 ///
@@ -49,5 +51,20 @@ impl Pattern {
             && self.months.holds(day)
             && self.days.holds(day)
             && self.weekdays.holds(day)
+    }
+}
+
+impl fmt::Display for Pattern {
+    ghost use Rattle.std.specs.Prelude.{Some};
+    ghost use Rattle.dates.specs.Spelling.{pattern_text};
+
+    ghost output = { λ x. Some (pattern_text x) };
+
+    fn fmt<W: fmt::Write>(&self, f: &mut fmt::Formatter<W>) -> fmt::Result {
+        write!(f, "{}-{}-{}", self.years, self.months, self.days)?;
+        match self.weekdays {
+            Weekdays::Any => Ok(()),
+            Weekdays::One(weekday) => write!(f, "/{}", weekday_name(weekday)),
+        }
     }
 }

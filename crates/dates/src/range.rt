@@ -2,6 +2,7 @@ ghost use Rattle.std.specs.Prelude.{◌≡◌};
 
 use crate::date_fields::DateFields;
 use crate::{Day, EntryFault};
+use std::fmt;
 
 /// A date range: the days from its start to its end, both included (clause 21).
 ///
@@ -60,5 +61,34 @@ impl Range {
             Some(end) => day <= end,
             None => true,
         }
+    }
+}
+
+/// An end of a range, as it is written.
+#[derive(Clone, Copy)]
+struct RangeEnd(Option<Day>);
+
+impl fmt::Display for RangeEnd {
+    ghost use Rattle.std.specs.Prelude.{Some};
+    ghost use Rattle.dates.specs.Spelling.{range_end_text};
+
+    ghost output = { λ end. Some (range_end_text end.0) };
+
+    fn fmt<W: fmt::Write>(&self, f: &mut fmt::Formatter<W>) -> fmt::Result {
+        match self.0 {
+            Some(day) => day.fmt(f),
+            None => f.write_str("*"),
+        }
+    }
+}
+
+impl fmt::Display for Range {
+    ghost use Rattle.std.specs.Prelude.{Some};
+    ghost use Rattle.dates.specs.Spelling.{range_text};
+
+    ghost output = { λ x. Some (range_text x) };
+
+    fn fmt<W: fmt::Write>(&self, f: &mut fmt::Formatter<W>) -> fmt::Result {
+        write!(f, "{}..{}", RangeEnd(self.start), RangeEnd(self.end))
     }
 }

@@ -1,6 +1,7 @@
 ghost use Rattle.std.specs.Prelude.{◌≡◌};
 
 use crate::{Day, EntryFault, Months, Weekdays, Weeks, notation};
+use std::fmt;
 
 /// A week-and-day, the standard's WeekNDay: the days of a weekday in a week of a month.
 #[derive(Clone, Copy, Debug, PartialEq, Eq, Hash)]
@@ -35,5 +36,16 @@ impl WeekNDay {
         ensures { result ≡ in_week_n_day self.now day }
     {
         self.months.holds(day) && self.weeks.holds(day) && self.weekdays.holds(day)
+    }
+}
+
+impl fmt::Display for WeekNDay {
+    ghost use Rattle.std.specs.Prelude.{Some};
+    ghost use Rattle.dates.specs.Spelling.{week_n_day_text};
+
+    ghost output = { λ x. Some (week_n_day_text x) };
+
+    fn fmt<W: fmt::Write>(&self, f: &mut fmt::Formatter<W>) -> fmt::Result {
+        write!(f, "wnd:{}:{}:{}", self.months, self.weeks, self.weekdays)
     }
 }

@@ -1,6 +1,8 @@
 ghost use Rattle.std.specs.Prelude.{◌≡◌};
+ghost use Rattle.dates.specs.WeekdayText.{weekday_text};
 
 use crate::{Day, Weekday};
+use std::fmt;
 
 /// The days of the week that a date pattern or a week-and-day names.
 #[derive(Clone, Copy, Debug, PartialEq, Eq, Hash)]
@@ -48,6 +50,35 @@ impl Weekdays {
         match self {
             Weekdays::Any => true,
             Weekdays::One(weekday) => day.weekday().index() == weekday.index(),
+        }
+    }
+}
+
+/// The three letters of a weekday.
+pub fn weekday_name(weekday: Weekday) -> &'static str
+    ensures { result.now ≡ weekday_text weekday }
+{
+    match weekday {
+        Weekday::Monday => "mon",
+        Weekday::Tuesday => "tue",
+        Weekday::Wednesday => "wed",
+        Weekday::Thursday => "thu",
+        Weekday::Friday => "fri",
+        Weekday::Saturday => "sat",
+        Weekday::Sunday => "sun",
+    }
+}
+
+impl fmt::Display for Weekdays {
+    ghost use Rattle.std.specs.Prelude.{Some};
+    ghost use Rattle.dates.specs.Spelling.{weekdays_text};
+
+    ghost output = { λ x. Some (weekdays_text x) };
+
+    fn fmt<W: fmt::Write>(&self, f: &mut fmt::Formatter<W>) -> fmt::Result {
+        match self {
+            Weekdays::Any => f.write_str("*"),
+            Weekdays::One(weekday) => f.write_str(weekday_name(*weekday)),
         }
     }
 }

@@ -1,6 +1,7 @@
 ghost use Rattle.std.specs.Prelude.{◌≡◌};
 
 use crate::Day;
+use std::fmt;
 
 /// A week of a month: seven days counted from its start, or from its end.
 ///
@@ -99,6 +100,41 @@ impl Weeks {
         match self {
             Weeks::Any => true,
             Weeks::One(week) => week.holds(day),
+        }
+    }
+}
+
+impl fmt::Display for Week {
+    ghost use Rattle.std.specs.Prelude.{Some};
+    ghost use Rattle.dates.specs.Spelling.{week_text};
+
+    ghost output = { λ x. Some (week_text x) };
+
+    fn fmt<W: fmt::Write>(&self, f: &mut fmt::Formatter<W>) -> fmt::Result {
+        f.write_str(match self {
+            Week::First => "1",
+            Week::Second => "2",
+            Week::Third => "3",
+            Week::Fourth => "4",
+            Week::Fifth => "5",
+            Week::Last => "6",
+            Week::SecondLast => "7",
+            Week::ThirdLast => "8",
+            Week::FourthLast => "9",
+        })
+    }
+}
+
+impl fmt::Display for Weeks {
+    ghost use Rattle.std.specs.Prelude.{Some};
+    ghost use Rattle.dates.specs.Spelling.{weeks_text};
+
+    ghost output = { λ x. Some (weeks_text x) };
+
+    fn fmt<W: fmt::Write>(&self, f: &mut fmt::Formatter<W>) -> fmt::Result {
+        match self {
+            Weeks::Any => f.write_str("*"),
+            Weeks::One(week) => week.fmt(f),
         }
     }
 }

@@ -2,6 +2,7 @@ ghost use Rattle.std.specs.Prelude.{◌≡◌, ℕ, ◌↔◌, IsSome, IfSome};
 ghost use Rattle.std.specs.Int.{IsInRange};
 
 use crate::{Day, notation};
+use std::fmt;
 use std::marker::Model;
 
 /// A year from 1900 to 2154.
@@ -82,6 +83,31 @@ impl Years {
         match self {
             Years::Any => true,
             Years::One(year) => day.year() == year.number(),
+        }
+    }
+}
+
+impl fmt::Display for Year {
+    ghost use Rattle.std.specs.Prelude.{Some};
+    ghost use Rattle.dates.specs.Spelling.{four_digit_text};
+
+    ghost output = { λ x. Some (four_digit_text x) };
+
+    fn fmt<W: fmt::Write>(&self, f: &mut fmt::Formatter<W>) -> fmt::Result {
+        write!(f, "{}", self.number())
+    }
+}
+
+impl fmt::Display for Years {
+    ghost use Rattle.std.specs.Prelude.{Some};
+    ghost use Rattle.dates.specs.Spelling.{years_text};
+
+    ghost output = { λ x. Some (years_text x) };
+
+    fn fmt<W: fmt::Write>(&self, f: &mut fmt::Formatter<W>) -> fmt::Result {
+        match self {
+            Years::Any => f.write_str("*"),
+            Years::One(year) => year.fmt(f),
         }
     }
 }

@@ -1,5 +1,5 @@
 -- `Day::new` makes the day that has these parts.
-use Rattle.std.proofs.Common.{rules, arith, pos, ◌≡◌, ◌∙◌, ap, w32, FitsSigned}
+use Rattle.std.proofs.Common.{rules, arith, ◌∙◌, ap, w32, FitsSigned}
 use Rattle.std.specs.Option.{ok_or}
 use Rattle.std.proofs.lemmas.Int.{to_z-of_z}
 use Rattle.jiff_core.proofs.SignedLemmas.{signed_arith}
