@@ -7,6 +7,9 @@ pub mod FieldAt
 pub mod HoldsOn
 pub mod IsDay
 pub mod OneDay
+pub mod IsEntry
+pub mod RangeEnd
 pub mod Reading
 pub mod Spelling
+pub mod Then
 pub mod WeekdayText

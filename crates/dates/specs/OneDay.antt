@@ -11,12 +11,7 @@ use Rattle.dates.specs.declared.month_days.MonthDays.TheVariants as month_day
 use Rattle.dates.specs.declared.entry_fault.EntryFault.{EntryFault}
 use Rattle.dates.specs.declared.entry_fault.EntryFault.TheVariants as fault
 use Rattle.dates.specs.DayOf.{day_of}
-
--- the first fault ends the reading
-infixl 10 ◌>>=◌
-abbrev ◌>>=◌ : {A B : Type 0} → Result A EntryFault → (A → Result B EntryFault) → Result B EntryFault
-Ok x >>= f = f x
-Err fault >>= f = Err fault
+use Rattle.dates.specs.Then.{◌>>=◌}
 
 -- the one number that a field names
 abbrev pub one_year : Years → Option ℕ

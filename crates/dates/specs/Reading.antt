@@ -16,12 +16,7 @@ use Rattle.dates.specs.declared.entry_fault.EntryFault.TheVariants as fault
 use Rattle.dates.specs.CutAt.{Text, cut_at, parts_at, without_prefix}
 use Rattle.dates.specs.FieldAt.{years_at, months_at, month_days_at, weekday_at, weekdays_at, weeks_at}
 use Rattle.dates.specs.OneDay.{one_day}
-
--- the first fault ends the reading
-infixl 10 ◌>>=◌
-abbrev ◌>>=◌ : {A B : Type 0} → Result A EntryFault → (A → Result B EntryFault) → Result B EntryFault
-Ok x >>= f = f x
-Err fault >>= f = Err fault
+use Rattle.dates.specs.Then.{◌>>=◌}
 
 -- Y-M-D
 unfoldable pub date_fields_at : Text → Result DateFields EntryFault

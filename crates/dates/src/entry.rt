@@ -15,6 +15,7 @@ pub enum Entry {
 impl Entry {
     ghost use Rattle.dates.specs.HoldsOn.{holds_on};
     ghost use Rattle.dates.specs.Reading.{reading};
+    ghost use Rattle.dates.specs.IsEntry.{IsEntry};
     ghost use Rattle.dates.specs.Spelling.{spelling};
 
     /// Reads an entry, or tells the first fault.
@@ -33,9 +34,22 @@ impl Entry {
 
     /// Writes the entry in its one spelling.
     pub fn write(&self, alloc: Global) -> Result<String, AllocError>
-        ensures { IfOk result (λ text. string_bytes text ≡ spelling self.now) }
+        ensures value { IfOk result (λ text. string_bytes text ≡ spelling self.now) }
+        ensures range { IsEntry self.now }
     {
+        self.in_range();
         self.to_string(alloc)
+    }
+
+    // A law: the numbers of an entry are in range.
+    fn in_range(&self)
+        ensures { IsEntry self.now }
+    {
+        match self {
+            Entry::Pattern(pattern) => pattern.in_range(),
+            Entry::Range(range) => range.in_range(),
+            Entry::WeekNDay(week_n_day) => week_n_day.in_range(),
+        }
     }
 
     /// Whether the day is one of the entry's.

@@ -58,6 +58,7 @@ impl MonthDays {
     ghost use Rattle.dates.specs.HoldsOn.{in_month_days};
     ghost use Rattle.dates.specs.FieldAt.{month_days_at};
     ghost use Rattle.dates.specs.OneDay.{one_month_day};
+    ghost use Rattle.dates.specs.IsEntry.{AreMonthDays};
 
     /// Reads two digits, `last`, `odd`, `even` or `*`.
     #[tactic(auto, unfolding(crate::specs::FieldAt::month_days_at))]
@@ -75,7 +76,8 @@ impl MonthDays {
 
     /// The number of the day of the month, where the field names one alone.
     pub fn number(self) -> Option<u8>
-        ensures { result ≡ one_month_day self }
+        ensures value { result ≡ one_month_day self }
+        ensures range { AreMonthDays self }
     {
         match self {
             MonthDays::One(day) => Some(day.number()),

@@ -57,6 +57,7 @@ impl Months {
     ghost use Rattle.dates.specs.HoldsOn.{in_months};
     ghost use Rattle.dates.specs.FieldAt.{months_at};
     ghost use Rattle.dates.specs.OneDay.{one_month};
+    ghost use Rattle.dates.specs.IsEntry.{AreMonths};
 
     /// Reads two digits, `odd`, `even` or `*`.
     #[tactic(auto, unfolding(crate::specs::FieldAt::months_at))]
@@ -73,7 +74,8 @@ impl Months {
 
     /// The number of the month, where the field names one alone.
     pub fn number(self) -> Option<u8>
-        ensures { result ≡ one_month self }
+        ensures value { result ≡ one_month self }
+        ensures range { AreMonths self }
     {
         match self {
             Months::One(month) => Some(month.number()),

@@ -19,6 +19,7 @@ pub struct Pattern {
 impl Pattern {
     ghost use Rattle.dates.specs.HoldsOn.{in_pattern};
     ghost use Rattle.dates.specs.Reading.{pattern_at};
+    ghost use Rattle.dates.specs.IsEntry.{IsPattern};
 
     /// Reads `Y-M-D` or `Y-M-D/W`.
     #[tactic(auto, unfolding(crate::specs::Reading::pattern_at, crate::specs::Reading::date_part, crate::specs::Reading::weekday_part))]
@@ -41,6 +42,15 @@ impl Pattern {
             days,
             weekdays,
         })
+    }
+
+    /// A law: the numbers of a pattern are in range.
+    pub(crate) fn in_range(&self)
+        ensures { IsPattern self.now }
+    {
+        self.years.number();
+        self.months.number();
+        self.days.number();
     }
 
     /// Whether the day is one of the pattern's.

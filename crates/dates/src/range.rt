@@ -1,4 +1,5 @@
 ghost use Rattle.std.specs.Prelude.{◌≡◌};
+ghost use Rattle.dates.specs.RangeEnd.{IsRangeEnd};
 
 use crate::date_fields::DateFields;
 use crate::{Day, EntryFault};
@@ -17,6 +18,7 @@ pub struct Range {
 impl Range {
     ghost use Rattle.dates.specs.HoldsOn.{in_range, is_from, is_up_to};
     ghost use Rattle.dates.specs.Reading.{range_at, range_end_at};
+    ghost use Rattle.dates.specs.IsEntry.{IsRange};
 
     /// Reads the two ends of a range.
     #[tactic(auto, unfolding(crate::specs::Reading::range_at))]
@@ -36,6 +38,14 @@ impl Range {
             "*" => Ok(None),
             _ => Ok(Some(DateFields::read_day(text)?)),
         }
+    }
+
+    /// A law: the years of a range's ends are in range.
+    pub(crate) fn in_range(&self)
+        ensures { IsRange self.now }
+    {
+        end_in_range(self.start);
+        end_in_range(self.end);
     }
 
     /// Whether the day is one of the range's.
@@ -61,6 +71,14 @@ impl Range {
             Some(end) => day <= end,
             None => true,
         }
+    }
+}
+
+fn end_in_range(end: Option<Day>)
+    ensures { IsRangeEnd end }
+{
+    if let Some(day) = end {
+        day.year();
     }
 }
 

@@ -14,6 +14,7 @@ pub struct WeekNDay {
 impl WeekNDay {
     ghost use Rattle.dates.specs.HoldsOn.{in_week_n_day};
     ghost use Rattle.dates.specs.Reading.{week_n_day_at};
+    ghost use Rattle.dates.specs.IsEntry.{IsWeekNDay};
 
     /// Reads `M:K:W`.
     #[tactic(auto, unfolding(crate::specs::Reading::week_n_day_at))]
@@ -29,6 +30,13 @@ impl WeekNDay {
             weeks,
             weekdays,
         })
+    }
+
+    /// A law: the numbers of a week-and-day are in range.
+    pub(crate) fn in_range(&self)
+        ensures { IsWeekNDay self.now }
+    {
+        self.months.number();
     }
 
     /// Whether the day is one of these.

@@ -54,6 +54,7 @@ impl Years {
     ghost use Rattle.dates.specs.HoldsOn.{in_years};
     ghost use Rattle.dates.specs.FieldAt.{years_at};
     ghost use Rattle.dates.specs.OneDay.{one_year};
+    ghost use Rattle.dates.specs.IsEntry.{AreYears};
 
     /// Reads four digits, or `*`.
     #[tactic(auto, unfolding(crate::specs::FieldAt::years_at))]
@@ -68,7 +69,8 @@ impl Years {
 
     /// The number of the year, where the field names one alone.
     pub fn number(self) -> Option<u16>
-        ensures { result ≡ one_year self }
+        ensures value { result ≡ one_year self }
+        ensures range { AreYears self }
     {
         match self {
             Years::One(year) => Some(year.number()),
