@@ -1,2 +1,9 @@
 pub mod ArgFault
+pub mod BuildingFile
+pub mod DistinctNames
+pub mod FileFault
 pub mod Line
+pub mod PanelTable
+pub mod PointTable
+pub mod TableFields
+pub mod Utf8Text

@@ -3,7 +3,19 @@
 #![tactic(auto)]
 
 mod arg_fault;
+mod building;
+mod building_file;
+mod file_fault;
+mod item_list;
 mod line;
+mod named;
+mod panel_table;
+mod point_table;
+mod table_fields;
+mod utf8_text;
 
 pub use arg_fault::ArgFault;
+pub use building::Building;
+pub use building_file::read_building;
+pub use file_fault::FileFault;
 pub use line::Line;
