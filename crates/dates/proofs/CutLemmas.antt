@@ -1,11 +1,17 @@
 -- Where a mark first stands in a text, and what std's searches answer.
-use Rattle.std.proofs.Common.{◌≡◌, ℕ, ◌+◌, ◌<◌, ◌≤◌, Bool, true, false, [], ◌∷◌, ◌++◌, length, take, drop, nat_eq, Option, Some, None, option_map, MatchOption, Bor, refl, sym, ap, ◌∙◌, subst, add-one, arith}
+use Rattle.std.proofs.Common.{◌≡◌, ℕ, ◌+◌, ◌<◌, ◌≤◌, Bool, true, false, not, ◌&&◌, List, [], ◌∷◌, ◌++◌, length, take, drop, nat_eq, Option, Some, None, option_map, MatchOption, Bor, cond, refl, sym, ap, ◌∙◌, subst, add-one, arith}
 use Rattle.std.specs.List.{starts_with}
 use Rattle.std.specs.Str.Pattern.{LacksTextAt, FindsText, FindsTextPrefix, SplitsAroundMatch, StripsPrefix}
 use Rattle.std.proofs.Math.Seq.{take-append_seam, drop-append_seam}
 use Rattle.std.proofs.lemmas.List.{take-append-drop}
 use Rattle.std.proofs.lemmas.Slice.Eq.{bytes_eq-Decides}
+use Rattle.std.specs.Cmp.Derive.{both_true}
 use Rattle.dates.specs.CutAt.{Text, cut_at, without_prefix}
+use Rattle.dates.specs.DayOf.{first-true, second-true}
+
+pub not-true : (b : Bool) → not b ≡ true → b ≡ false
+not-true true e = sym e
+not-true false e = refl
 
 pub starts_with-append : (mark rest : Text) → starts_with nat_eq (mark ++ rest) mark ≡ true
 starts_with-append mark rest =
@@ -72,3 +78,65 @@ without_prefix-strip mark text (Some x) strips =
     let starts : starts_with nat_eq text mark ≡ true =
     subst (λ (s : Text). starts_with nat_eq s mark ≡ true) (sym whole) (starts_with-append mark (drop (length mark) text)) in
     rw (starts, strips.2, width)
+
+-- no byte of the text is c
+abbrev pub lacks : ℕ → Text → Bool
+lacks c [] = true
+lacks c (b ∷ text) = not (nat_eq c b) && lacks c text
+
+pub lacks-append : (c : ℕ) (a b : Text) → lacks c a ≡ true → lacks c b ≡ true → lacks c (a ++ b) ≡ true
+lacks-append c [] b ha hb = hb
+lacks-append c (x ∷ a) b ha hb =
+    both_true (first-true _ _ ha) (lacks-append c a b (second-true _ _ ha) hb)
+
+-- a text that begins with another byte does not begin with the mark
+pub starts_with-other : (c x : ℕ) (ms xs : Text) → not (nat_eq c x) ≡ true → starts_with nat_eq (x ∷ xs) (c ∷ ms) ≡ false
+starts_with-other c x ms xs other = rw (not-true (nat_eq c x) other) refl
+
+-- what cuts a text whose front has no byte as the mark's first
+pub cut_at-lacking : (c : ℕ) (ms before after : Text) → lacks c before ≡ true → cut_at (c ∷ ms) (before ++ ((c ∷ ms) ++ after)) ≡ Some (before, after)
+unfolding cut_at
+cut_at-lacking c ms [] after other =
+    rw (starts_with-append (c ∷ ms) after, drop-append_seam (c ∷ ms) after)
+cut_at-lacking c ms (b ∷ before) after other =
+    let rest = before ++ ((c ∷ ms) ++ after) in
+    let apart : not (nat_eq c b) ≡ true = first-true (not (nat_eq c b)) (lacks c before) other in
+    let later : lacks c before ≡ true = second-true (not (nat_eq c b)) (lacks c before) other in
+    rw (starts_with-other c b ms rest apart, cut_at-lacking c ms before after later)
+
+pub cut_at-absent : (c : ℕ) (ms text : Text) → lacks c text ≡ true → cut_at (c ∷ ms) text ≡ None
+unfolding cut_at
+cut_at-absent c ms [] other = refl
+cut_at-absent c ms (b ∷ text) other =
+    let apart : not (nat_eq c b) ≡ true = first-true (not (nat_eq c b)) (lacks c text) other in
+    let later : lacks c text ≡ true = second-true (not (nat_eq c b)) (lacks c text) other in
+    rw (starts_with-other c b ms text apart, cut_at-absent c ms text later)
+
+-- a cut of what follows a byte is a cut of the whole
+abbrev after_byte : ℕ → Option (Text × Text) → Option (Text × Text)
+after_byte b r = option_map (λ cut. (b ∷ cut.0, cut.1)) r
+
+abbrev joined : Text → Text × Text → Text
+joined mark cut = cut.0 ++ (mark ++ cut.1)
+
+joined-same : (mark : Text) (p q : Text × Text) → Some p ≡ Some q → joined mark p ≡ joined mark q
+joined-same mark p q e = let same : p ≡ q = cc in ap (joined mark) same
+
+cut_later : (mark text before after : Text) (b : ℕ) (r : Option (Text × Text)) → ((x y : Text) → r ≡ Some (x, y) → text ≡ x ++ (mark ++ y)) → after_byte b r ≡ Some (before, after) → b ∷ text ≡ before ++ (mark ++ after)
+cut_later mark text before after b None whole e = cc
+cut_later mark text before after b (Some cut) whole e =
+    let rest = whole cut.0 cut.1 refl in
+    ap (λ t. b ∷ t) rest ∙ joined-same mark (b ∷ cut.0, cut.1) (before, after) e
+
+-- a cut text is what stands before the mark, the mark and what stands after it
+pub cut_at-some : (mark text before after : Text) → cut_at mark text ≡ Some (before, after) → text ≡ before ++ (mark ++ after)
+unfolding cut_at
+cut_at-some mark [] before after e = cc
+cut_at-some mark (b ∷ text) before after e =
+    by_test (starts_with nat_eq (b ∷ text) mark) refl e (cut_at-some mark text)
+    where
+    by_test : (test : Bool) → starts_with nat_eq (b ∷ text) mark ≡ test → cond {A = Option (Text × Text)} test (Some ([], drop (length mark) (b ∷ text))) (after_byte b (cut_at mark text)) ≡ Some (before, after) → ((x y : Text) → cut_at mark text ≡ Some (x, y) → text ≡ x ++ (mark ++ y)) → b ∷ text ≡ before ++ (mark ++ after)
+    by_test true is e whole =
+        append-starts_with (b ∷ text) mark is
+        ∙ joined-same mark ([], drop (length mark) (b ∷ text)) (before, after) e
+    by_test false is e whole = cut_later mark text before after b (cut_at mark text) whole e

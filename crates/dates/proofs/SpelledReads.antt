@@ -1,0 +1,169 @@
+-- The spelling of an entry reads as that entry.
+use Rattle.std.proofs.Common.{◌≡◌, ◌≢◌, ℕ, ◌+◌, ◌/◌, ◌%◌, ◌<◌, ◌≤◌, Bool, true, false, not, ◌&&◌, List, [], ◌∷◌, ◌++◌, length, nat_eq, codes, Option, Some, None, ℤ, pos, unsigned_abs, refl, sym, ap, ◌∙◌, arith}
+use Rattle.std.specs.Prelude.{Result, Ok, Err}
+use Rattle.std.proofs.Math.Seq.{drop-append_seam}
+use Rattle.std.proofs.lemmas.List.{append-nil}
+use Rattle.std.proofs.lemmas.Bool.Decides.{nat_tests}
+use Rattle.jiff.specs.Words.{IsBetween}
+use Rattle.jiff_core.specs.declared.civil.date.Date.{Date}
+use Rattle.jiff_core.specs.declared.civil.weekday.Weekday.{Weekday}
+use Rattle.jiff_core.specs.declared.civil.weekday.Weekday.TheVariants.{Monday, Tuesday, Wednesday, Thursday, Friday, Saturday, Sunday}
+use Rattle.jiff_core.proofs.CalendarLemmas.{days_in_month_bounds}
+use Rattle.jiff_core.proofs.SignedLemmas.{signed_arith}
+use Rattle.dates.specs.declared.years.Years.{Years}
+use Rattle.dates.specs.declared.years.Years.TheVariants as year
+use Rattle.dates.specs.declared.months.Months.{Months}
+use Rattle.dates.specs.declared.months.Months.TheVariants as month
+use Rattle.dates.specs.declared.month_days.MonthDays.{MonthDays}
+use Rattle.dates.specs.declared.month_days.MonthDays.TheVariants as month_day
+use Rattle.dates.specs.declared.weekdays.Weekdays.{Weekdays}
+use Rattle.dates.specs.declared.weekdays.Weekdays.TheVariants as weekday
+use Rattle.dates.specs.declared.weeks.Week.{Week}
+use Rattle.dates.specs.declared.weeks.Week.TheVariants.{First, Second, Third, Fourth, Fifth, Last, SecondLast, ThirdLast, FourthLast}
+use Rattle.dates.specs.declared.weeks.Weeks.{Weeks}
+use Rattle.dates.specs.declared.weeks.Weeks.TheVariants as week
+use Rattle.dates.specs.declared.pattern.Pattern.{Pattern}
+use Rattle.dates.specs.declared.range.Range.{Range}
+use Rattle.dates.specs.declared.week_n_day.WeekNDay.{WeekNDay}
+use Rattle.dates.specs.declared.entry.Entry.{Entry}
+use Rattle.dates.specs.declared.entry.Entry.TheVariants as entry
+use Rattle.dates.specs.CutAt.{Text, cut_at, without_prefix, parts_at}
+use Rattle.dates.specs.DayOf.{day_of, day_with}
+use Rattle.dates.specs.IsDay.{IsDay}
+use Rattle.dates.specs.IsEntry.{AreYears, AreMonths, AreMonthDays, IsPattern, IsRange, IsWeekNDay, IsEntry}
+use Rattle.dates.specs.OneDay.{one_day}
+use Rattle.dates.specs.RangeEnd.{IsRangeEnd}
+use Rattle.dates.specs.Reading.{date_fields_at, date_part, weekday_part, pattern_at, full_date_at, range_end_at, range_at, week_n_day_at, dates_at, reading}
+use Rattle.dates.specs.Spelling.{two_digit_text, four_digit_text, years_text, months_text, month_days_text, weekdays_text, weeks_text, weekday_suffix, date_fields_text, pattern_text, day_text, range_end_text, range_text, week_n_day_text, spelling}
+use Rattle.dates.specs.WeekdayText.{weekday_text}
+use Rattle.dates.proofs.CutLemmas.{lacks, lacks-append, starts_with-append, starts_with-other, cut_at-lacking, cut_at-absent}
+use Rattle.dates.proofs.DayLemmas.{day_of-some, is_day-IsDay, same_parts}
+use Rattle.dates.proofs.FieldLemmas.{bytes_eq-length, years_at-text, months_at-text, month_days_at-text, weekday_at-text, weekdays_at-text, weeks_at-text}
+
+-- ---- no field has a mark of the notation
+
+other_byte : (c b : ℕ) → c ≢ b → not (nat_eq c b) ≡ true
+other_byte c b apart = grind (arith, nat_tests)
+
+lacks-one : (c x : ℕ) → c ≢ x → lacks c (x ∷ []) ≡ true
+lacks-one c x apart = rw (other_byte c x apart) refl
+
+lacks-more : (c x : ℕ) (text : Text) → c ≢ x → lacks c text ≡ true → lacks c (x ∷ text) ≡ true
+lacks-more c x text apart rest = rw (other_byte c x apart, rest) refl
+
+lacks-two : (c n : ℕ) → c ≢ 48 + n / 10 → c ≢ 48 + n % 10 → lacks c (two_digit_text n) ≡ true
+lacks-two c n tens units = rw (other_byte c (48 + n / 10) tens, other_byte c (48 + n % 10) units) refl
+
+-- a mark of the notation that no field has: it stands before the digits and is no `*`
+abbrev IsMark : ℕ → Type 0
+IsMark c = (c < 48) × (c ≢ 42)
+
+lacks-years : (c : ℕ) → IsMark c → (y : Years) → lacks c (years_text y) ≡ true
+lacks-years c mark year.Any = lacks-one c 42 mark.1
+lacks-years c mark (year.One n) =
+    lacks-append c (two_digit_text (n / 100)) (two_digit_text (n % 100)) (lacks-two c (n / 100) (omega arith) (omega arith))
+      (lacks-two c (n % 100) (omega arith) (omega arith))
+
+lacks-odd : (c : ℕ) → IsMark c → lacks c (codes "odd") ≡ true
+lacks-odd c mark =
+    rw (other_byte c 111 (omega arith), other_byte c 100 (omega arith)) refl
+
+lacks-even : (c : ℕ) → IsMark c → lacks c (codes "even") ≡ true
+lacks-even c mark =
+    rw (other_byte c 101 (omega arith), other_byte c 118 (omega arith), other_byte c 110 (omega arith)) refl
+
+lacks-last : (c : ℕ) → IsMark c → lacks c (codes "last") ≡ true
+lacks-last c mark =
+    rw (other_byte c 108 (omega arith), other_byte c 97 (omega arith), other_byte c 115 (omega arith), other_byte c 116 (omega arith)) refl
+
+lacks-months : (c : ℕ) → IsMark c → (m : Months) → lacks c (months_text m) ≡ true
+lacks-months c mark month.Any = lacks-one c 42 mark.1
+lacks-months c mark month.Odd = lacks-odd c mark
+lacks-months c mark month.Even = lacks-even c mark
+lacks-months c mark (month.One n) = lacks-two c n (omega arith) (omega arith)
+
+lacks-month_days : (c : ℕ) → IsMark c → (d : MonthDays) → lacks c (month_days_text d) ≡ true
+lacks-month_days c mark month_day.Any = lacks-one c 42 mark.1
+lacks-month_days c mark month_day.Last = lacks-last c mark
+lacks-month_days c mark month_day.Odd = lacks-odd c mark
+lacks-month_days c mark month_day.Even = lacks-even c mark
+lacks-month_days c mark (month_day.One n) = lacks-two c n (omega arith) (omega arith)
+
+lacks-date_fields : (c : ℕ) → IsMark c → c ≢ 45 → (y : Years) (m : Months) (d : MonthDays) → lacks c (date_fields_text y m d) ≡ true
+lacks-date_fields c mark dash y m d =
+    let days = lacks-more c 45 (month_days_text d) dash (lacks-month_days c mark d) in
+    let months = lacks-append c (months_text m) (45 ∷ month_days_text d) (lacks-months c mark m) days in
+    lacks-append c (years_text y) (45 ∷ (months_text m ++ (45 ∷ month_days_text d))) (lacks-years c mark y)
+      (lacks-more c 45 (months_text m ++ (45 ∷ month_days_text d)) dash months)
+
+slash : IsMark 47
+slash = (omega arith, λ e. absurd (omega arith))
+
+dot : IsMark 46
+dot = (omega arith, λ e. absurd (omega arith))
+
+dash : IsMark 45
+dash = (omega arith, λ e. absurd (omega arith))
+
+lacks_dot-suffix : (w : Weekdays) → lacks 46 (weekday_suffix w) ≡ true
+lacks_dot-suffix weekday.Any = refl
+lacks_dot-suffix (weekday.One Monday) = refl
+lacks_dot-suffix (weekday.One Tuesday) = refl
+lacks_dot-suffix (weekday.One Wednesday) = refl
+lacks_dot-suffix (weekday.One Thursday) = refl
+lacks_dot-suffix (weekday.One Friday) = refl
+lacks_dot-suffix (weekday.One Saturday) = refl
+lacks_dot-suffix (weekday.One Sunday) = refl
+
+lacks_colon-months : (m : Months) → AreMonths m → lacks 58 (months_text m) ≡ true
+lacks_colon-months month.Any h = refl
+lacks_colon-months month.Odd h = refl
+lacks_colon-months month.Even h = refl
+lacks_colon-months (month.One n) h = lacks-two 58 n (omega arith) (omega arith)
+
+lacks_colon-weeks : (w : Weeks) → lacks 58 (weeks_text w) ≡ true
+lacks_colon-weeks week.Any = refl
+lacks_colon-weeks (week.One First) = refl
+lacks_colon-weeks (week.One Second) = refl
+lacks_colon-weeks (week.One Third) = refl
+lacks_colon-weeks (week.One Fourth) = refl
+lacks_colon-weeks (week.One Fifth) = refl
+lacks_colon-weeks (week.One Last) = refl
+lacks_colon-weeks (week.One SecondLast) = refl
+lacks_colon-weeks (week.One ThirdLast) = refl
+lacks_colon-weeks (week.One FourthLast) = refl
+
+lacks_colon-weekdays : (w : Weekdays) → lacks 58 (weekdays_text w) ≡ true
+lacks_colon-weekdays weekday.Any = refl
+lacks_colon-weekdays (weekday.One Monday) = refl
+lacks_colon-weekdays (weekday.One Tuesday) = refl
+lacks_colon-weekdays (weekday.One Wednesday) = refl
+lacks_colon-weekdays (weekday.One Thursday) = refl
+lacks_colon-weekdays (weekday.One Friday) = refl
+lacks_colon-weekdays (weekday.One Saturday) = refl
+lacks_colon-weekdays (weekday.One Sunday) = refl
+
+-- ---- the forms
+
+parts_at-text : (c : ℕ) (x y z : Text) → lacks c x ≡ true → lacks c y ≡ true → lacks c z ≡ true → parts_at (c ∷ []) (x ++ (c ∷ (y ++ (c ∷ z)))) ≡ Some (x, y, z)
+unfolding parts_at
+parts_at-text c x y z hx hy hz =
+    rw (cut_at-lacking c [] x (y ++ (c ∷ z)) hx, cut_at-lacking c [] y z hy, cut_at-absent c [] z hz) refl
+
+pub date_fields_at-text : (y : Years) (m : Months) (d : MonthDays) → AreYears y → AreMonths m → AreMonthDays d → date_fields_at (date_fields_text y m d) ≡ Ok (record { years = y; months = m; days = d })
+unfolding date_fields_at
+date_fields_at-text y m d hy hm hd =
+    rw (parts_at-text 45 (years_text y) (months_text m) (month_days_text d) (lacks-years 45 dash y) (lacks-months 45 dash m) (lacks-month_days 45 dash d),
+      years_at-text y hy, months_at-text m hm, month_days_at-text d hd) refl
+
+pattern_at-fields : (y : Years) (m : Months) (d : MonthDays) (w : Weekdays) → AreYears y → AreMonths m → AreMonthDays d → pattern_at (date_fields_text y m d ++ weekday_suffix w) ≡ Ok (record { years = y; months = m; days = d; weekdays = w })
+unfolding pattern_at date_part weekday_part
+pattern_at-fields y m d weekday.Any hy hm hd =
+    let text = date_fields_text y m d in
+    rw (append-nil text, cut_at-absent 47 [] text (lacks-date_fields 47 slash (omega arith) y m d), date_fields_at-text y m d hy hm hd) refl
+pattern_at-fields y m d (weekday.One w) hy hm hd =
+    let text = date_fields_text y m d in
+    rw (cut_at-lacking 47 [] text (weekday_text w) (lacks-date_fields 47 slash (omega arith) y m d), date_fields_at-text y m d hy hm hd, weekday_at-text w) refl
+
+pub pattern_at-text : (p : Pattern) → IsPattern p → pattern_at (pattern_text p) ≡ Ok p
+pattern_at-text p h = pattern_at-fields p.years p.months p.days p.weekdays h.0 h.1 h.2
