@@ -1,5 +1,5 @@
 -- The spelling of an entry reads as that entry.
-use Rattle.std.proofs.Common.{◌≡◌, ◌≢◌, ℕ, ◌+◌, ◌/◌, ◌%◌, ◌<◌, ◌≤◌, Bool, true, false, not, ◌&&◌, List, [], ◌∷◌, ◌++◌, length, nat_eq, codes, Option, Some, None, ℤ, pos, unsigned_abs, refl, sym, ap, ◌∙◌, arith}
+use Rattle.std.proofs.Common.{◌≡◌, ◌≢◌, ℕ, ◌+◌, ◌/◌, ◌%◌, ◌<◌, ◌≤◌, Bool, true, false, not, ◌&&◌, List, [], ◌∷◌, ◌++◌, length, nat_eq, codes, Option, Some, None, ℤ, pos, negsuc, ◌≤ℤ◌, unsigned_abs, refl, sym, ap, ◌∙◌, arith}
 use Rattle.std.specs.Prelude.{Result, Ok, Err}
 use Rattle.std.proofs.Math.Seq.{drop-append_seam}
 use Rattle.std.proofs.lemmas.List.{append-nil}
@@ -167,3 +167,84 @@ pattern_at-fields y m d (weekday.One w) hy hm hd =
 
 pub pattern_at-text : (p : Pattern) → IsPattern p → pattern_at (pattern_text p) ≡ Ok p
 pattern_at-text p h = pattern_at-fields p.years p.months p.days p.weekdays h.0 h.1 h.2
+
+pub year_number : (year : ℤ) → pos 1900 ≤ℤ year → pos (unsigned_abs year) ≡ year
+year_number (pos n) h = refl
+year_number (negsuc n) h = absurd (omega (arith, signed_arith))
+
+-- a day of a year from 1900 is the day of its parts
+day_of-parts : (day : Date) → IsBetween (pos 1900) (pos 2154) day.year → day_of (unsigned_abs day.year) day.month day.day ≡ Some day
+day_of-parts day h =
+    let y : ℕ = unsigned_abs day.year in
+    let year : pos y ≡ day.year = year_number day.year h.0 in
+    let is : IsDay (pos y) day.month day.day =
+      rw year (h, (day.year_in, (omega (arith, signed_arith, day.month_in), omega (arith, signed_arith, day.month_in)), (omega (arith, signed_arith, day.day_in), omega (arith, signed_arith, day.day_in)))) in
+    let some = day_of-some y day.month day.day (is_day-IsDay y day.month day.day is) in
+    some.1 ∙ ap Some (same_parts (day_with y day.month day.day some.0) day year refl refl)
+
+pub full_date_at-text : (day : Date) → IsBetween (pos 1900) (pos 2154) day.year → full_date_at (day_text day) ≡ Ok day
+unfolding full_date_at one_day
+full_date_at-text day h =
+    let y = year.One (unsigned_abs day.year) in
+    let m = month.One day.month in
+    let d = month_day.One day.day in
+    let long = days_in_month_bounds day.year day.month in
+    let same = year_number day.year h.0 in
+    rw (cut_at-absent 47 [] (day_text day) (lacks-date_fields 47 slash (omega arith) y m d),
+      date_fields_at-text y m d (omega (arith, signed_arith), omega (arith, signed_arith)) day.month_in (omega (arith, day.day_in), omega (arith, day.day_in)),
+      day_of-parts day h) refl
+
+range_end_at-text : (end : Option Date) → IsRangeEnd end → range_end_at (range_end_text end) ≡ Ok end
+unfolding range_end_at
+range_end_at-text None h = refl
+range_end_at-text (Some day) h =
+    rw (bytes_eq-length (day_text day) (codes "*") (omega arith), full_date_at-text day h) refl
+
+lacks_dot-end : (end : Option Date) → lacks 46 (range_end_text end) ≡ true
+lacks_dot-end None = refl
+lacks_dot-end (Some day) =
+    lacks-date_fields 46 dot (omega arith) (year.One (unsigned_abs day.year)) (month.One day.month) (month_day.One day.day)
+
+week_n_day_at-fields : (m : Months) (k : Weeks) (w : Weekdays) → AreMonths m → week_n_day_at (months_text m ++ (58 ∷ (weeks_text k ++ (58 ∷ weekdays_text w)))) ≡ Ok (record { months = m; weeks = k; weekdays = w })
+unfolding week_n_day_at
+week_n_day_at-fields m k w h =
+    rw (parts_at-text 58 (months_text m) (weeks_text k) (weekdays_text w) (lacks_colon-months m h) (lacks_colon-weeks k) (lacks_colon-weekdays w),
+      months_at-text m h, weeks_at-text k, weekdays_at-text w) refl
+
+-- ---- which of the forms
+
+other_prefix : (x : ℕ) (rest : Text) → 119 ≢ x → without_prefix (codes "wnd:") (x ∷ rest) ≡ None
+unfolding without_prefix
+other_prefix x rest apart =
+    rw (starts_with-other 119 x (codes "nd:") rest (other_byte 119 x apart)) refl
+
+other_prefix-years : (y : Years) (a b : Text) → AreYears y → without_prefix (codes "wnd:") ((years_text y ++ a) ++ b) ≡ None
+other_prefix-years year.Any a b h = other_prefix 42 (a ++ b) (omega arith)
+other_prefix-years (year.One n) a b h = other_prefix (48 + n / 100 / 10) _ (omega arith)
+
+other_prefix-end : (end : Option Date) (rest : Text) → IsRangeEnd end → without_prefix (codes "wnd:") (range_end_text end ++ rest) ≡ None
+other_prefix-end None rest h = other_prefix 42 rest (omega arith)
+other_prefix-end (Some day) rest h =
+    let same = year_number day.year h.0 in
+    other_prefix (48 + unsigned_abs day.year / 100 / 10) _ (omega (arith, signed_arith))
+
+own_prefix : (mark rest : Text) → without_prefix mark (mark ++ rest) ≡ Some rest
+unfolding without_prefix
+own_prefix mark rest = rw (starts_with-append mark rest, drop-append_seam mark rest) refl
+
+-- ---- each entry reads from its spelling
+
+pub reading-text : (e : Entry) → IsEntry e → reading (spelling e) ≡ Ok e
+unfolding reading dates_at range_at
+reading-text (entry.Pattern p) h =
+    let y = p.years in
+    rw (other_prefix-years y _ (weekday_suffix p.weekdays) h.0,
+      cut_at-absent 46 (codes ".") (pattern_text p) (lacks-append 46 (date_fields_text y p.months p.days) (weekday_suffix p.weekdays) (lacks-date_fields 46 dot (omega arith) y p.months p.days) (lacks_dot-suffix p.weekdays)),
+      pattern_at-text p h) refl
+reading-text (entry.Range r) h =
+    rw (other_prefix-end r.start (codes ".." ++ range_end_text r.end) h.0,
+      cut_at-lacking 46 (codes ".") (range_end_text r.start) (range_end_text r.end) (lacks_dot-end r.start),
+      range_end_at-text r.start h.0, range_end_at-text r.end h.1) refl
+reading-text (entry.WeekNDay w) h =
+    rw (own_prefix (codes "wnd:") (months_text w.months ++ (codes ":" ++ (weeks_text w.weeks ++ (codes ":" ++ weekdays_text w.weekdays)))),
+      week_n_day_at-fields w.months w.weeks w.weekdays h) refl
