@@ -3,4 +3,5 @@ pub mod DayLemmas
 pub mod DigitLemmas
 pub mod FieldLemmas
 pub mod FieldTexts
+pub mod ReadSpells
 pub mod SpelledReads
