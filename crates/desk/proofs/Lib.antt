@@ -1,0 +1,4 @@
+pub mod EventLemmas
+pub mod StepLemmas
+pub mod MapLemmas
+pub mod CommandLemmas

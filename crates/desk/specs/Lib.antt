@@ -1,0 +1,8 @@
+pub mod Accepted
+pub mod Applied
+pub mod Content
+pub mod Events
+pub mod Headline
+pub mod Machine
+pub mod Reply
+pub mod Tables

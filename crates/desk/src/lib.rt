@@ -1,0 +1,16 @@
+//! Deliveries of panels' commands, the priority machine that they drive, and the desk's tables and
+//! replies: what is kept and answered is what the machine has, whatever is repeated, lost or reordered.
+#![tactic(auto)]
+
+pub use building::Building;
+pub use delivery::Delivery;
+pub use fault::DeskFault;
+pub use reply::Reply;
+
+mod building;
+mod command;
+mod delivery;
+mod fault;
+mod maps;
+mod reply;
+mod row_key;
