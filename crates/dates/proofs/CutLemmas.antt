@@ -1,5 +1,5 @@
 -- Where a mark first stands in a text, and what std's searches answer.
-use Rattle.std.proofs.Common.{◌≡◌, ℕ, ◌+◌, ◌<◌, ◌≤◌, Bool, true, false, not, ◌&&◌, List, [], ◌∷◌, ◌++◌, length, take, drop, nat_eq, Option, Some, None, option_map, MatchOption, Bor, cond, refl, sym, ap, ◌∙◌, subst, add-one, arith}
+use Rattle.std.proofs.Common.{◌≡◌, ℕ, ◌+◌, ◌<◌, ◌≤◌, Bool, true, false, not, ◌&&◌, [], ◌∷◌, ◌++◌, length, take, drop, nat_eq, Option, Some, None, option_map, MatchOption, Bor, cond, refl, sym, ap, ◌∙◌, subst, add-one, arith}
 use Rattle.std.specs.List.{starts_with}
 use Rattle.std.specs.Str.Pattern.{LacksTextAt, FindsText, FindsTextPrefix, SplitsAroundMatch, StripsPrefix}
 use Rattle.std.proofs.Math.Seq.{take-append_seam, drop-append_seam}
@@ -134,7 +134,7 @@ unfolding cut_at
 cut_at-some mark [] before after e = cc
 cut_at-some mark (b ∷ text) before after e =
     by_test (starts_with nat_eq (b ∷ text) mark) refl e (cut_at-some mark text)
-    where
+  where
     by_test : (test : Bool) → starts_with nat_eq (b ∷ text) mark ≡ test → cond {A = Option (Text × Text)} test (Some ([], drop (length mark) (b ∷ text))) (after_byte b (cut_at mark text)) ≡ Some (before, after) → ((x y : Text) → cut_at mark text ≡ Some (x, y) → text ≡ x ++ (mark ++ y)) → b ∷ text ≡ before ++ (mark ++ after)
     by_test true is e whole =
         append-starts_with (b ∷ text) mark is

@@ -1,9 +1,7 @@
 -- The text of a field reads as that field, and what reads as a field is its text.
-use Rattle.std.proofs.Common.{◌≡◌, ◌≢◌, ℕ, ◌+◌, ◌-◌, ◌*◌, ◌/◌, ◌%◌, ◌<◌, ◌≤◌, Bool, true, false, cond, List, [], ◌∷◌, ◌++◌, length, nat_eq, codes, Option, Some, None, option_map, refl, sym, ap, ◌∙◌, arith}
+use Rattle.std.proofs.Common.{◌≡◌, ◌≢◌, ℕ, ◌+◌, ◌*◌, ◌/◌, ◌%◌, ◌<◌, Bool, true, false, length, codes, Some, refl, ap, arith}
 use Rattle.std.specs.Int.{IsInRange}
-use Rattle.std.specs.Option.{option_and_then}
 use Rattle.std.specs.Str.{bytes_eq}
-use Rattle.std.proofs.lemmas.Bool.{false≢true}
 use Rattle.std.proofs.lemmas.Bool.Decides.{nat_tests}
 use Rattle.std.proofs.lemmas.Slice.Eq.{bytes_eq-Decides}
 use Rattle.jiff_core.specs.declared.civil.weekday.Weekday.{Weekday}
@@ -16,16 +14,14 @@ use Rattle.dates.specs.declared.month_days.MonthDays.{MonthDays}
 use Rattle.dates.specs.declared.month_days.MonthDays.TheVariants as month_day
 use Rattle.dates.specs.declared.weekdays.Weekdays.{Weekdays}
 use Rattle.dates.specs.declared.weekdays.Weekdays.TheVariants as weekday
-use Rattle.dates.specs.declared.weeks.Week.{Week}
 use Rattle.dates.specs.declared.weeks.Week.TheVariants.{First, Second, Third, Fourth, Fifth, Last, SecondLast, ThirdLast, FourthLast}
 use Rattle.dates.specs.declared.weeks.Weeks.{Weeks}
 use Rattle.dates.specs.declared.weeks.Weeks.TheVariants as week
-use Rattle.dates.specs.Between.{is_between, between}
+use Rattle.dates.specs.Between.{between}
 use Rattle.dates.specs.CutAt.{Text}
-use Rattle.dates.specs.DayOf.{is_between-true}
 use Rattle.dates.specs.FieldAt.{digit_at, two_digits, four_digits, years_at, months_at, month_days_at, weekday_at, weekdays_at, week_at, weeks_at}
 use Rattle.dates.specs.IsEntry.{AreYears, AreMonths, AreMonthDays}
-use Rattle.dates.specs.Spelling.{two_digit_text, four_digit_text, years_text, months_text, month_days_text, weekdays_text, week_text, weeks_text}
+use Rattle.dates.specs.Spelling.{two_digit_text, four_digit_text, years_text, months_text, month_days_text, weekdays_text, weeks_text}
 use Rattle.dates.specs.WeekdayText.{weekday_text}
 
 -- ---- from a field to its text and back
@@ -47,13 +43,17 @@ pub four_digits-text : (n : ℕ) → n < 10000 → four_digits (four_digit_text 
 unfolding four_digits
 four_digits-text n low =
     let sum : 1000 * (n / 100 / 10) + 100 * (n / 100 % 10) + 10 * (n % 100 / 10) + n % 100 % 10 ≡ n = omega arith in
-    rw (digit_at-digit (n / 100 / 10) (omega arith), digit_at-digit (n / 100 % 10) (omega arith),
-      digit_at-digit (n % 100 / 10) (omega arith), digit_at-digit (n % 100 % 10) (omega arith)) (ap Some sum)
+    rw (
+      digit_at-digit (n / 100 / 10) (omega arith),
+      digit_at-digit (n / 100 % 10) (omega arith),
+      digit_at-digit (n % 100 / 10) (omega arith),
+      digit_at-digit (n % 100 % 10) (omega arith),
+    ) (ap Some sum)
 
 -- texts of two lengths are not the same
 pub bytes_eq-length : (xs ys : Text) → length xs ≢ length ys → bytes_eq xs ys ≡ false
 bytes_eq-length xs ys apart = by_test (bytes_eq xs ys) refl
-    where
+  where
     by_test : (test : Bool) → bytes_eq xs ys ≡ test → bytes_eq xs ys ≡ false
     by_test true e = absurd (apart (ap length ((bytes_eq-Decides xs ys).0 e)))
     by_test false e = e
@@ -70,8 +70,13 @@ months_at-text month.Any h = refl
 months_at-text month.Odd h = refl
 months_at-text month.Even h = refl
 months_at-text (month.One n) h =
-    rw (bytes_eq-length (two_digit_text n) (codes "*") (omega arith), bytes_eq-length (two_digit_text n) (codes "odd") (omega arith),
-      bytes_eq-length (two_digit_text n) (codes "even") (omega arith), two_digits-text n (omega arith), between-some 1 12 n h) refl
+    rw (
+      bytes_eq-length (two_digit_text n) (codes "*") (omega arith),
+      bytes_eq-length (two_digit_text n) (codes "odd") (omega arith),
+      bytes_eq-length (two_digit_text n) (codes "even") (omega arith),
+      two_digits-text n (omega arith),
+      between-some 1 12 n h,
+    ) refl
 
 pub month_days_at-text : (d : MonthDays) → AreMonthDays d → month_days_at (month_days_text d) ≡ Some d
 unfolding month_days_at
@@ -80,9 +85,14 @@ month_days_at-text month_day.Last h = refl
 month_days_at-text month_day.Odd h = refl
 month_days_at-text month_day.Even h = refl
 month_days_at-text (month_day.One n) h =
-    rw (bytes_eq-length (two_digit_text n) (codes "*") (omega arith), bytes_eq-length (two_digit_text n) (codes "last") (omega arith),
-      bytes_eq-length (two_digit_text n) (codes "odd") (omega arith), bytes_eq-length (two_digit_text n) (codes "even") (omega arith),
-      two_digits-text n (omega arith), between-some 1 31 n h) refl
+    rw (
+      bytes_eq-length (two_digit_text n) (codes "*") (omega arith),
+      bytes_eq-length (two_digit_text n) (codes "last") (omega arith),
+      bytes_eq-length (two_digit_text n) (codes "odd") (omega arith),
+      bytes_eq-length (two_digit_text n) (codes "even") (omega arith),
+      two_digits-text n (omega arith),
+      between-some 1 31 n h,
+    ) refl
 
 pub weekday_at-text : (w : Weekday) → weekday_at (weekday_text w) ≡ Some w
 unfolding weekday_at

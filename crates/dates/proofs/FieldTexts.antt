@@ -1,9 +1,8 @@
 -- What reads as a field is the text of that field.
-use Rattle.std.proofs.Common.{◌≡◌, ◌≢◌, ℕ, ◌+◌, ◌-◌, ◌*◌, ◌/◌, ◌%◌, ◌<◌, ◌≤◌, Bool, true, false, cond, List, [], ◌∷◌, ◌++◌, length, nat_eq, codes, Option, Some, None, option_map, refl, sym, ap, ap₂, ◌∙◌, subst, arith}
+use Rattle.std.proofs.Common.{◌≡◌, ◌≢◌, ℕ, ◌+◌, ◌-◌, ◌*◌, ◌/◌, ◌%◌, ◌<◌, Bool, true, false, cond, [], ◌∷◌, length, nat_eq, codes, Option, Some, None, option_map, refl, ap, ap₂, ◌∙◌, subst, arith}
 use Rattle.std.specs.Int.{IsInRange}
 use Rattle.std.specs.Option.{option_and_then}
 use Rattle.std.specs.Str.{bytes_eq}
-use Rattle.std.proofs.lemmas.Bool.{false≢true}
 use Rattle.std.proofs.lemmas.Bool.Decides.{nat_tests}
 use Rattle.std.proofs.lemmas.Slice.Eq.{bytes_eq-Decides}
 use Rattle.jiff_core.specs.declared.civil.weekday.Weekday.{Weekday}
@@ -41,7 +40,7 @@ map-some f (Some x) y e = let same : f x ≡ y = cc in (x, refl, same)
 -- a test of the text, and what follows where it fails
 pub choice : {A : Type 0} (P : A → Type 0) (text word : Text) (v y : A) (rest : Option A) → cond (bytes_eq text word) (Some v) rest ≡ Some y → (text ≡ word → P v) → (rest ≡ Some y → P y) → P y
 choice {A = A} P text word v y rest e yes_so no_so = by_test (bytes_eq text word) refl e
-    where
+  where
     by_test : (test : Bool) → bytes_eq text word ≡ test → cond test (Some v) rest ≡ Some y → P y
     by_test true is e = let same : v ≡ y = cc in subst P same (yes_so ((bytes_eq-Decides text word).0 is))
     by_test false is e = no_so e
@@ -51,7 +50,7 @@ choice {A = A} P text word v y rest e yes_so no_so = by_test (bytes_eq text word
 digit_at-some : (byte d : ℕ) → digit_at byte ≡ Some d → (byte ≡ 48 + d) × (d < 10)
 unfolding digit_at
 digit_at-some byte d e = by_test (is_between 48 57 byte) refl e
-    where
+  where
     by_test : (test : Bool) → is_between 48 57 byte ≡ test → cond test (Some (byte - 48)) None ≡ Some d → (byte ≡ 48 + d) × (d < 10)
     by_test true is e =
         let range = is_between-true 48 57 byte is in
@@ -61,7 +60,7 @@ digit_at-some byte d e = by_test (is_between 48 57 byte) refl e
 
 between-in : (low high n m : ℕ) → between low high n ≡ Some m → (n ≡ m) × IsInRange low high m
 between-in low high n m e = by_test (is_between low high n) refl e
-    where
+  where
     by_test : (test : Bool) → is_between low high n ≡ test → cond test (Some n) None ≡ Some m → (n ≡ m) × IsInRange low high m
     by_test true is e =
         let same : n ≡ m = cc in
@@ -122,11 +121,11 @@ unfolding years_at
 years_at-some text y e =
     let P : Years → Type 0 = λ y. (text ≡ years_text y) × AreYears y in
     choice P text (codes "*") year.Any y _ e (λ is. (is, tt))
-      (λ e. let one = map-some year.One _ y e in
-      let digits = and_then-some (between 1900 2154) (four_digits text) one.0 one.1 in
-      let range = between-in 1900 2154 digits.0 one.0 digits.2 in
-      let is = four_digits-some text digits.0 digits.1 in
-      subst P one.2 (is.0 ∙ ap four_digit_text range.0, range.1))
+    (λ e. let one = map-some year.One _ y e in
+    let digits = and_then-some (between 1900 2154) (four_digits text) one.0 one.1 in
+    let range = between-in 1900 2154 digits.0 one.0 digits.2 in
+    let is = four_digits-some text digits.0 digits.1 in
+    subst P one.2 (is.0 ∙ ap four_digit_text range.0, range.1))
 
 pub months_at-some : (text : Text) (m : Months) → months_at text ≡ Some m → (text ≡ months_text m) × AreMonths m
 unfolding months_at
@@ -135,11 +134,11 @@ months_at-some text m e =
     choice P text (codes "*") month.Any m _ e (λ is. (is, tt))
     (λ e. choice P text (codes "odd") month.Odd m _ e (λ is. (is, tt))
     (λ e. choice P text (codes "even") month.Even m _ e (λ is. (is, tt))
-      (λ e. let one = map-some month.One _ m e in
-      let digits = and_then-some (between 1 12) (two_digits text) one.0 one.1 in
-      let range = between-in 1 12 digits.0 one.0 digits.2 in
-      let is = two_digits-some text digits.0 digits.1 in
-      subst P one.2 (is.0 ∙ ap two_digit_text range.0, range.1))))
+    (λ e. let one = map-some month.One _ m e in
+    let digits = and_then-some (between 1 12) (two_digits text) one.0 one.1 in
+    let range = between-in 1 12 digits.0 one.0 digits.2 in
+    let is = two_digits-some text digits.0 digits.1 in
+    subst P one.2 (is.0 ∙ ap two_digit_text range.0, range.1))))
 
 pub month_days_at-some : (text : Text) (d : MonthDays) → month_days_at text ≡ Some d → (text ≡ month_days_text d) × AreMonthDays d
 unfolding month_days_at
@@ -149,11 +148,11 @@ month_days_at-some text d e =
     (λ e. choice P text (codes "last") month_day.Last d _ e (λ is. (is, tt))
     (λ e. choice P text (codes "odd") month_day.Odd d _ e (λ is. (is, tt))
     (λ e. choice P text (codes "even") month_day.Even d _ e (λ is. (is, tt))
-      (λ e. let one = map-some month_day.One _ d e in
-      let digits = and_then-some (between 1 31) (two_digits text) one.0 one.1 in
-      let range = between-in 1 31 digits.0 one.0 digits.2 in
-      let is = two_digits-some text digits.0 digits.1 in
-      subst P one.2 (is.0 ∙ ap two_digit_text range.0, range.1)))))
+    (λ e. let one = map-some month_day.One _ d e in
+    let digits = and_then-some (between 1 31) (two_digits text) one.0 one.1 in
+    let range = between-in 1 31 digits.0 one.0 digits.2 in
+    let is = two_digits-some text digits.0 digits.1 in
+    subst P one.2 (is.0 ∙ ap two_digit_text range.0, range.1)))))
 
 pub weekday_at-some : (text : Text) (w : Weekday) → weekday_at text ≡ Some w → text ≡ weekday_text w
 unfolding weekday_at
@@ -174,7 +173,7 @@ weekdays_at-some text w e =
     let P : Weekdays → Type 0 = λ w. text ≡ weekdays_text w in
     choice P text (codes "*") weekday.Any w _ e (λ is. is)
     (λ e. let one = map-some weekday.One (weekday_at text) w e in
-      subst P one.2 (weekday_at-some text one.0 one.1))
+    subst P one.2 (weekday_at-some text one.0 one.1))
 
 week_at-some : (text : Text) (w : Week) → week_at text ≡ Some w → text ≡ week_text w
 unfolding week_at

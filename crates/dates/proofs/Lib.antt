@@ -5,3 +5,4 @@ pub mod FieldLemmas
 pub mod FieldTexts
 pub mod ReadSpells
 pub mod SpelledReads
+pub mod SpellingLaws

@@ -1,11 +1,10 @@
 -- What reads as an entry is the spelling of that entry.
-use Rattle.std.proofs.Common.{◌≡◌, ℕ, ◌≤◌, Bool, true, false, cond, List, [], ◌∷◌, ◌++◌, length, drop, nat_eq, codes, Option, Some, None, option_map, is_some, ℤ, pos, unsigned_abs, refl, sym, ap, ap₂, ◌∙◌, subst, arith}
+use Rattle.std.proofs.Common.{◌≡◌, ℕ, Bool, true, false, cond, ◌++◌, length, drop, nat_eq, codes, Option, Some, None, option_map, is_some, pos, unsigned_abs, refl, sym, ap, ap₂, ◌∙◌, subst, arith}
 use Rattle.std.specs.Prelude.{Result, Ok, Err}
-use Rattle.std.specs.Option.{ok_or, option_and_then, option_map_or}
+use Rattle.std.specs.Option.{ok_or, option_map_or}
 use Rattle.std.specs.List.{starts_with}
 use Rattle.std.specs.Str.{bytes_eq}
 use Rattle.std.proofs.lemmas.List.{append-nil}
-use Rattle.std.proofs.lemmas.Bool.{false≢true}
 use Rattle.std.proofs.lemmas.Slice.Eq.{bytes_eq-Decides}
 use Rattle.jiff.specs.Words.{IsBetween}
 use Rattle.jiff_core.specs.declared.civil.date.Date.{Date}
@@ -30,13 +29,13 @@ use Rattle.dates.specs.CutAt.{Text, cut_at, without_prefix, parts_at}
 use Rattle.dates.specs.DayOf.{day_of, day_with, passed, is_between-true, first-true}
 use Rattle.dates.specs.FieldAt.{years_at, months_at, month_days_at, weekday_at, weekdays_at, weeks_at}
 use Rattle.dates.specs.IsDay.{is_day}
-use Rattle.dates.specs.IsEntry.{AreYears, AreMonths, AreMonthDays, IsPattern, IsRange, IsWeekNDay, IsEntry}
+use Rattle.dates.specs.IsEntry.{AreYears, AreMonths, AreMonthDays, IsPattern, IsRange, IsWeekNDay}
 use Rattle.dates.specs.OneDay.{one_year, one_month, one_month_day, one_day}
 use Rattle.dates.specs.RangeEnd.{IsRangeEnd}
 use Rattle.dates.specs.Reading.{date_fields_at, date_part, weekday_part, pattern_at, full_date_at, range_end_at, range_at, week_n_day_at, dates_at, reading}
-use Rattle.dates.specs.Spelling.{years_text, months_text, month_days_text, weekdays_text, weeks_text, weekday_suffix, date_fields_text, pattern_text, day_text, range_end_text, range_text, week_n_day_text, spelling}
+use Rattle.dates.specs.Spelling.{weekday_suffix, date_fields_text, pattern_text, day_text, range_end_text, range_text, week_n_day_text}
+use Rattle.dates.specs.Spells.{Spells}
 use Rattle.dates.specs.Then.{◌>>=◌}
-use Rattle.dates.specs.WeekdayText.{weekday_text}
 use Rattle.dates.proofs.CutLemmas.{cut_at-some, append-starts_with}
 use Rattle.dates.proofs.FieldTexts.{and_then-some, map-some, years_at-some, months_at-some, month_days_at-some, weekday_at-some, weekdays_at-some, weeks_at-some}
 
@@ -154,7 +153,7 @@ day_of-is y m d day e =
 full_date_at-ok : (text : Text) (day : Date) → full_date_at text ≡ Ok day → (text ≡ day_text day) × IsBetween (pos 1900) (pos 2154) day.year
 unfolding full_date_at one_day
 full_date_at-ok text day e = by_test (is_some (cut_at (codes "/") text)) e
-    where
+  where
     by_test : (test : Bool) → cond {A = Result Date EntryFault} test (Err fault.Shape) (date_fields_at text >>= λ date. one_day date.years date.months date.days) ≡ Ok day → (text ≡ day_text day) × IsBetween (pos 1900) (pos 2154) day.year
     by_test true e = let bad : ⊥ = cc in absurd bad
     by_test false e =
@@ -172,7 +171,7 @@ full_date_at-ok text day e = by_test (is_some (cut_at (codes "/") text)) e
 range_end_at-ok : (text : Text) (end : Option Date) → range_end_at text ≡ Ok end → (text ≡ range_end_text end) × IsRangeEnd end
 unfolding range_end_at
 range_end_at-ok text end e = by_test (bytes_eq text (codes "*")) refl e
-    where
+  where
     by_test : (test : Bool) → bytes_eq text (codes "*") ≡ test → cond {A = Result (Option Date) EntryFault} test (Ok None) (full_date_at text >>= λ date. Ok (Some date)) ≡ Ok end → (text ≡ range_end_text end) × IsRangeEnd end
     by_test true is e =
         let same : None ≡ end = cc in
@@ -211,45 +210,41 @@ week_n_day_at-ok text w e =
     let P : WeekNDay → Type 0 = λ w. (codes "wnd:" ++ text ≡ week_n_day_text w) × IsWeekNDay w in
     subst P same (ap (λ t. codes "wnd:" ++ t) (parts_at-some (codes ":") text parts.0 parts.1 ∙ three_same (codes ":") parts.0 _ _ _ m.0 k d), m.1)
 
--- the text spells the entry, whose numbers are in range
-abbrev pub IsSpelled : Text → Entry → Type 0
-IsSpelled text e = (text ≡ spelling e) × IsEntry e
-
 without_prefix-some : (mark text rest : Text) → without_prefix mark text ≡ Some rest → text ≡ mark ++ rest
 unfolding without_prefix
 without_prefix-some mark text rest e = by_test (starts_with nat_eq text mark) refl e
-    where
+  where
     by_test : (test : Bool) → starts_with nat_eq text mark ≡ test → cond {A = Option Text} test (Some (drop (length mark) text)) None ≡ Some rest → text ≡ mark ++ rest
     by_test true is e =
         let same : drop (length mark) text ≡ rest = cc in
         append-starts_with text mark is ∙ ap (λ t. mark ++ t) same
     by_test false is e = let bad : ⊥ = cc in absurd bad
 
-dates_at-ok : (text : Text) (e : Entry) → dates_at text ≡ Ok e → IsSpelled text e
+dates_at-ok : (text : Text) (e : Entry) → dates_at text ≡ Ok e → Spells text e
 unfolding dates_at
 dates_at-ok text e h = by_cut (cut_at (codes "..") text) refl h
-    where
-    by_cut : (cut : Option (Text × Text)) → cut_at (codes "..") text ≡ cut → option_map_or (λ ends. range_at ends.0 ends.1 >>= λ r. Ok (entry.Range r)) cut (pattern_at text >>= λ p. Ok (entry.Pattern p)) ≡ Ok e → IsSpelled text e
+  where
+    by_cut : (cut : Option (Text × Text)) → cut_at (codes "..") text ≡ cut → option_map_or (λ ends. range_at ends.0 ends.1 >>= λ r. Ok (entry.Range r)) cut (pattern_at text >>= λ p. Ok (entry.Pattern p)) ≡ Ok e → Spells text e
     by_cut None is h =
         let p = then-ok (pattern_at text) (λ p. Ok (entry.Pattern p)) e h in
         let same : entry.Pattern p.0 ≡ e = cc in
-        subst (IsSpelled text) same (pattern_at-ok text p.0 p.1)
+        subst (Spells text) same (pattern_at-ok text p.0 p.1)
     by_cut (Some cut) is h =
         let r = then-ok (range_at cut.0 cut.1) (λ r. Ok (entry.Range r)) e h in
         let same : entry.Range r.0 ≡ e = cc in
         let range = range_at-ok cut.0 cut.1 r.0 r.1 in
-        subst (IsSpelled text) same (cut_at-some (codes "..") text cut.0 cut.1 is ∙ range.0, range.1)
+        subst (Spells text) same (cut_at-some (codes "..") text cut.0 cut.1 is ∙ range.0, range.1)
 
 -- ---- what reads as an entry is its spelling
 
-pub reading-ok : (text : Text) (e : Entry) → reading text ≡ Ok e → IsSpelled text e
+pub reading-ok : (text : Text) (e : Entry) → reading text ≡ Ok e → Spells text e
 unfolding reading
 reading-ok text e h = by_prefix (without_prefix (codes "wnd:") text) refl h
-    where
-    by_prefix : (parts : Option Text) → without_prefix (codes "wnd:") text ≡ parts → option_map_or (λ parts. week_n_day_at parts >>= λ w. Ok (entry.WeekNDay w)) parts (dates_at text) ≡ Ok e → IsSpelled text e
+  where
+    by_prefix : (parts : Option Text) → without_prefix (codes "wnd:") text ≡ parts → option_map_or (λ parts. week_n_day_at parts >>= λ w. Ok (entry.WeekNDay w)) parts (dates_at text) ≡ Ok e → Spells text e
     by_prefix None is h = dates_at-ok text e h
     by_prefix (Some parts) is h =
         let w = then-ok (week_n_day_at parts) (λ w. Ok (entry.WeekNDay w)) e h in
         let same : entry.WeekNDay w.0 ≡ e = cc in
         let week_n_day = week_n_day_at-ok parts w.0 w.1 in
-        subst (IsSpelled text) same (without_prefix-some (codes "wnd:") text parts is ∙ week_n_day.0, week_n_day.1)
+        subst (Spells text) same (without_prefix-some (codes "wnd:") text parts is ∙ week_n_day.0, week_n_day.1)

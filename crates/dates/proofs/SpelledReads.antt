@@ -1,12 +1,11 @@
 -- The spelling of an entry reads as that entry.
-use Rattle.std.proofs.Common.{◌≡◌, ◌≢◌, ℕ, ◌+◌, ◌/◌, ◌%◌, ◌<◌, ◌≤◌, Bool, true, false, not, ◌&&◌, List, [], ◌∷◌, ◌++◌, length, nat_eq, codes, Option, Some, None, ℤ, pos, negsuc, ◌≤ℤ◌, unsigned_abs, refl, sym, ap, ◌∙◌, arith}
-use Rattle.std.specs.Prelude.{Result, Ok, Err}
+use Rattle.std.proofs.Common.{◌≡◌, ◌≢◌, ℕ, ◌+◌, ◌/◌, ◌%◌, ◌<◌, true, not, [], ◌∷◌, ◌++◌, nat_eq, codes, Option, Some, None, ℤ, pos, negsuc, ◌≤ℤ◌, unsigned_abs, refl, ap, ◌∙◌, arith}
+use Rattle.std.specs.Prelude.{Ok}
 use Rattle.std.proofs.Math.Seq.{drop-append_seam}
 use Rattle.std.proofs.lemmas.List.{append-nil}
 use Rattle.std.proofs.lemmas.Bool.Decides.{nat_tests}
 use Rattle.jiff.specs.Words.{IsBetween}
 use Rattle.jiff_core.specs.declared.civil.date.Date.{Date}
-use Rattle.jiff_core.specs.declared.civil.weekday.Weekday.{Weekday}
 use Rattle.jiff_core.specs.declared.civil.weekday.Weekday.TheVariants.{Monday, Tuesday, Wednesday, Thursday, Friday, Saturday, Sunday}
 use Rattle.jiff_core.proofs.CalendarLemmas.{days_in_month_bounds}
 use Rattle.jiff_core.proofs.SignedLemmas.{signed_arith}
@@ -18,23 +17,20 @@ use Rattle.dates.specs.declared.month_days.MonthDays.{MonthDays}
 use Rattle.dates.specs.declared.month_days.MonthDays.TheVariants as month_day
 use Rattle.dates.specs.declared.weekdays.Weekdays.{Weekdays}
 use Rattle.dates.specs.declared.weekdays.Weekdays.TheVariants as weekday
-use Rattle.dates.specs.declared.weeks.Week.{Week}
 use Rattle.dates.specs.declared.weeks.Week.TheVariants.{First, Second, Third, Fourth, Fifth, Last, SecondLast, ThirdLast, FourthLast}
 use Rattle.dates.specs.declared.weeks.Weeks.{Weeks}
 use Rattle.dates.specs.declared.weeks.Weeks.TheVariants as week
 use Rattle.dates.specs.declared.pattern.Pattern.{Pattern}
-use Rattle.dates.specs.declared.range.Range.{Range}
-use Rattle.dates.specs.declared.week_n_day.WeekNDay.{WeekNDay}
 use Rattle.dates.specs.declared.entry.Entry.{Entry}
 use Rattle.dates.specs.declared.entry.Entry.TheVariants as entry
-use Rattle.dates.specs.CutAt.{Text, cut_at, without_prefix, parts_at}
+use Rattle.dates.specs.CutAt.{Text, without_prefix, parts_at}
 use Rattle.dates.specs.DayOf.{day_of, day_with}
 use Rattle.dates.specs.IsDay.{IsDay}
-use Rattle.dates.specs.IsEntry.{AreYears, AreMonths, AreMonthDays, IsPattern, IsRange, IsWeekNDay, IsEntry}
+use Rattle.dates.specs.IsEntry.{AreYears, AreMonths, AreMonthDays, IsPattern, IsEntry}
 use Rattle.dates.specs.OneDay.{one_day}
 use Rattle.dates.specs.RangeEnd.{IsRangeEnd}
 use Rattle.dates.specs.Reading.{date_fields_at, date_part, weekday_part, pattern_at, full_date_at, range_end_at, range_at, week_n_day_at, dates_at, reading}
-use Rattle.dates.specs.Spelling.{two_digit_text, four_digit_text, years_text, months_text, month_days_text, weekdays_text, weeks_text, weekday_suffix, date_fields_text, pattern_text, day_text, range_end_text, range_text, week_n_day_text, spelling}
+use Rattle.dates.specs.Spelling.{two_digit_text, years_text, months_text, month_days_text, weekdays_text, weeks_text, weekday_suffix, date_fields_text, pattern_text, day_text, range_end_text, spelling}
 use Rattle.dates.specs.WeekdayText.{weekday_text}
 use Rattle.dates.proofs.CutLemmas.{lacks, lacks-append, starts_with-append, starts_with-other, cut_at-lacking, cut_at-absent}
 use Rattle.dates.proofs.DayLemmas.{day_of-some, is_day-IsDay, same_parts}
@@ -62,7 +58,7 @@ lacks-years : (c : ℕ) → IsMark c → (y : Years) → lacks c (years_text y) 
 lacks-years c mark year.Any = lacks-one c 42 mark.1
 lacks-years c mark (year.One n) =
     lacks-append c (two_digit_text (n / 100)) (two_digit_text (n % 100)) (lacks-two c (n / 100) (omega arith) (omega arith))
-      (lacks-two c (n % 100) (omega arith) (omega arith))
+    (lacks-two c (n % 100) (omega arith) (omega arith))
 
 lacks-odd : (c : ℕ) → IsMark c → lacks c (codes "odd") ≡ true
 lacks-odd c mark =
@@ -94,7 +90,7 @@ lacks-date_fields c mark dash y m d =
     let days = lacks-more c 45 (month_days_text d) dash (lacks-month_days c mark d) in
     let months = lacks-append c (months_text m) (45 ∷ month_days_text d) (lacks-months c mark m) days in
     lacks-append c (years_text y) (45 ∷ (months_text m ++ (45 ∷ month_days_text d))) (lacks-years c mark y)
-      (lacks-more c 45 (months_text m ++ (45 ∷ month_days_text d)) dash months)
+    (lacks-more c 45 (months_text m ++ (45 ∷ month_days_text d)) dash months)
 
 slash : IsMark 47
 slash = (omega arith, λ e. absurd (omega arith))
@@ -153,8 +149,12 @@ parts_at-text c x y z hx hy hz =
 pub date_fields_at-text : (y : Years) (m : Months) (d : MonthDays) → AreYears y → AreMonths m → AreMonthDays d → date_fields_at (date_fields_text y m d) ≡ Ok (record { years = y; months = m; days = d })
 unfolding date_fields_at
 date_fields_at-text y m d hy hm hd =
-    rw (parts_at-text 45 (years_text y) (months_text m) (month_days_text d) (lacks-years 45 dash y) (lacks-months 45 dash m) (lacks-month_days 45 dash d),
-      years_at-text y hy, months_at-text m hm, month_days_at-text d hd) refl
+    rw (
+      parts_at-text 45 (years_text y) (months_text m) (month_days_text d) (lacks-years 45 dash y) (lacks-months 45 dash m) (lacks-month_days 45 dash d),
+      years_at-text y hy,
+      months_at-text m hm,
+      month_days_at-text d hd,
+    ) refl
 
 pattern_at-fields : (y : Years) (m : Months) (d : MonthDays) (w : Weekdays) → AreYears y → AreMonths m → AreMonthDays d → pattern_at (date_fields_text y m d ++ weekday_suffix w) ≡ Ok (record { years = y; months = m; days = d; weekdays = w })
 unfolding pattern_at date_part weekday_part
@@ -178,7 +178,7 @@ day_of-parts day h =
     let y : ℕ = unsigned_abs day.year in
     let year : pos y ≡ day.year = year_number day.year h.0 in
     let is : IsDay (pos y) day.month day.day =
-      rw year (h, (day.year_in, (omega (arith, signed_arith, day.month_in), omega (arith, signed_arith, day.month_in)), (omega (arith, signed_arith, day.day_in), omega (arith, signed_arith, day.day_in)))) in
+    rw year (h, (day.year_in, (omega (arith, signed_arith, day.month_in), omega (arith, signed_arith, day.month_in)), (omega (arith, signed_arith, day.day_in), omega (arith, signed_arith, day.day_in)))) in
     let some = day_of-some y day.month day.day (is_day-IsDay y day.month day.day is) in
     some.1 ∙ ap Some (same_parts (day_with y day.month day.day some.0) day year refl refl)
 
@@ -190,9 +190,11 @@ full_date_at-text day h =
     let d = month_day.One day.day in
     let long = days_in_month_bounds day.year day.month in
     let same = year_number day.year h.0 in
-    rw (cut_at-absent 47 [] (day_text day) (lacks-date_fields 47 slash (omega arith) y m d),
+    rw (
+      cut_at-absent 47 [] (day_text day) (lacks-date_fields 47 slash (omega arith) y m d),
       date_fields_at-text y m d (omega (arith, signed_arith), omega (arith, signed_arith)) day.month_in (omega (arith, day.day_in), omega (arith, day.day_in)),
-      day_of-parts day h) refl
+      day_of-parts day h,
+    ) refl
 
 range_end_at-text : (end : Option Date) → IsRangeEnd end → range_end_at (range_end_text end) ≡ Ok end
 unfolding range_end_at
@@ -208,8 +210,12 @@ lacks_dot-end (Some day) =
 week_n_day_at-fields : (m : Months) (k : Weeks) (w : Weekdays) → AreMonths m → week_n_day_at (months_text m ++ (58 ∷ (weeks_text k ++ (58 ∷ weekdays_text w)))) ≡ Ok (record { months = m; weeks = k; weekdays = w })
 unfolding week_n_day_at
 week_n_day_at-fields m k w h =
-    rw (parts_at-text 58 (months_text m) (weeks_text k) (weekdays_text w) (lacks_colon-months m h) (lacks_colon-weeks k) (lacks_colon-weekdays w),
-      months_at-text m h, weeks_at-text k, weekdays_at-text w) refl
+    rw (
+      parts_at-text 58 (months_text m) (weeks_text k) (weekdays_text w) (lacks_colon-months m h) (lacks_colon-weeks k) (lacks_colon-weekdays w),
+      months_at-text m h,
+      weeks_at-text k,
+      weekdays_at-text w,
+    ) refl
 
 -- ---- which of the forms
 
@@ -238,13 +244,20 @@ pub reading-text : (e : Entry) → IsEntry e → reading (spelling e) ≡ Ok e
 unfolding reading dates_at range_at
 reading-text (entry.Pattern p) h =
     let y = p.years in
-    rw (other_prefix-years y _ (weekday_suffix p.weekdays) h.0,
+    rw (
+      other_prefix-years y _ (weekday_suffix p.weekdays) h.0,
       cut_at-absent 46 (codes ".") (pattern_text p) (lacks-append 46 (date_fields_text y p.months p.days) (weekday_suffix p.weekdays) (lacks-date_fields 46 dot (omega arith) y p.months p.days) (lacks_dot-suffix p.weekdays)),
-      pattern_at-text p h) refl
+      pattern_at-text p h,
+    ) refl
 reading-text (entry.Range r) h =
-    rw (other_prefix-end r.start (codes ".." ++ range_end_text r.end) h.0,
+    rw (
+      other_prefix-end r.start (codes ".." ++ range_end_text r.end) h.0,
       cut_at-lacking 46 (codes ".") (range_end_text r.start) (range_end_text r.end) (lacks_dot-end r.start),
-      range_end_at-text r.start h.0, range_end_at-text r.end h.1) refl
+      range_end_at-text r.start h.0,
+      range_end_at-text r.end h.1,
+    ) refl
 reading-text (entry.WeekNDay w) h =
-    rw (own_prefix (codes "wnd:") (months_text w.months ++ (codes ":" ++ (weeks_text w.weeks ++ (codes ":" ++ weekdays_text w.weekdays)))),
-      week_n_day_at-fields w.months w.weeks w.weekdays h) refl
+    rw (
+      own_prefix (codes "wnd:") (months_text w.months ++ (codes ":" ++ (weeks_text w.weeks ++ (codes ":" ++ weekdays_text w.weekdays)))),
+      week_n_day_at-fields w.months w.weeks w.weekdays h,
+    ) refl

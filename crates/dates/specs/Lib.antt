@@ -11,5 +11,6 @@ pub mod IsEntry
 pub mod RangeEnd
 pub mod Reading
 pub mod Spelling
+pub mod Spells
 pub mod Then
 pub mod WeekdayText

@@ -1,5 +1,5 @@
 -- The day that the fields of a date name, where each is one number.
-use Rattle.std.specs.Prelude.{ℕ, Option, Some, None, Result, Ok, Err}
+use Rattle.std.specs.Prelude.{ℕ, Option, Some, None, Result}
 use Rattle.std.specs.Option.{ok_or}
 use Rattle.jiff_core.specs.declared.civil.date.Date.{Date}
 use Rattle.dates.specs.declared.years.Years.{Years}

@@ -1,4 +1,4 @@
-ghost use Rattle.std.specs.Prelude.{◌≡◌, IfOk, string_bytes};
+ghost use Rattle.std.specs.Prelude.{◌≡◌, ◌↔◌, IfOk, string_bytes};
 
 use crate::{Day, EntryFault, Pattern, Range, WeekNDay, notation};
 use std::alloc::{AllocError, Global};
@@ -16,11 +16,20 @@ impl Entry {
     ghost use Rattle.dates.specs.HoldsOn.{holds_on};
     ghost use Rattle.dates.specs.Reading.{reading};
     ghost use Rattle.dates.specs.IsEntry.{IsEntry};
+    ghost use Rattle.dates.specs.Spells.{Spells};
+    ghost use Rattle.dates.specs.declared.entry.Entry.{Entry as Declared};
     ghost use Rattle.dates.specs.Spelling.{spelling};
 
-    /// Reads an entry, or tells the first fault.
-    #[tactic(auto, unfolding(crate::specs::Reading::reading, crate::specs::Reading::dates_at))]
+    /// Reads an entry: exactly the texts that spell one, and of another text its first fault.
     pub fn read(text: &str) -> Result<Entry, EntryFault>
+        ensures spells { (e : Declared) → (result ≡ Ok e) ↔ Spells text.now e }
+        ensures first_fault { result ≡ reading text.now }
+    {
+        Entry::read_form(text)
+    }
+
+    #[tactic(auto, unfolding(crate::specs::Reading::reading, crate::specs::Reading::dates_at))]
+    fn read_form(text: &str) -> Result<Entry, EntryFault>
         ensures { result ≡ reading text.now }
     {
         if let Some(parts) = notation::without_prefix(text, "wnd:") {

@@ -13,6 +13,7 @@ mod months;
 mod notation;
 mod pattern;
 mod range;
+pub mod spelling;
 mod week_n_day;
 mod weekdays;
 mod weeks;
