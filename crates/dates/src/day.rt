@@ -44,6 +44,26 @@ impl Day {
         }
     }
 
+    /// The day of a date, where its year is 1900 to 2154.
+    pub fn from_date(date: Date) -> Option<Day>
+        ensures exists { IsSome result ↔ IsBetween (pos 1900) (pos 2154) date.year }
+        ensures value { IfSome result (λ day. day ≡ date) }
+    {
+        if 1900 <= date.year() && date.year() <= 2154 {
+            Some(Day { date })
+        } else {
+            None
+        }
+    }
+
+    /// The date of the day.
+    pub fn date(self) -> Date
+        ensures value { result ≡ self }
+        ensures range { IsBetween (pos 1900) (pos 2154) result.year }
+    {
+        self.date
+    }
+
     /// The year, 1900 to 2154.
     pub fn year(self) -> u16
         ensures value { pos result ≡ self.year }

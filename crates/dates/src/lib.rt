@@ -14,6 +14,8 @@ mod notation;
 mod pattern;
 mod range;
 pub mod spelling;
+#[cfg(test)]
+mod tests;
 mod week_n_day;
 mod weekdays;
 mod weeks;
@@ -28,6 +30,6 @@ pub use months::{Month, Months};
 pub use pattern::Pattern;
 pub use range::Range;
 pub use week_n_day::WeekNDay;
-pub use weekdays::Weekdays;
+pub use weekdays::{Weekdays, weekday_name};
 pub use weeks::{Week, Weeks};
 pub use years::{Year, Years};
