@@ -14,7 +14,7 @@ use Rattle.desk.specs.Accepted.{Text, panel_named, panel_of, number_of, asked, a
 use Rattle.desk.specs.Machine.{Event, Machine, opening_machine, run, step}
 use Rattle.desk.specs.Events.{told, events_after, machine}
 
-append_nil : {A : Type 0} (xs : List A) → xs ++ [] ≡ xs
+pub append_nil : {A : Type 0} (xs : List A) → xs ++ [] ≡ xs
 append_nil [] = refl
 append_nil (x ∷ xs) = ap (λ ys. x ∷ ys) (append_nil xs)
 

@@ -1,5 +1,5 @@
 -- The tables and the reply after one delivery more, said of the tables before it.
-use Rattle.std.proofs.Common.{◌≡◌, ◌≢◌, ℕ, ◌+◌, ◌-◌, ◌<◌, ◌≤◌, ◌==◌, ◌&&◌, Bool, true, false, cond, List, [], ◌∷◌, ◌++◌, map, Option, Some, None, is_some, refl, sym, ap, ◌∙◌, subst, arith, inl, inr, ⊎_elim, ℤ, pos, negsuc, nat_lt, nat_le}
+use Rattle.std.proofs.Common.{◌≡◌, ◌≢◌, ℕ, ◌+◌, ◌-◌, ◌<◌, ◌≤◌, ◌==◌, ◌&&◌, Bool, true, false, cond, List, [], ◌∷◌, ◌++◌, map, Option, Some, None, is_some, refl, sym, ap, ◌∙◌, subst, arith, inl, inr, ⊎_elim, ℤ, pos, negsuc, nat_lt, nat_le, find}
 use Rattle.std.specs.List.{flat_map}
 use Rattle.std.specs.Str.{bytes_eq}
 use Rattle.std.proofs.lemmas.Bool.{cases_Bool, cases_eq, cases_lt, false≢true}
@@ -317,3 +317,17 @@ reply-bad_number b E p z content panel known bad = rw (known, bad) refl
 
 pub asked-bad_number : (p : Text) (z : ℤ) (content : Content) → number_of z ≡ None → asked (Command p z content) ≡ []
 asked-bad_number p z content bad = rw bad refl
+
+found_passes : {A : Type 0} (test : A → Bool) (xs : List A) (x : A) → find test xs ≡ Some x → test x ≡ true
+found_passes test [] x e = absurd cc
+found_passes test (y ∷ ys) x e = elim (cases_Bool (test y)) [
+  | inl passes ↦ let same : Some y ≡ Some x = rw passes at e in let here : y ≡ x = cc in subst (λ w. test w ≡ true) here passes
+  | inr fails ↦ found_passes test ys x (rw fails at e)
+]
+
+-- the panel that is found has the name
+pub name_of-named : (b : Building) (p : Text) (panel : Panel) → panel_named b p ≡ Some panel → panel.name ≡ p
+name_of-named b p panel e = (bytes_eq-Decides panel.name p).0 (found_passes (λ (x : Panel). bytes_eq x.name p) b.panels panel e)
+
+pub named-again : (b : Building) (p : Text) (panel : Panel) → panel_named b p ≡ Some panel → panel_named b panel.name ≡ Some panel
+named-again b p panel e = ap (panel_named b) (name_of-named b p panel e) ∙ e

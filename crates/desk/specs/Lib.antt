@@ -3,6 +3,9 @@ pub mod Applied
 pub mod Content
 pub mod Events
 pub mod Headline
+pub mod Held
 pub mod Machine
+pub mod PointState
 pub mod Reply
 pub mod Tables
+pub mod Unchanged

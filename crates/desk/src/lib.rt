@@ -5,12 +5,15 @@
 pub use building::Building;
 pub use delivery::Delivery;
 pub use fault::DeskFault;
+pub use point_state::PointState;
 pub use reply::Reply;
 
 mod building;
 mod command;
 mod delivery;
 mod fault;
+pub mod machine;
 mod maps;
+mod point_state;
 mod reply;
 mod row_key;

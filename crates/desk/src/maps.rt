@@ -1,5 +1,5 @@
 //! The desk's tables as ordered maps in memory.
-ghost use Rattle.std.specs.Prelude.{◌≡◌, ℕ, List, ◌+◌, ◌^◌, ◌<◌, ◌≤◌, IfOk, IsSome, OnOk, OnErr, Some, cond, unwrap_or, option_and_then};
+ghost use Rattle.std.specs.Prelude.{◌≡◌, ℕ, List, ◌+◌, ◌^◌, ◌<◌, ◌≤◌, IfOk, IsSome, OnOk, OnErr, Some, None, cond, unwrap_or, option_and_then};
 ghost use Rattle.std.specs.BTreeMap as tree;
 ghost use Rattle.std.specs.Cmp.Lexicographic.{slice_cmp};
 ghost use Rattle.std.specs.FinMap.{empty};
@@ -83,7 +83,11 @@ fn put_row(
 
 impl Maps {
     /// Maps without an entry.
-    pub fn new(alloc: Global) -> Self {
+    pub fn new(alloc: Global) -> Self
+        ensures places { (q : List ℕ) → (content_of result).places q ≡ empty }
+        ensures next { (q : List ℕ) → (content_of result).next q ≡ None }
+        ensures row { (q : List ℕ) (n : ℕ) → (content_of result).row q n ≡ None }
+    {
         Maps {
             arrays: BTreeMap::new(alloc),
             nexts: BTreeMap::new(alloc),

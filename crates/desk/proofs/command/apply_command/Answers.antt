@@ -10,7 +10,7 @@ use Rattle.desk.proofs.command.apply_command.Goals as goal
 pub returns-in-Err-clause-answer : goal.returns-in-Err-clause-answer
 returns-in-Err-clause-answer c =
     let against : rule_for c.args.building.now c.args.panel.now.name c.args.content.now ≡ Some c.in-Err.rule =
-        rule_for-known c.args.building.now c.args.panel.now.name c.args.content.now c.args.panel.now c.requires.known
-        ∙ ap (λ (points : List Point). rule_of points c.args.panel.now c.args.content.now) (sym c.as_slice.ensures)
-        ∙ sym c.permit.ensures ∙ ap result_err c.in-Err.is in
+    rule_for-known c.args.building.now c.args.panel.now.name c.args.content.now c.args.panel.now c.requires.known
+    ∙ ap (λ (points : List Point). rule_of points c.args.panel.now c.args.content.now) (sym c.as_slice.ensures)
+    ∙ sym c.permit.ensures ∙ ap result_err c.in-Err.is in
     rw (answer_to-refused c.args.building.now (content_of c.args.maps.now).places c.args.panel.now.name c.args.content.now c.in-Err.rule against) c.apply_refused.ensures.answer

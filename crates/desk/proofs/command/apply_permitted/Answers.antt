@@ -17,8 +17,8 @@ returns-clause-answer c =
     let kept : to_z w64 (of_z w64 c.relinquish_default.result) ≡ c.relinquish_default.result = search rules in
     let base : to_z w64 (of_z w64 c.relinquish_default.result) ≡ default_of c.args.building.now c.args.content.now.point = kept ∙ c.relinquish_default.ensures in
     rw whole (ap done_of c.present-present.ensures
-      ∙ (λ i. done_of (present_of (array i) (base i)))
-      ∙ sym (answer_to-permitted c.args.building.now (content_of c.args.maps.now).places c.args.panel.now c.args.content.now c.requires.permitted))
+    ∙ (λ i. done_of (present_of (array i) (base i)))
+    ∙ sym (answer_to-permitted c.args.building.now (content_of c.args.maps.now).places c.args.panel.now c.args.content.now c.requires.permitted))
 
 pub returns-clause-tables : goal.returns-clause-tables
 returns-clause-tables c =
