@@ -1,9 +1,14 @@
 pub mod ArgFault
 pub mod BuildingFile
+pub mod DeliveryLine
 pub mod DistinctNames
 pub mod FileFault
 pub mod Line
+pub mod LineFault
 pub mod PanelTable
 pub mod PointTable
 pub mod TableFields
 pub mod Utf8Text
+pub mod ReplyText
+pub mod PointLine
+pub mod Status

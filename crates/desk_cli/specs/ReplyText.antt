@@ -1,0 +1,34 @@
+-- The text of a reply: one JSON object, compact, its keys in byte order.
+use Rattle.std.specs.Prelude.{ℕ, ℤ, List, [], ◌∷◌, ◌++◌, codes}
+use Rattle.std.specs.Fmt.{decimal, signed_decimal}
+use Rattle.points.specs.RuleCode.{code_of}
+use Rattle.points.specs.declared.Answer.{Answer}
+use Rattle.points.specs.declared.Answer.TheVariants.{Done, Refused}
+use Rattle.desk_cli.specs.declared.reply.Reply.{Reply}
+use Rattle.desk_cli.specs.declared.reply.Reply.TheVariants.{Answered, BadNumber, Differs, NoPanel}
+use Rattle.desk_cli.specs.declared.reply.Reply.TheVariants.{Parked, Skipped, TooFar}
+
+-- the text of a command's answer, with the command's number
+abbrev pub answer_text : ℤ → Answer → List ℕ
+answer_text number (Done present priority) = codes "{\"answer\":\"done\",\"number\":"
+    ++ (signed_decimal number ++ (codes ",\"present\":"
+    ++ (signed_decimal present ++ (codes ",\"priority\":" ++ (decimal priority ++ codes "}")))))
+answer_text number (Refused rule) = codes "{\"answer\":\"refused\",\"number\":"
+    ++ (signed_decimal number ++ (codes ",\"rule\":\"" ++ (code_of rule ++ codes "\"}")))
+
+abbrev pub reply_text : Reply → List ℕ
+reply_text NoPanel = codes "{\"answer\":\"no_panel\"}"
+reply_text BadNumber = codes "{\"answer\":\"bad_number\"}"
+reply_text (Differs number) =
+    codes "{\"answer\":\"differs\",\"number\":" ++ (signed_decimal number ++ codes "}")
+reply_text (Answered number answer) = answer_text number answer
+reply_text (Parked next number) = codes "{\"answer\":\"parked\",\"next\":"
+    ++ (decimal next ++ (codes ",\"number\":" ++ (signed_decimal number ++ codes "}")))
+reply_text (Skipped number) =
+    codes "{\"answer\":\"skipped\",\"number\":" ++ (signed_decimal number ++ codes "}")
+reply_text (TooFar next number) = codes "{\"answer\":\"too_far\",\"next\":"
+    ++ (decimal next ++ (codes ",\"number\":" ++ (signed_decimal number ++ codes "}")))
+
+-- the text with the end of a line (LF)
+abbrev pub reply_line : Reply → List ℕ
+reply_line reply = reply_text reply ++ 10 ∷ []

@@ -1,0 +1,9 @@
+-- The exit status of the program.
+use Rattle.std.specs.Prelude.{ℕ}
+use Rattle.desk_cli.specs.declared.status.Status.{Status}
+use Rattle.desk_cli.specs.declared.status.Status.TheVariants.{Done, Fault, NoMemory}
+
+abbrev pub code_of : Status → ℕ
+code_of Done = 0
+code_of Fault = 1
+code_of NoMemory = 3

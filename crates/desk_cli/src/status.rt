@@ -1,0 +1,28 @@
+//! What the program ends with.
+
+ghost use Rattle.std.specs.Prelude.{◌≡◌};
+ghost use Rattle.desk_cli.specs.Status.{code_of};
+
+/// How a run of the program ended.
+#[derive(Clone, Copy, Debug, PartialEq, Eq)]
+pub enum Status {
+    /// All was done.
+    Done,
+    /// The data or a file was at fault, or the output failed.
+    Fault,
+    /// Memory was refused.
+    NoMemory,
+}
+
+impl Status {
+    /// The exit status of the program: 0 done, 1 a fault of data, files or output, 3 want of memory.
+    pub fn code(self) -> u8
+        ensures { result ≡ code_of self }
+    {
+        match self {
+            Status::Done => 0,
+            Status::Fault => 1,
+            Status::NoMemory => 3,
+        }
+    }
+}
