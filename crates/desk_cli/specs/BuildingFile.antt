@@ -6,7 +6,7 @@ use Rattle.toml.specs.Data.{Data, Items, no_items, Members, as_array, as_table, 
 use Rattle.toml.specs.Parse.{parse_document}
 use Rattle.points.specs.declared.Panel.{Panel}
 use Rattle.points.specs.declared.Point.{Point}
-use Rattle.desk_cli.specs.declared.building.Building.{Building}
+use Rattle.desk.specs.declared.Building.{Building}
 use Rattle.desk_cli.specs.DistinctNames.{are_distinct}
 use Rattle.desk_cli.specs.PanelTable.{panel_at}
 use Rattle.desk_cli.specs.PointTable.{point_at}

@@ -7,8 +7,8 @@ use Rattle.serde_json.specs.Data as json
 use Rattle.serde_json.specs.Data.{Data, Members, no_members, member}
 use Rattle.serde_json.specs.Find.{as_i64, as_number, as_object, as_str, get}
 use Rattle.serde_json.specs.Read.{read}
-use Rattle.desk_cli.specs.declared.delivery.Delivery.{Delivery}
-use Rattle.desk_cli.specs.declared.delivery.Delivery.TheVariants.{Command}
+use Rattle.desk.specs.declared.Delivery.{Delivery}
+use Rattle.desk.specs.declared.Delivery.TheVariants.{Command}
 use Rattle.desk_cli.specs.TableFields.{◌>>=◌, name_of, where_holds}
 use Rattle.desk_cli.specs.Utf8Text.{text_of}
 

@@ -4,6 +4,7 @@ pub mod DeliveryLine
 pub mod DistinctNames
 pub mod FileFault
 pub mod Line
+pub mod LineAnswer
 pub mod LineFault
 pub mod PanelTable
 pub mod PointTable

@@ -4,9 +4,9 @@ use Rattle.std.specs.Fmt.{decimal, signed_decimal}
 use Rattle.points.specs.RuleCode.{code_of}
 use Rattle.points.specs.declared.Answer.{Answer}
 use Rattle.points.specs.declared.Answer.TheVariants.{Done, Refused}
-use Rattle.desk_cli.specs.declared.reply.Reply.{Reply}
-use Rattle.desk_cli.specs.declared.reply.Reply.TheVariants.{Answered, BadNumber, Differs, NoPanel}
-use Rattle.desk_cli.specs.declared.reply.Reply.TheVariants.{Parked, Skipped, TooFar}
+use Rattle.desk.specs.declared.Reply.{Reply}
+use Rattle.desk.specs.declared.Reply.TheVariants.{Answered, BadNumber, Differs, NoPanel}
+use Rattle.desk.specs.declared.Reply.TheVariants.{Parked, Skipped, TooFar}
 
 -- the text of a command's answer, with the command's number
 abbrev pub answer_text : ℤ → Answer → List ℕ

@@ -9,19 +9,19 @@ ghost use Rattle.desk_cli.specs.BuildingFile.{is_empty_list, panel_in, panels_in
 ghost use Rattle.desk_cli.specs.FileFault.{Answers};
 
 use crate::FileFault;
-use crate::building::Building;
 use crate::item_list::{ReadItem, read_items};
 use crate::named::are_distinct;
 use crate::panel_table::panel_at;
 use crate::point_table::point_at;
 use crate::table_fields::{has_only, text_at, value_at};
 use crate::utf8_text::text_of;
+use desk::Building;
 use points::{Listing, Panel, Point};
 use std::alloc::Global;
 use toml::{Table, Value};
 
 /// The bytes that a building file has at most (this profile's limit).
-const LONGEST_FILE: usize = 1_048_576;
+pub(crate) const LONGEST_FILE: usize = 1_048_576;
 
 /// The points that a building has at most (this profile's limit).
 const MOST_POINTS: usize = 1_000;

@@ -13,9 +13,9 @@ ghost use Rattle.desk_cli.specs.DeliveryLine.{priority_in, value_in};
 ghost use Rattle.desk_cli.specs.LineFault.{Tells};
 
 use crate::LineFault;
-use crate::delivery::Delivery;
 use crate::table_fields::name_of;
 use crate::utf8_text::text_of;
+use desk::Delivery;
 use points::{Content, Name};
 use serde_json::{Map, Value};
 use std::alloc::Global;

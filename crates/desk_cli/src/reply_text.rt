@@ -1,6 +1,6 @@
 //! The text of a reply.
 
-use crate::reply::Reply;
+use desk::Reply;
 use points::Answer;
 use std::fmt;
 

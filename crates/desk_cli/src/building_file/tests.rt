@@ -1,4 +1,5 @@
-use crate::{Building, FileFault, read_building};
+use crate::{FileFault, read_building};
+use desk::Building;
 use points::Kind;
 use std::alloc::{AllocError, Global};
 use std::process::Abort;

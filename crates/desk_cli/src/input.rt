@@ -1,0 +1,13 @@
+//! A file that a run of the program reads.
+
+use std::io;
+
+/// A file that a run of the program reads: the path as it was given, and the reader that opening it
+/// gave, or why it can't be opened.
+#[derive(Drop)]
+pub struct Input<'a, R> {
+    /// The path as it was given.
+    pub path: &'a str,
+    /// The reader, from the file's first byte on.
+    pub reader: io::Result<R>,
+}
