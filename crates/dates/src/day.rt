@@ -56,14 +56,6 @@ impl Day {
         }
     }
 
-    /// The date of the day.
-    pub fn date(self) -> Date
-        ensures value { result ≡ self }
-        ensures range { IsBetween (pos 1900) (pos 2154) result.year }
-    {
-        self.date
-    }
-
     /// The year, 1900 to 2154.
     pub fn year(self) -> u16
         ensures value { pos result ≡ self.year }

@@ -8,6 +8,7 @@ mod date_fields;
 mod day;
 mod entry;
 mod entry_fault;
+pub mod equality;
 mod month_days;
 mod months;
 mod notation;

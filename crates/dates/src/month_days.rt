@@ -75,7 +75,7 @@ impl MonthDays {
     }
 
     /// The number of the day of the month, where the field names one alone.
-    pub fn number(self) -> Option<u8>
+    pub(crate) fn number(self) -> Option<u8>
         ensures value { result ≡ one_month_day self }
         ensures range { AreMonthDays self }
     {
@@ -86,7 +86,7 @@ impl MonthDays {
     }
 
     /// Whether the day is one of these in its month.
-    pub fn holds(self, day: Day) -> bool
+    pub(crate) fn holds(self, day: Day) -> bool
         ensures { result ≡ in_month_days self day }
     {
         match self {

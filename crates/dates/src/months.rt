@@ -73,7 +73,7 @@ impl Months {
     }
 
     /// The number of the month, where the field names one alone.
-    pub fn number(self) -> Option<u8>
+    pub(crate) fn number(self) -> Option<u8>
         ensures value { result ≡ one_month self }
         ensures range { AreMonths self }
     {
@@ -84,7 +84,7 @@ impl Months {
     }
 
     /// Whether the day's month is one of these.
-    pub fn holds(self, day: Day) -> bool
+    pub(crate) fn holds(self, day: Day) -> bool
         ensures { result ≡ in_months self day }
     {
         match self {

@@ -44,7 +44,7 @@ impl Weekdays {
     }
 
     /// Whether the day is one of these in its week.
-    pub fn holds(self, day: Day) -> bool
+    pub(crate) fn holds(self, day: Day) -> bool
         ensures { result ≡ in_weekdays self day }
     {
         match self {

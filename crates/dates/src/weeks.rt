@@ -52,7 +52,7 @@ impl Week {
     }
 
     /// Whether the day lies in this week of its month.
-    pub fn holds(self, day: Day) -> bool
+    pub(crate) fn holds(self, day: Day) -> bool
         ensures { result ≡ in_week self day }
     {
         let weeks_before = (day.day_of_month() - 1) / 7;
@@ -94,7 +94,7 @@ impl Weeks {
     }
 
     /// Whether the day lies in one of these weeks of its month.
-    pub fn holds(self, day: Day) -> bool
+    pub(crate) fn holds(self, day: Day) -> bool
         ensures { result ≡ in_weeks self day }
     {
         match self {

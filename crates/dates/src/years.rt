@@ -68,7 +68,7 @@ impl Years {
     }
 
     /// The number of the year, where the field names one alone.
-    pub fn number(self) -> Option<u16>
+    pub(crate) fn number(self) -> Option<u16>
         ensures value { result ≡ one_year self }
         ensures range { AreYears self }
     {
@@ -79,7 +79,7 @@ impl Years {
     }
 
     /// Whether the day's year is one of these.
-    pub fn holds(self, day: Day) -> bool
+    pub(crate) fn holds(self, day: Day) -> bool
         ensures { result ≡ in_years self day }
     {
         match self {

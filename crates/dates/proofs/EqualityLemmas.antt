@@ -1,0 +1,118 @@
+-- `==` on entries says whether they are the same.
+use Rattle.std.proofs.Common.{◌≡◌, ◌↔◌, ℕ, Bool, true, false, ◌&&◌, Option, Some, None, refl, sym, ap, ◌∙◌, subst, rules}
+use Rattle.std.specs.Cmp.{unsigned_Decides}
+use Rattle.std.specs.Option.{option_eq}
+use Rattle.std.specs.Ordering.{int_eq}
+use Rattle.std.proofs.lemmas.Bool.{false≢true}
+use Rattle.std.proofs.lemmas.Bool.Decides.{Decides-int_eq}
+use Rattle.jiff_core.specs.declared.civil.date.Date.{Date}
+use Rattle.jiff.specs.Words.{epoch_day}
+use Rattle.jiff.proofs.Family.{same_date}
+use Rattle.jiff_core.specs.declared.civil.weekday.Weekday.{Weekday}
+use Rattle.jiff_core.specs.contracts.civil.weekday.Weekday as weekday_type
+use denote.Enum.Bare.{same_true}
+use Rattle.dates.specs.declared.years.Years.{Years}
+use Rattle.dates.specs.declared.years.Years.TheVariants as year
+use Rattle.dates.specs.contracts.years.YearsPartialEq.TheImpl as years_eq
+use Rattle.dates.specs.declared.months.Months.{Months}
+use Rattle.dates.specs.declared.months.Months.TheVariants as month
+use Rattle.dates.specs.contracts.months.MonthsPartialEq.TheImpl as months_eq
+use Rattle.dates.specs.declared.month_days.MonthDays.{MonthDays}
+use Rattle.dates.specs.declared.month_days.MonthDays.TheVariants as month_day
+use Rattle.dates.specs.contracts.month_days.MonthDaysPartialEq.TheImpl as month_days_eq
+use Rattle.dates.specs.declared.weekdays.Weekdays.{Weekdays}
+use Rattle.dates.specs.declared.weekdays.Weekdays.TheVariants as weekday
+use Rattle.dates.specs.contracts.weekdays.WeekdaysPartialEq.TheImpl as weekdays_eq
+use Rattle.dates.specs.declared.weeks.Week.{Week}
+use Rattle.dates.specs.contracts.weeks.Week as week_type
+use Rattle.dates.specs.declared.weeks.Weeks.{Weeks}
+use Rattle.dates.specs.declared.weeks.Weeks.TheVariants as week
+use Rattle.dates.specs.contracts.weeks.WeekPartialEq.TheImpl as week_eq
+use Rattle.dates.specs.contracts.weeks.WeeksPartialEq.TheImpl as weeks_eq
+use Rattle.dates.specs.declared.pattern.Pattern.{Pattern}
+use Rattle.dates.specs.contracts.pattern.PatternPartialEq.TheImpl as pattern_eq
+use Rattle.dates.specs.declared.range.Range.{Range}
+use Rattle.dates.specs.contracts.range.RangePartialEq.TheImpl as range_eq
+use Rattle.dates.specs.declared.week_n_day.WeekNDay.{WeekNDay}
+use Rattle.dates.specs.contracts.week_n_day.WeekNDayPartialEq.TheImpl as week_n_day_eq
+use Rattle.dates.specs.declared.entry.Entry.{Entry}
+use Rattle.dates.specs.declared.entry.Entry.TheVariants as entry
+use Rattle.dates.specs.contracts.entry.EntryPartialEq.TheImpl as entry_eq
+use Rattle.dates.specs.contracts.entry.EntryEq.TheImpl.Laws as entry_laws
+use Rattle.dates.specs.DayOf.{first-true, second-true}
+
+same_years : (a b : Years) → years_eq.ghosts.eq a b ≡ true → a ≡ b
+same_years year.Any year.Any e = refl
+same_years (year.One m) (year.One n) e = ap year.One ((unsigned_Decides m n).0 e)
+same_years _ _ e = absurd (false≢true e)
+
+same_months : (a b : Months) → months_eq.ghosts.eq a b ≡ true → a ≡ b
+same_months month.Any month.Any e = refl
+same_months month.Odd month.Odd e = refl
+same_months month.Even month.Even e = refl
+same_months (month.One m) (month.One n) e = ap month.One ((unsigned_Decides m n).0 e)
+same_months _ _ e = absurd (false≢true e)
+
+same_month_days : (a b : MonthDays) → month_days_eq.ghosts.eq a b ≡ true → a ≡ b
+same_month_days month_day.Any month_day.Any e = refl
+same_month_days month_day.Last month_day.Last e = refl
+same_month_days month_day.Odd month_day.Odd e = refl
+same_month_days month_day.Even month_day.Even e = refl
+same_month_days (month_day.One m) (month_day.One n) e = ap month_day.One ((unsigned_Decides m n).0 e)
+same_month_days _ _ e = absurd (false≢true e)
+
+same_weekdays : (a b : Weekdays) → weekdays_eq.ghosts.eq a b ≡ true → a ≡ b
+same_weekdays weekday.Any weekday.Any e = refl
+same_weekdays (weekday.One v) (weekday.One w) e = ap weekday.One (same_true weekday_type.the_type (search rules) v w e)
+same_weekdays _ _ e = absurd (false≢true e)
+
+same_week : (a b : Week) → week_eq.ghosts.eq a b ≡ true → a ≡ b
+same_week a b e = same_true week_type.the_type (search rules) a b e
+
+same_weeks : (a b : Weeks) → weeks_eq.ghosts.eq a b ≡ true → a ≡ b
+same_weeks week.Any week.Any e = refl
+same_weeks (week.One v) (week.One w) e = ap week.One (same_week v w e)
+same_weeks _ _ e = absurd (false≢true e)
+
+same_pattern : (a b : Pattern) → pattern_eq.ghosts.eq a b ≡ true → a ≡ b
+same_pattern a b e =
+    let years = same_years a.years b.years (first-true (years_eq.ghosts.eq a.years b.years) _ e) in
+    let later = second-true (years_eq.ghosts.eq a.years b.years) _ e in
+    let months = same_months a.months b.months (first-true (months_eq.ghosts.eq a.months b.months) _ later) in
+    let rest = second-true (months_eq.ghosts.eq a.months b.months) _ later in
+    let days = same_month_days a.days b.days (first-true (month_days_eq.ghosts.eq a.days b.days) _ rest) in
+    let weekdays = same_weekdays a.weekdays b.weekdays (second-true (month_days_eq.ghosts.eq a.days b.days) _ rest) in
+    λ i. record { years = years i; months = months i; days = days i; weekdays = weekdays i }
+
+abbrev day_eq : Date → Date → Bool
+day_eq a b = int_eq (epoch_day a) (epoch_day b)
+
+same_end : (a b : Option Date) → option_eq day_eq a b ≡ true → a ≡ b
+same_end None None e = refl
+same_end (Some a) (Some b) e = ap Some (same_date a b ((Decides-int_eq (epoch_day a) (epoch_day b)).0 e))
+same_end None (Some b) e = absurd (false≢true e)
+same_end (Some a) None e = absurd (false≢true e)
+
+same_range : (a b : Range) → range_eq.ghosts.eq a b ≡ true → a ≡ b
+same_range a b e =
+    let start = same_end a.start b.start (first-true (option_eq day_eq a.start b.start) _ e) in
+    let end = same_end a.end b.end (second-true (option_eq day_eq a.start b.start) _ e) in
+    λ i. record { start = start i; end = end i }
+
+same_week_n_day : (a b : WeekNDay) → week_n_day_eq.ghosts.eq a b ≡ true → a ≡ b
+same_week_n_day a b e =
+    let months = same_months a.months b.months (first-true (months_eq.ghosts.eq a.months b.months) _ e) in
+    let later = second-true (months_eq.ghosts.eq a.months b.months) _ e in
+    let weeks = same_weeks a.weeks b.weeks (first-true (weeks_eq.ghosts.eq a.weeks b.weeks) _ later) in
+    let weekdays = same_weekdays a.weekdays b.weekdays (second-true (weeks_eq.ghosts.eq a.weeks b.weeks) _ later) in
+    λ i. record { months = months i; weeks = weeks i; weekdays = weekdays i }
+
+same_entry : (a b : Entry) → entry_eq.ghosts.eq a b ≡ true → a ≡ b
+same_entry (entry.Pattern p) (entry.Pattern q) e = ap entry.Pattern (same_pattern p q e)
+same_entry (entry.Range p) (entry.Range q) e = ap entry.Range (same_range p q e)
+same_entry (entry.WeekNDay p) (entry.WeekNDay q) e = ap entry.WeekNDay (same_week_n_day p q e)
+same_entry _ _ e = absurd (false≢true e)
+
+pub eq-same : (a b : Entry) → (entry_eq.ghosts.eq a b ≡ true) ↔ (a ≡ b)
+eq-same a b =
+    (same_entry a b, λ same. subst (λ (x : Entry). entry_eq.ghosts.eq a x ≡ true) same (entry_laws.laws-law.refl a))
