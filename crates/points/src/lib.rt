@@ -18,7 +18,6 @@ mod answer;
 mod command_row;
 mod content;
 mod kind;
-mod listing;
 mod name;
 mod panel;
 mod point;

@@ -1,5 +1,5 @@
 //! A wall panel and its rights.
-use crate::listing::Listing;
+use listing::Listing;
 use crate::name::Name;
 
 /// A panel: what it may write, and with which priorities (this profile's choice).

@@ -1,6 +1,7 @@
-//! A list that is made once and then read.
+//! A list that is made once and then read, and that contracts see as a list.
+#![tactic(auto)]
+
 ghost use Rattle.std.specs.Prelude.{◌≡◌};
-ghost use Rattle.std.specs.Prelude.{Vec};
 
 use std::marker::Model;
 
