@@ -33,7 +33,7 @@ use Rattle.dates.specs.IsEntry.{AreYears, AreMonths, AreMonthDays, IsPattern, Is
 use Rattle.dates.specs.OneDay.{one_year, one_month, one_month_day, one_day}
 use Rattle.dates.specs.RangeEnd.{IsRangeEnd}
 use Rattle.dates.specs.Reading.{date_fields_at, date_part, weekday_part, pattern_at, full_date_at, range_end_at, range_at, week_n_day_at, dates_at, reading}
-use Rattle.dates.specs.Spelling.{weekday_suffix, date_fields_text, pattern_text, day_text, range_end_text, range_text, week_n_day_text}
+use Rattle.dates.specs.Spelling.{spelling, weekday_suffix, date_fields_text, pattern_text, day_text, range_end_text, range_text, week_n_day_text}
 use Rattle.dates.specs.Spells.{Spells}
 use Rattle.dates.specs.Then.{◌>>=◌}
 use Rattle.dates.proofs.CutLemmas.{cut_at-some, append-starts_with}
@@ -221,7 +221,7 @@ without_prefix-some mark text rest e = by_test (starts_with nat_eq text mark) re
     by_test false is e = let bad : ⊥ = cc in absurd bad
 
 dates_at-ok : (text : Text) (e : Entry) → dates_at text ≡ Ok e → Spells text e
-unfolding dates_at
+unfolding dates_at spelling
 dates_at-ok text e h = by_cut (cut_at (codes "..") text) refl h
   where
     by_cut : (cut : Option (Text × Text)) → cut_at (codes "..") text ≡ cut → option_map_or (λ ends. range_at ends.0 ends.1 >>= λ r. Ok (entry.Range r)) cut (pattern_at text >>= λ p. Ok (entry.Pattern p)) ≡ Ok e → Spells text e
@@ -238,7 +238,7 @@ dates_at-ok text e h = by_cut (cut_at (codes "..") text) refl h
 -- ---- what reads as an entry is its spelling
 
 pub reading-ok : (text : Text) (e : Entry) → reading text ≡ Ok e → Spells text e
-unfolding reading
+unfolding reading spelling
 reading-ok text e h = by_prefix (without_prefix (codes "wnd:") text) refl h
   where
     by_prefix : (parts : Option Text) → without_prefix (codes "wnd:") text ≡ parts → option_map_or (λ parts. week_n_day_at parts >>= λ w. Ok (entry.WeekNDay w)) parts (dates_at text) ≡ Ok e → Spells text e

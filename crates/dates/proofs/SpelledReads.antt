@@ -241,7 +241,7 @@ own_prefix mark rest = rw (starts_with-append mark rest, drop-append_seam mark r
 -- ---- each entry reads from its spelling
 
 pub reading-text : (e : Entry) → IsEntry e → reading (spelling e) ≡ Ok e
-unfolding reading dates_at range_at
+unfolding reading dates_at range_at spelling
 reading-text (entry.Pattern p) h =
     let y = p.years in
     rw (

@@ -91,7 +91,7 @@ abbrev pub in_week_n_day : WeekNDay → Date → Bool
 in_week_n_day w day = in_months w.months day && in_weeks w.weeks day && in_weekdays w.weekdays day
 
 -- the days of an entry
-abbrev pub holds_on : Entry → Date → Bool
+unfoldable pub holds_on : Entry → Date → Bool
 holds_on (entry.Pattern p) day = in_pattern p day
 holds_on (entry.Range r) day = in_range r day
 holds_on (entry.WeekNDay w) day = in_week_n_day w day

@@ -97,7 +97,7 @@ week_n_day_text w =
     codes "wnd:" ++ (months_text w.months ++ (codes ":" ++ (weeks_text w.weeks
     ++ (codes ":" ++ weekdays_text w.weekdays))))
 
-abbrev pub spelling : Entry → Text
+unfoldable pub spelling : Entry → Text
 spelling (entry.Pattern p) = pattern_text p
 spelling (entry.Range r) = range_text r
 spelling (entry.WeekNDay w) = week_n_day_text w

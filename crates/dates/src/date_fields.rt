@@ -29,6 +29,7 @@ impl DateFields {
             days,
         })
     }
+
     /// Reads a date whose fields are each one number, as the day that it is.
     #[tactic(auto, unfolding(crate::specs::Reading::full_date_at))]
     pub fn read_day(text: &str) -> Result<Day, EntryFault>

@@ -5,6 +5,17 @@ use std::alloc::{AllocError, Global};
 use std::fmt;
 
 /// An entry of a calendar, or the period of an exception (12.9 and 12.24).
+///
+/// It is written in one of three forms, in lower case:
+///
+/// - a pattern as `Y-M-D` or `Y-M-D/W`, as `2025-12-25` or `*-*-last/fri`;
+/// - a range as `A..B`, each of A and B a full date `YYYY-MM-DD` or `*`;
+/// - a week-and-day as `wnd:M:K:W`, as `wnd:*:6:mon`.
+///
+/// Y is four digits from 1900 to 2154, or `*`. M is `01` to `12`, `odd`, `even` or `*`. D is `01` to
+/// `31`, `last`, `odd`, `even` or `*`. W is `mon` to `sun`; any weekday is written by leaving `/W`
+/// away in a pattern, and by `*` in a week-and-day. K is `1` to `9`, or `*`. The notation is this
+/// profile's own.
 #[derive(Clone, Copy, Debug, PartialEq, Eq, Hash)]
 pub enum Entry {
     Pattern(Pattern),
@@ -20,7 +31,11 @@ impl Entry {
     ghost use Rattle.dates.specs.declared.entry.Entry.{Entry as Declared};
     ghost use Rattle.dates.specs.Spelling.{spelling};
 
-    /// Reads an entry: exactly the texts that spell one, and of another text its first fault.
+    /// Reads an entry from exactly the texts that spell one, and takes no memory.
+    ///
+    /// Of another text it tells the first fault: that of the form (E1), then those of the parts from
+    /// left to right. In a range the left end comes before the right one, and in an end a part that
+    /// is no number (E7) before a date that the calendar lacks (E4).
     pub fn read(text: &str) -> Result<Entry, EntryFault>
         ensures spells { (e : Declared) → (result ≡ Ok e) ↔ Spells text.now e }
         ensures first_fault { result ≡ reading text.now }
@@ -41,7 +56,7 @@ impl Entry {
         Ok(Entry::Pattern(Pattern::read(text)?))
     }
 
-    /// Writes the entry in its one spelling.
+    /// Writes the entry in its one spelling. The only error is want of memory.
     pub fn write(&self, alloc: Global) -> Result<String, AllocError>
         ensures value { IfOk result (λ text. string_bytes text ≡ spelling self.now) }
         ensures range { IsEntry self.now }
@@ -61,7 +76,8 @@ impl Entry {
         }
     }
 
-    /// Whether the day is one of the entry's.
+    /// Whether the day is one of the entry's. It takes no memory.
+    #[tactic(auto, unfolding(crate::specs::HoldsOn::holds_on))]
     pub fn holds(&self, day: Day) -> bool
         ensures { result ≡ holds_on self.now day }
     {
@@ -79,6 +95,7 @@ impl fmt::Display for Entry {
 
     ghost output = { λ x. Some (spelling x) };
 
+    #[tactic(auto, unfolding(crate::specs::Spelling::spelling))]
     fn fmt<W: fmt::Write>(&self, f: &mut fmt::Formatter<W>) -> fmt::Result {
         match self {
             Entry::Pattern(pattern) => pattern.fmt(f),
