@@ -24,7 +24,7 @@ test: | toolchain
 	@bash scripts/gate
 
 bench: build/desk
-	@bash scripts/bench
+	@python3 scripts/bench.py
 
 install: build/desk
 	install -D -m 755 build/desk $(DESTDIR)$(PREFIX)/bin/desk

@@ -21,3 +21,6 @@ mod panel_view;
 mod plan;
 mod planning;
 mod verdict;
+
+#[cfg(test)]
+mod tests;

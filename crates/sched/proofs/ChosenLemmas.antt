@@ -1,0 +1,263 @@
+-- One pass that keeps the best so far finds the chosen element.
+use Rattle.std.proofs.Common.{◌≡◌, ℕ, Bool, true, false, cond, not, ◌&&◌, ◌||◌, List, [], ◌∷◌, ◌++◌, Option, Some, None, refl, sym, ap, ◌∙◌, subst, inl, inr, ⊎_elim, append_assoc, ◌⊎◌}
+use Rattle.std.specs.List.{list_all}
+use Rattle.std.proofs.lemmas.Bool.{cases_Bool, false≢true}
+use Rattle.sched.specs.Chosen.{is_chosen, chosen_from, chosen, kept}
+
+append_nil : {A : Type 0} (xs : List A) → xs ++ [] ≡ xs
+append_nil [] = refl
+append_nil (x ∷ xs) = ap (λ ys. x ∷ ys) (append_nil xs)
+
+both : (a b : Bool) → a ≡ true → b ≡ true → (a && b) ≡ true
+both a b p q = rw (p, q) refl
+
+first_of : (a b : Bool) → (a && b) ≡ true → a ≡ true
+first_of true b e = refl
+first_of false b e = absurd (false≢true e)
+
+second_of : (a b : Bool) → (a && b) ≡ true → b ≡ true
+second_of true b e = e
+second_of false b e = absurd (false≢true e)
+
+second_false : (a b : Bool) → b ≡ false → (a && b) ≡ false
+second_false true b e = e
+second_false false b e = refl
+
+first_false : (a b : Bool) → a ≡ false → (a && b) ≡ false
+first_false a b e = rw e refl
+
+module _ {A : Type 0} where
+  list_all-append : (test : A → Bool) (xs ys : List A) → list_all test (xs ++ ys) ≡ (list_all test xs && list_all test ys)
+  list_all-append test [] ys = refl
+  list_all-append test (x ∷ xs) ys = elim (test x) as (λ t. (t && list_all test (xs ++ ys)) ≡ ((t && list_all test xs) && list_all test ys)) [
+    | true ↦ list_all-append test xs ys
+    | false ↦ refl
+  ]
+
+  list_all-push : (test : A → Bool) (xs : List A) (x : A) → list_all test xs ≡ true → test x ≡ true → list_all test (xs ++ x ∷ []) ≡ true
+  list_all-push test xs x all here = list_all-append test xs (x ∷ []) ∙ both _ _ all (both _ _ here refl)
+
+  -- one test follows from another
+  list_all-follows : (one two : A → Bool) (xs : List A) → ((x : A) → one x ≡ true → two x ≡ true) → list_all one xs ≡ true → list_all two xs ≡ true
+  list_all-follows one two [] follows all = refl
+  list_all-follows one two (x ∷ xs) follows all = both _ _ (follows x (first_of _ _ all)) (list_all-follows one two xs follows (second_of _ _ all))
+
+  -- the best of a list, in one pass
+  abbrev pub best_from : (A → Bool) → (A → A → Bool) → Option A → List A → Option A
+  best_from passes gives_way best [] = best
+  best_from passes gives_way best (x ∷ xs) = best_from passes gives_way (kept passes gives_way best x) xs
+
+-- an order of positions: the later wins, or the earlier does, and in either case one best is left
+pub record Settles {A : Type 0} (gives_way : A → A → Bool) : Type 0 where
+  pub onward : (q b z : A) → gives_way q b ≡ true → gives_way b z ≡ true → gives_way q z ≡ true
+  pub past : (b q z : A) → gives_way b q ≡ false → gives_way b z ≡ true → gives_way q z ≡ true
+
+abbrev earlier : {A : Type 0} → (A → Bool) → (A → A → Bool) → A → A → Bool
+earlier passes gives_way x q = not (passes q) || gives_way q x
+
+abbrev later : {A : Type 0} → (A → Bool) → (A → A → Bool) → A → A → Bool
+later passes gives_way x q = not (passes q) || not (gives_way x q)
+
+-- the best of a list seen so far: where it stands, and why
+record IsBest {A : Type 0} (passes : A → Bool) (gives_way : A → A → Bool) (seen : List A) (best : A) : Type 0 where
+  before : List A
+  after : List A
+  split : seen ≡ before ++ best ∷ after
+  passes_it : passes best ≡ true
+  earlier_ones : list_all (earlier passes gives_way best) before ≡ true
+  later_ones : list_all (later passes gives_way best) after ≡ true
+
+NonePasses : {A : Type 0} → (A → Bool) → List A → Type 0
+NonePasses passes seen = list_all (λ x. not (passes x)) seen ≡ true
+
+Best : {A : Type 0} → (A → Bool) → (A → A → Bool) → List A → Option A → Type 0
+Best passes gives_way seen None = NonePasses passes seen
+Best passes gives_way seen (Some best) = IsBest passes gives_way seen best
+
+not_true : (a : Bool) → not a ≡ true → a ≡ false
+not_true true e = absurd (false≢true e)
+not_true false e = refl
+
+not_false : (a : Bool) → a ≡ false → not a ≡ true
+not_false a e = rw e refl
+
+or_first : (a b : Bool) → a ≡ true → (a || b) ≡ true
+or_first a b e = rw e refl
+
+or_second : (a b : Bool) → b ≡ true → (a || b) ≡ true
+or_second true b e = refl
+or_second false b e = e
+
+or_cases : (a b : Bool) → (a || b) ≡ true → (a ≡ true) ⊎ (b ≡ true)
+or_cases true b e = inl refl
+or_cases false b e = inr e
+
+module _ {A : Type 0} (passes : A → Bool) (gives_way : A → A → Bool) (settles : Settles gives_way) where
+  Best-none : (seen : List A) (x : A) → passes x ≡ false → NonePasses passes seen → NonePasses passes (seen ++ x ∷ [])
+  unfolding NonePasses
+  Best-none seen x fails none = list_all-push (λ y. not (passes y)) seen x none (not_false (passes x) fails)
+
+  Best-first : (seen : List A) (x : A) → passes x ≡ true → NonePasses passes seen → IsBest passes gives_way (seen ++ x ∷ []) x
+  unfolding NonePasses
+  Best-first seen x passed none = record {
+    before = seen;
+    after = [];
+    split = refl;
+    passes_it = passed;
+    earlier_ones = list_all-follows (λ y. not (passes y)) (earlier passes gives_way x) seen (λ y e. or_first _ _ e) none;
+    later_ones = refl;
+  }
+
+  -- the best stays where the next one fails, or is not given way to
+  Best-stays : (seen : List A) (best x : A) → later passes gives_way best x ≡ true → IsBest passes gives_way seen best → IsBest passes gives_way (seen ++ x ∷ []) best
+  Best-stays seen best x stays is = record {
+    before = is.before;
+    after = is.after ++ x ∷ [];
+    split = ap (λ s. s ++ x ∷ []) is.split ∙ append_assoc is.before (best ∷ is.after) (x ∷ []);
+    passes_it = is.passes_it;
+    earlier_ones = is.earlier_ones;
+    later_ones = list_all-push (later passes gives_way best) is.after x is.later_ones stays;
+  }
+
+  -- or it gives way
+  Best-gives : (seen : List A) (best x : A) → passes x ≡ true → gives_way best x ≡ true → IsBest passes gives_way seen best → IsBest passes gives_way (seen ++ x ∷ []) x
+  Best-gives seen best x passed gives is = record {
+    before = seen;
+    after = [];
+    split = refl;
+    passes_it = passed;
+    earlier_ones = ap (list_all (earlier passes gives_way x)) is.split ∙ list_all-append (earlier passes gives_way x) is.before (best ∷ is.after)
+        ∙ both _ _
+        (list_all-follows (earlier passes gives_way best) (earlier passes gives_way x) is.before
+        (λ q e. ⊎_elim (λ fails. or_first _ _ fails) (λ gave. or_second _ _ (settles.onward q best x gave gives)) (or_cases _ _ e)) is.earlier_ones)
+        (both _ _ (or_second _ _ gives)
+        (list_all-follows (later passes gives_way best) (earlier passes gives_way x) is.after
+        (λ q e. ⊎_elim (λ fails. or_first _ _ fails) (λ stood. or_second _ _ (settles.past best q x (not_true _ stood) gives)) (or_cases _ _ e)) is.later_ones));
+    later_ones = refl;
+  }
+
+  Best-kept : (seen : List A) (best : Option A) (x : A) → Best passes gives_way seen best → Best passes gives_way (seen ++ x ∷ []) (kept passes gives_way best x)
+  unfolding Best
+  Best-kept seen None x is = elim (cases_Bool (passes x)) [
+    | inl passed ↦ rw passed (Best-first seen x passed is)
+    | inr fails ↦ rw fails (Best-none seen x fails is)
+  ]
+  Best-kept seen (Some best) x is = elim (cases_Bool (passes x)) [
+    | inr fails ↦ rw fails (Best-stays seen best x (or_first _ _ (not_false (passes x) fails)) is)
+    | inl passed ↦ elim (cases_Bool (gives_way best x)) [
+      | inl gives ↦ rw (passed, gives) (Best-gives seen best x passed gives is)
+      | inr stands ↦ rw (passed, stands) (Best-stays seen best x (or_second _ _ (not_false _ stands)) is)
+    ]
+  ]
+
+  Best-all : (seen : List A) (best : Option A) (xs : List A) → Best passes gives_way seen best → Best passes gives_way (seen ++ xs) (best_from passes gives_way best xs)
+  Best-all seen best [] is = subst (λ s. Best passes gives_way s best) (sym (append_nil seen)) is
+  Best-all seen best (x ∷ xs) is =
+      subst (λ s. Best passes gives_way s (best_from passes gives_way (kept passes gives_way best x) xs)) (append_assoc seen (x ∷ []) xs)
+      (Best-all (seen ++ x ∷ []) (kept passes gives_way best x) xs (Best-kept seen best x is))
+
+module _ {A : Type 0} (passes : A → Bool) (gives_way : A → A → Bool) where
+  last_holds : (test : A → Bool) (xs : List A) (x : A) (ys : List A) → list_all test (xs ++ x ∷ ys) ≡ true → test x ≡ true
+  last_holds test xs x ys all = first_of _ _ (second_of _ _ (sym (list_all-append test xs (x ∷ ys)) ∙ all))
+
+  not_later : (y best : A) → passes y ≡ true → passes best ≡ true → gives_way y best ≡ true → later passes gives_way y best ≡ false
+  not_later y best passed passed_best gives = rw (passed_best, gives) refl
+
+  -- no element before the best is chosen
+  not_chosen : (before : List A) (y : A) (ys : List A) (best : A) (after : List A) → passes best ≡ true → earlier passes gives_way best y ≡ true
+      → is_chosen passes gives_way before y (ys ++ best ∷ after) ≡ false
+  not_chosen before y ys best after passed_best gives =
+      elim (cases_Bool (is_chosen passes gives_way before y (ys ++ best ∷ after))) [
+        | inr fails ↦ fails
+        | inl is ↦
+            let passed = first_of _ _ is in
+            let last = last_holds (later passes gives_way y) ys best after (second_of _ _ (second_of _ _ is)) in
+            ⊎_elim (λ fails. absurd (false≢true (sym (not_true _ fails) ∙ passed)))
+            (λ gave. absurd (false≢true (sym (not_later y best passed passed_best gave) ∙ last)))
+            (or_cases _ _ gives)
+      ]
+
+  chosen_from-found : (before ys : List A) (best : A) (after : List A) → passes best ≡ true
+      → list_all (earlier passes gives_way best) (before ++ ys) ≡ true → list_all (later passes gives_way best) after ≡ true
+      → chosen_from passes gives_way before (ys ++ best ∷ after) ≡ Some best
+  chosen_from-found before [] best after passed_best before_all after_all =
+      let here : is_chosen passes gives_way before best after ≡ true =
+      both _ _ passed_best (both _ _ (ap (list_all (earlier passes gives_way best)) (sym (append_nil before)) ∙ before_all) after_all) in
+      rw here refl
+  chosen_from-found before (y ∷ ys) best after passed_best before_all after_all =
+      let gives = last_holds (earlier passes gives_way best) before y ys before_all in
+      let not_here = not_chosen before y ys best after passed_best gives in
+      let shifted : list_all (earlier passes gives_way best) ((before ++ y ∷ []) ++ ys) ≡ true =
+      ap (list_all (earlier passes gives_way best)) (append_assoc before (y ∷ []) ys) ∙ before_all in
+      rw not_here (chosen_from-found (before ++ y ∷ []) ys best after passed_best shifted after_all)
+
+  chosen_from-none : (before xs : List A) → NonePasses passes xs → chosen_from passes gives_way before xs ≡ None
+  unfolding NonePasses
+  chosen_from-none before [] none = refl
+  chosen_from-none before (x ∷ xs) none =
+      let rest = list_all (λ y. not (passes y)) xs in
+      let fails = not_true (passes x) (first_of (not (passes x)) rest none) in
+      let not_here : is_chosen passes gives_way before x xs ≡ false =
+      first_false (passes x) (list_all (earlier passes gives_way x) before && list_all (later passes gives_way x) xs) fails in
+      rw not_here (chosen_from-none (before ++ x ∷ []) xs (second_of (not (passes x)) rest none))
+
+  chosen-Best : (xs : List A) (best : Option A) → Best passes gives_way xs best → chosen passes gives_way xs ≡ best
+  unfolding chosen Best
+  chosen-Best xs None is = chosen_from-none [] xs is
+  chosen-Best xs (Some best) is =
+      ap (chosen_from passes gives_way []) is.split ∙ chosen_from-found [] is.before best is.after is.passes_it is.earlier_ones is.later_ones
+
+  -- the one pass finds the chosen element
+  pub chosen-best_from : Settles gives_way → (xs : List A) → chosen passes gives_way xs ≡ best_from passes gives_way None xs
+  unfolding Best NonePasses
+  chosen-best_from settles xs = chosen-Best xs _ (Best-all passes gives_way settles [] None xs refl)
+
+module _ {A : Type 0} (one two : A → Bool) (gives_way : A → A → Bool) where
+  kept-agree : (best : Option A) (x : A) → one x ≡ two x → kept one gives_way best x ≡ kept two gives_way best x
+  kept-agree None x e = rw e refl
+  kept-agree (Some best) x e = rw e refl
+
+  best_from-agree : (agree : A → Bool) → ((x : A) → agree x ≡ true → one x ≡ two x) → (best : Option A) (xs : List A) → list_all agree xs ≡ true
+      → best_from one gives_way best xs ≡ best_from two gives_way best xs
+  best_from-agree agree follows best [] all = refl
+  best_from-agree agree follows best (x ∷ xs) all =
+      ap (λ b. best_from one gives_way b xs) (kept-agree best x (follows x (first_of _ _ all)))
+      ∙ best_from-agree agree follows (kept two gives_way best x) xs (second_of _ _ all)
+
+  -- two tests that agree on a list choose the same element
+  pub chosen-agree : Settles gives_way → (agree : A → Bool) → ((x : A) → agree x ≡ true → one x ≡ two x) → (xs : List A) → list_all agree xs ≡ true
+      → chosen one gives_way xs ≡ chosen two gives_way xs
+  chosen-agree settles agree follows xs all =
+      chosen-best_from one gives_way settles xs ∙ best_from-agree agree follows None xs all ∙ sym (chosen-best_from two gives_way settles xs)
+
+-- what holds of an option's value, if it has one
+abbrev pub holds_if : {A : Type 0} → (A → Bool) → Option A → Bool
+holds_if test None = true
+holds_if test (Some x) = test x
+
+module _ {A : Type 0} (passes : A → Bool) (gives_way : A → A → Bool) where
+  kept-holds : (test : A → Bool) (best : Option A) (x : A) → (passes x ≡ true → test x ≡ true) → holds_if test best ≡ true → holds_if test (kept passes gives_way best x) ≡ true
+  kept-holds test None x here held = elim (cases_Bool (passes x)) [
+    | inl passed ↦ rw passed (here passed)
+    | inr fails ↦ rw fails refl
+  ]
+  kept-holds test (Some best) x here held = elim (cases_Bool (passes x)) [
+    | inr fails ↦ rw fails held
+    | inl passed ↦ elim (cases_Bool (gives_way best x)) [
+      | inl gives ↦ rw (passed, gives) (here passed)
+      | inr stands ↦ rw (passed, stands) held
+    ]
+  ]
+
+  best_from-holds : (each test : A → Bool) → ((x : A) → each x ≡ true → passes x ≡ true → test x ≡ true) → (best : Option A) (xs : List A) → holds_if test best ≡ true
+      → list_all each xs ≡ true → holds_if test (best_from passes gives_way best xs) ≡ true
+  best_from-holds each test follows best [] held all = held
+  best_from-holds each test follows best (x ∷ xs) held all =
+      best_from-holds each test follows (kept passes gives_way best x) xs
+      (kept-holds test best x (follows x (first_of _ _ all)) held) (second_of _ _ all)
+
+  -- what follows for each element of the list that passes is so of the chosen one
+  pub chosen-holds : Settles gives_way → (each test : A → Bool) → ((x : A) → each x ≡ true → passes x ≡ true → test x ≡ true) → (xs : List A) → list_all each xs ≡ true
+      → holds_if test (chosen passes gives_way xs) ≡ true
+  chosen-holds settles each test follows xs all =
+      ap (holds_if test) (chosen-best_from passes gives_way settles xs) ∙ best_from-holds each test follows None xs refl all

@@ -1,0 +1,3 @@
+pub mod ChosenLemmas
+pub mod DayListLemmas
+pub mod ExceptionLemmas

@@ -1,0 +1,9 @@
+use Rattle.std.specs.Prelude.{Bool}
+use Rattle.std.specs.List.{list_any}
+use Rattle.jiff_core.specs.declared.civil.date.Date.{Date}
+use Rattle.dates.specs.HoldsOn.{holds_on}
+use Rattle.sched.specs.declared.calendar.Calendar.{Calendar}
+
+-- a calendar holds on the days of its entries, all together
+abbrev pub calendar_holds : Calendar → Date → Bool
+calendar_holds calendar day = list_any (λ entry. holds_on entry day) calendar.entries

@@ -1,0 +1,29 @@
+//! Calendars.
+ghost use Rattle.std.specs.Prelude.{◌≡◌};
+ghost use Rattle.dates.specs.HoldsOn.{holds_on};
+ghost use Rattle.sched.specs.Calendar.{calendar_holds};
+
+use dates::{Day, Entry};
+use listing::Listing;
+
+/// A calendar's place in the building's file, from 0.
+#[derive(Clone, Copy, Debug, PartialEq, Eq)]
+pub struct CalId {
+    pub place: usize,
+}
+
+/// A calendar (12.9): it holds on the days of its entries, those of the file and the imported ones
+/// together.
+#[derive(Debug, Drop)]
+pub struct Calendar {
+    pub entries: Listing<Entry>,
+}
+
+impl Calendar {
+    /// Whether some entry holds on the day.
+    pub fn holds(&self, day: Day) -> bool
+        ensures { result ≡ calendar_holds self.now day }
+    {
+        self.entries.as_slice().iter().any(|entry| entry.holds(day))
+    }
+}

@@ -1,0 +1,17 @@
+//! What is this schedule's value on this day at this time?
+//!
+//! Calendars and schedules (ANSI/ASHRAE 135-2016, 12.9 and 12.24, in this desk's profile): the value by
+//! exceptions, weekly lists and default, and the moments of a day at which it changes.
+#![tactic(auto)]
+
+pub use calendar::{CalId, Calendar};
+pub use day_list::{DayList, TimeValue};
+pub use exception::{Exception, Period};
+pub use schedule::Schedule;
+pub use time::Time;
+
+mod calendar;
+mod day_list;
+mod exception;
+mod schedule;
+mod time;
