@@ -10,6 +10,7 @@ pub mod PanelTable
 pub mod PointTable
 pub mod TableFields
 pub mod Utf8Text
+pub mod Replay
 pub mod ReplyText
 pub mod PointLine
 pub mod Status

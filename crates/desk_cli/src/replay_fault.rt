@@ -1,5 +1,7 @@
 //! Why a replay stopped.
 
+ghost use Rattle.std.specs.Prelude.{◌≡◌};
+
 use crate::Status;
 use desk::DeskFault;
 use std::alloc::AllocError;
@@ -22,7 +24,9 @@ pub(crate) enum ReplayFault<'a> {
 
 impl<'a> ReplayFault<'a> {
     /// What the program ends with.
-    pub(crate) fn status(&self) -> Status {
+    pub(crate) fn status(&self) -> Status
+        ensures { (result ≡ Status.Done) → ⊥ }
+    {
         match self {
             ReplayFault::NoMemory => Status::NoMemory,
             _ => Status::Fault,

@@ -1,5 +1,17 @@
 //! The run of a list of deliveries over a building, in memory.
 
+ghost use Rattle.std.specs.Prelude.{◌≡◌, List, ℕ, [], ◌∷◌, IfOk, OnOk, Some, string_bytes};
+ghost use Rattle.std.specs.Io.BufRead.{strip_last};
+ghost use Rattle.std.specs.Io.KnownBytes.{Appends};
+ghost use Rattle.points.specs.Rights.{point_named};
+ghost use Rattle.desk.specs.Held.{tables_held};
+ghost use Rattle.desk.specs.PointState.{state_of};
+ghost use Rattle.desk.specs.Tables.{tables};
+ghost use Rattle.desk.specs.declared.Delivery.{Delivery as a_delivery};
+ghost use Rattle.desk_cli.specs.BuildingFile.{building_of};
+ghost use Rattle.desk_cli.specs.Replay.{Prints, Replays, bytes_of, is_empty_line, lines_of, point_lines};
+ghost use Rattle.desk_cli.specs.Replay.{state_line};
+
 use crate::building_file::{LONGEST_FILE, read_building};
 use crate::line_answer::answer_line;
 use crate::point_line::point_line;
@@ -7,6 +19,7 @@ use crate::replay_fault::ReplayFault;
 use crate::{FileFault, Input, LineFault, Status};
 use desk::Building;
 use desk::machine::Desk;
+use points::Name;
 use std::alloc::Global;
 use std::io::{BufRead, Read, Write};
 
@@ -21,7 +34,12 @@ pub fn replay<B: Read + Drop, D: BufRead + Drop, W: Write, F: Write>(
     deliveries: Input<'_, D>,
     out: &mut W,
     fault: &mut F,
-) -> Status {
+) -> Status
+    ensures done { result ≡ Status.Done → (file_bytes list_bytes : List ℕ)
+        → bytes_of B.remaining file.entry.reader ≡ Some file_bytes
+        → bytes_of D.remaining deliveries.entry.reader ≡ Some list_bytes
+        → Replays file_bytes list_bytes (W.contents out.old) (W.contents out.new) }
+{
     let replayed = replay_over(alloc, file, deliveries, out);
     let flushed = out.flush();
     match replayed {
@@ -39,7 +57,12 @@ fn replay_over<'a, B: Read + Drop, D: BufRead + Drop, W: Write>(
     file: Input<'a, B>,
     deliveries: Input<'a, D>,
     out: &mut W,
-) -> Result<(), ReplayFault<'a>> {
+) -> Result<(), ReplayFault<'a>>
+    ensures { OnOk result ((file_bytes list_bytes : List ℕ)
+        → bytes_of B.remaining file.entry.reader ≡ Some file_bytes
+        → bytes_of D.remaining deliveries.entry.reader ≡ Some list_bytes
+        → Replays file_bytes list_bytes (W.contents out.old) (W.contents out.new)) }
+{
     let building = building_in(alloc, file)?;
     let mut desk = Desk::new(alloc, building);
     let path = deliveries.path;
@@ -54,7 +77,10 @@ fn replay_over<'a, B: Read + Drop, D: BufRead + Drop, W: Write>(
 fn building_in<'a, B: Read + Drop>(
     alloc: Global,
     file: Input<'a, B>,
-) -> Result<Building, ReplayFault<'a>> {
+) -> Result<Building, ReplayFault<'a>>
+    ensures { IfOk result (λ building. (bytes : List ℕ)
+        → bytes_of B.remaining file.entry.reader ≡ Some bytes → building_of bytes ≡ Some building) }
+{
     let path = file.path;
     let mut bytes = Vec::new(alloc);
     match file.reader {
@@ -80,13 +106,20 @@ fn print_replies<'a, D: BufRead + Drop, W: Write>(
     path: &'a str,
     mut reader: D,
     out: &mut W,
-) -> Result<(), ReplayFault<'a>> {
+) -> Result<(), ReplayFault<'a>>
+    ensures prints { OnOk result ((bytes : List ℕ) (E : List a_delivery)
+        → D.remaining reader ≡ Some bytes
+        → tables_held desk.old ≡ tables desk.old.building E
+        → Prints desk.old.building E (lines_of bytes) (W.contents out.old) (W.contents out.new)
+        (tables_held desk.new)) }
+    ensures building { desk.new.building ≡ desk.old.building }
+{
     let mut line = Vec::new(alloc);
     for number in 1..u64::MAX {
         line.clear();
         match reader.read_until(b'\n', &mut line) {
             Ok(0) => return Ok(()),
-            Ok(_) => print_reply(alloc, desk, number, line.as_slice(), out)?,
+            Ok(_) => print_reply(alloc, desk, number, without_end(line.as_slice()), out)?,
             Err(error) => return Err(ReplayFault::of_read(&error, path)),
         }
     }
@@ -100,17 +133,29 @@ fn print_reply<'a, W: Write>(
     number: u64,
     line: &[u8],
     out: &mut W,
-) -> Result<(), ReplayFault<'a>> {
-    let line = without_end(line);
+) -> Result<(), ReplayFault<'a>>
+    ensures prints { OnOk result ((E : List a_delivery)
+        → tables_held desk.old ≡ tables desk.old.building E
+        → Prints desk.old.building E (line.now ∷ []) (W.contents out.old) (W.contents out.new)
+        (tables_held desk.new)) }
+    ensures building { desk.new.building ≡ desk.old.building }
+{
     if is_empty(line) {
         return Ok(());
     }
     match answer_line(alloc, desk, line) {
-        Ok(text) => out
-            .write_all(text.as_slice())
-            .map_err(|_| ReplayFault::OutputFailed),
+        Ok(text) => print_text(out, text.as_slice()),
         Err(LineFault::NotDelivery) => Err(ReplayFault::NotDelivery { line: number }),
         Err(LineFault::NoMemory) => Err(ReplayFault::NoMemory),
+    }
+}
+
+fn print_text<'a, W: Write>(out: &mut W, text: &[u8]) -> Result<(), ReplayFault<'a>>
+    ensures { OnOk result (Appends (W.contents out.old) (W.contents out.new) text.now) }
+{
+    match out.write_all(text) {
+        Ok(()) => Ok(()),
+        Err(_) => Err(ReplayFault::OutputFailed),
     }
 }
 
@@ -119,32 +164,49 @@ fn print_points<'a, W: Write>(
     alloc: Global,
     desk: &mut Desk,
     out: &mut W,
-) -> Result<(), ReplayFault<'a>> {
+) -> Result<(), ReplayFault<'a>>
+    ensures { OnOk result (Appends (W.contents out.old) (W.contents out.new)
+        (point_lines desk.old.building (tables_held desk.old))) }
+{
     let count = desk.building().points.as_slice().len();
     for place in 0..count {
         let name = desk.building().points.as_slice()[place].name.clone()?;
-        let line = match desk.point(&name)? {
-            Some(state) => point_line(alloc, &name, state.present, state.priority)?,
-            None => return Err(ReplayFault::NoMemory),
-        };
-        if out.write_all(line.as_bytes()).is_err() {
-            return Err(ReplayFault::OutputFailed);
-        }
+        let text = point_text(alloc, desk, &name)?;
+        print_text(out, text.as_bytes())?;
     }
     Ok(())
 }
 
+/// The POINT line of a point, or no line where the building lacks it.
+fn point_text<'a>(alloc: Global, desk: &mut Desk, name: &Name) -> Result<String, ReplayFault<'a>>
+    ensures text { IfOk result (λ text. string_bytes text ≡ state_line name.now
+        (state_of ((tables_held desk.old).places name.now)
+        (point_named desk.old.building.points name.now))) }
+    ensures same { tables_held desk.new ≡ tables_held desk.old }
+    ensures building { desk.new.building ≡ desk.old.building }
+{
+    match desk.point(name)? {
+        Some(state) => Ok(point_line(alloc, name, state.present, state.priority)?),
+        None => Ok(String::new(alloc)),
+    }
+}
+
 /// The line without its LF.
-fn without_end(line: &[u8]) -> &[u8] {
-    match line {
-        [start @ .., b'\n'] => start,
-        _ => line,
+fn without_end(line: &[u8]) -> &[u8]
+    ensures { result.now ≡ strip_last 10 line.now }
+{
+    if !line.is_empty() && line[line.len() - 1] == b'\n' {
+        &line[..line.len() - 1]
+    } else {
+        line
     }
 }
 
 /// Whether nothing stands in the line, or a CR alone.
-fn is_empty(line: &[u8]) -> bool {
-    matches!(line, [] | [b'\r'])
+fn is_empty(line: &[u8]) -> bool
+    ensures { result ≡ is_empty_line line.now }
+{
+    matches!(line, b"" | b"\r")
 }
 
 #[cfg(test)]

@@ -1,0 +1,224 @@
+-- Printing one line after another.
+use Rattle.std.proofs.Common.{◌≡◌, ℕ, suc, ◌+◌, ◌-◌, ◌<◌, ◌==◌, ◌&&◌, ◌++◌, Bool, true, false, List, [], ◌∷◌, length, take, get_or, Option, Some, None, IfSome, option_map, option_and_then, cond, lt-ltb, nat_le, refl, sym, ap, ap₂, subst, ◌∙◌, append_assoc, arith}
+use Rattle.std.proofs.lemmas.Bool.{leb-false, leb-true}
+use Rattle.std.proofs.lemmas.Grind.{flat_map-append}
+use Rattle.std.proofs.lemmas.List.{length-take-le, take_all, take_more}
+use Rattle.std.specs.List.{flat_map}
+use Rattle.std.specs.Io.KnownBytes.{Appends, IsAtEnd, Keeps}
+use Rattle.std.specs.Io.BufRead.{DropsThrough, drop_through, strip_last, take_through}
+use Rattle.desk.specs.declared.Building.{Building}
+use Rattle.desk.specs.declared.Delivery.{Delivery}
+use Rattle.desk.specs.declared.Reply.{Reply}
+use Rattle.desk.specs.Reply.{replies, reply}
+use Rattle.desk.specs.Tables.{Tables, tables}
+use Rattle.points.specs.declared.Point.{Point}
+use Rattle.points.specs.Rights.{point_named}
+use Rattle.desk.specs.PointState.{state_of}
+use Rattle.desk_cli.specs.BuildingFile.{building_of, longest_file}
+use Rattle.desk_cli.specs.DeliveryLine.{delivery_of}
+use Rattle.desk_cli.specs.Replay.{Prints, Replays, is_empty_line, line_of_point, lines_of, point_lines, reply_lines, state_line, told_by, with_first}
+use Rattle.desk_cli.specs.ReplyText.{reply_line}
+
+pub Appends-Appends : (a b c : Option (List ℕ)) (x y : List ℕ) → Appends a b x → Appends b c y → Appends a c (x ++ y)
+Appends-Appends None b c x y h k = tt
+Appends-Appends (Some xs) None c x y h k = absurd h
+Appends-Appends (Some xs) (Some ys) None x y h k = absurd k
+Appends-Appends (Some xs) (Some ys) (Some zs) x y h k = k ∙ ap (λ t. t ++ y) h ∙ append_assoc xs x y
+
+pub Appends-Keeps : (a b c : Option (List ℕ)) (x : List ℕ) → Appends a b x → Keeps b c → Appends a c x
+Appends-Keeps None b c x h k = tt
+Appends-Keeps (Some xs) None c x h k = absurd h
+Appends-Keeps (Some xs) (Some ys) None x h k = absurd k
+Appends-Keeps (Some xs) (Some ys) (Some zs) x h k = k ∙ h
+
+append-nil : {A : Type 0} (xs : List A) → xs ++ [] ≡ xs
+append-nil [] = refl
+append-nil (x ∷ xs) = ap (λ t. x ∷ t) (append-nil xs)
+
+pub Appends-nothing : (a : Option (List ℕ)) → Appends a a []
+Appends-nothing None = tt
+Appends-nothing (Some xs) = sym (append-nil xs)
+
+-- ---- replies and lines, one part after another
+
+replies-append : (b : Building) (E ds es : List Delivery) → replies b E (ds ++ es) ≡ replies b E ds ++ replies b (E ++ ds) es
+replies-append b E [] es = ap (λ F. replies b F es) (sym (append-nil E))
+replies-append b E (d ∷ ds) es = ap (λ t. reply b E d ∷ t) (replies-append b (E ++ d ∷ []) ds es ∙ ap (λ F. replies b (E ++ d ∷ []) ds ++ replies b F es) (append_assoc E (d ∷ []) ds))
+
+some_same : {A : Type 0} {x y : A} → Some x ≡ Some y → x ≡ y
+some_same e = cc
+
+told_by-append : (ls ms : List (List ℕ)) (ds es : List Delivery) → told_by ls ≡ Some ds → told_by ms ≡ Some es → told_by (ls ++ ms) ≡ Some (ds ++ es)
+told_by-append [] ms ds es p q = q ∙ ap (λ (ts : List Delivery). Some (ts ++ es)) (some_same p)
+told_by-append (l ∷ ls) ms ds es p q = step (is_empty_line l) (delivery_of l) (told_by ls) (told_by (ls ++ ms)) p (λ ts e. told_by-append ls ms ts es e q)
+  where
+    step : (empty : Bool) (one : Option Delivery) (rest all : Option (List Delivery))
+        → cond empty rest (option_and_then (λ d. option_map (λ ts. d ∷ ts) rest) one) ≡ Some ds
+        → ((ts : List Delivery) → rest ≡ Some ts → all ≡ Some (ts ++ es))
+        → cond empty all (option_and_then (λ d. option_map (λ ts. d ∷ ts) all) one) ≡ Some (ds ++ es)
+    step true one rest all e ih = ih ds e
+    step false None rest all e ih = cc
+    step false (Some d) None all e ih = cc
+    step false (Some d) (Some ts) all e ih = rw (ih ts refl) (ap (λ (xs : List Delivery). Some (xs ++ es)) (some_same e))
+
+-- what was printed of some lines, and then of more
+pub Prints-Prints : (b : Building) (E : List Delivery) (ls ms : List (List ℕ)) (w x y : Option (List ℕ)) (t u : Tables)
+    → (first : Prints b E ls w x t) → Prints b (E ++ first.told) ms x y u → Prints b E (ls ++ ms) w y u
+Prints-Prints b E ls ms w x y t u first more = record {
+  told = first.told ++ more.told;
+  told_is = told_by-append ls ms first.told more.told first.told_is more.told_is;
+  printed = subst (λ text. Appends w y text)
+      (sym (flat_map-append reply_line (replies b E first.told) (replies b (E ++ first.told) more.told)) ∙ ap reply_lines (sym (replies-append b E first.told more.told)))
+      (Appends-Appends w x y _ _ first.printed more.printed);
+  holds = more.holds ∙ ap (tables b) (append_assoc E first.told more.told);
+}
+
+-- ---- the next line
+
+under_cons : (b : Bool) (x : ℕ) (xs ys : List ℕ) → cond b (x ∷ xs) (x ∷ ys) ≡ x ∷ cond b xs ys
+under_cons true x xs ys = refl
+under_cons false x xs ys = refl
+
+cut_cons : (x : ℕ) (ws : List ℕ) (k j : ℕ) → k ≡ suc j → cond (get_or (x ∷ ws) k 0 == 10) (take k (x ∷ ws)) (x ∷ ws) ≡ x ∷ cond (get_or ws j 0 == 10) (take j ws) ws
+cut_cons x ws k j e =
+    let P : ℕ → Type 0 = λ n. cond (get_or (x ∷ ws) n 0 == 10) (take n (x ∷ ws)) (x ∷ ws) ≡ x ∷ cond (get_or ws j 0 == 10) (take j ws) ws in
+    subst P (sym e) (under_cons (get_or ws j 0 == 10) x (take j ws) ws)
+
+strip_last-some : (xs : List ℕ) → 0 < length xs → strip_last 10 xs ≡ cond (get_or xs (length xs - 1) 0 == 10) (take (length xs - 1) xs) xs
+strip_last-some xs h = ap (λ b. cond (b && (get_or xs (length xs - 1) 0 == 10)) (take (length xs - 1) xs) xs) (lt-ltb 0 (length xs) h)
+
+strip_last-cons : (x : ℕ) (ws : List ℕ) → 0 < length ws → strip_last 10 (x ∷ ws) ≡ x ∷ strip_last 10 ws
+strip_last-cons x [] h = absurd (omega arith)
+strip_last-cons x (w ∷ ws) h =
+    strip_last-some (x ∷ w ∷ ws) (omega arith) ∙ cut_cons x (w ∷ ws) (suc (suc (length ws)) - 1) (suc (length ws) - 1) (omega arith)
+    ∙ ap (λ l. x ∷ l) (sym (strip_last-some (w ∷ ws) (omega arith)))
+
+strip_last-one : (x : ℕ) (b : Bool) → (x == 10) ≡ b → strip_last 10 (x ∷ []) ≡ cond b [] (x ∷ [])
+strip_last-one x b e = ap (λ t. cond t [] (x ∷ [])) e
+
+some_taken : (y : ℕ) (ys : List ℕ) → 0 < length (take_through 10 (y ∷ ys))
+some_taken y ys = elim (y == 10) as (λ b. 0 < length (cond b (y ∷ []) (y ∷ take_through 10 ys))) [ true ↦ omega arith | false ↦ omega arith ]
+
+next_line : (x : ℕ) (xs : List ℕ) → lines_of (x ∷ xs) ≡ strip_last 10 (take_through 10 (x ∷ xs)) ∷ lines_of (drop_through 10 (x ∷ xs))
+next_line x [] = elim (x == 10) as (λ b. (x == 10) ≡ b → lines_of (x ∷ []) ≡ strip_last 10 (take_through 10 (x ∷ [])) ∷ lines_of (drop_through 10 (x ∷ []))) [
+  | true ↦ λ e. rw e (ap (λ l. l ∷ []) (sym (strip_last-one x true e)))
+  | false ↦ λ e. rw e (ap (λ l. l ∷ []) (sym (strip_last-one x false e)))
+] refl
+next_line x (y ∷ ys) = elim (x == 10) as (λ b. (x == 10) ≡ b → lines_of (x ∷ y ∷ ys) ≡ strip_last 10 (take_through 10 (x ∷ y ∷ ys)) ∷ lines_of (drop_through 10 (x ∷ y ∷ ys))) [
+  | true ↦ λ e. rw e (ap (λ l. l ∷ lines_of (y ∷ ys)) (sym (strip_last-one x true e)))
+  | false ↦ λ e. rw e (ap (with_first x) (next_line y ys) ∙ ap (λ l. l ∷ lines_of (drop_through 10 (y ∷ ys))) (sym (strip_last-cons x (take_through 10 (y ∷ ys)) (some_taken y ys))))
+] refl
+
+lines_of-next : (xs : List ℕ) → 0 < length (take_through 10 xs) → lines_of xs ≡ strip_last 10 (take_through 10 xs) ∷ lines_of (drop_through 10 xs)
+lines_of-next [] h = absurd (omega arith)
+lines_of-next (x ∷ xs) h = next_line x xs
+
+-- ---- the way through a reader's bytes
+
+-- of all the bytes, the lines before those that are left were printed
+pub record Progress (b : Building) (E : List Delivery) (bytes : List ℕ) (left old new : Option (List ℕ)) (now : Tables) : Type 0 where
+  pub passed : List (List ℕ)
+  pub rest : List ℕ
+  pub left_is : left ≡ Some rest
+  pub lines_are : lines_of bytes ≡ passed ++ lines_of rest
+  pub prints : Prints b E passed old new now
+
+pub Progress-start : (b : Building) (E : List Delivery) (bytes : List ℕ) (left old : Option (List ℕ)) (now : Tables) → left ≡ Some bytes → now ≡ tables b E → Progress b E bytes left old old now
+Progress-start b E bytes left old now left_is holds = record {
+  passed = [];
+  rest = bytes;
+  left_is = left_is;
+  lines_are = refl;
+  prints = record { told = []; told_is = refl; printed = Appends-nothing old; holds = holds ∙ ap (tables b) (sym (append-nil E)) };
+}
+
+pub Progress-end : (b : Building) (E : List Delivery) (bytes : List ℕ) (left old new : Option (List ℕ)) (now : Tables) → Progress b E bytes left old new now → IsAtEnd left → Prints b E (lines_of bytes) old new now
+Progress-end b E bytes left old new now p end =
+    let at_end : p.rest ≡ [] = subst IsAtEnd p.left_is end in
+    subst (λ ls. Prints b E ls old new now) (sym (p.lines_are ∙ ap (λ r. p.passed ++ lines_of r) at_end ∙ append-nil p.passed)) p.prints
+
+-- one more line was read and printed
+pub Progress-line : (b : Building) (E : List Delivery) (bytes line : List ℕ) (left after old mid new : Option (List ℕ)) (now then : Tables)
+    → Progress b E bytes left old mid now → IfSome left (λ xs. line ≡ take_through 10 xs) → DropsThrough left after 10 → 0 < length line
+    → ((F : List Delivery) → now ≡ tables b F → Prints b F (strip_last 10 line ∷ []) mid new then)
+    → Progress b E bytes after old new then
+Progress-line b E bytes line left after old mid new now then p reads drops some prints =
+    let line_is : line ≡ take_through 10 p.rest = subst (λ o. IfSome o (λ xs. line ≡ take_through 10 xs)) p.left_is reads in
+    let after_is : after ≡ Some (drop_through 10 p.rest) = subst (λ o. DropsThrough o after 10) p.left_is drops in
+    let more : 0 < length (take_through 10 p.rest) = subst (λ l. 0 < length l) line_is some in
+    let next : lines_of p.rest ≡ strip_last 10 line ∷ lines_of (drop_through 10 p.rest) =
+    lines_of-next p.rest more ∙ ap (λ l. strip_last 10 l ∷ lines_of (drop_through 10 p.rest)) (sym line_is) in
+    record {
+      passed = p.passed ++ strip_last 10 line ∷ [];
+      rest = drop_through 10 p.rest;
+      left_is = after_is;
+      lines_are = p.lines_are ∙ ap (λ ls. p.passed ++ ls) next ∙ sym (append_assoc p.passed (strip_last 10 line ∷ []) (lines_of (drop_through 10 p.rest)));
+      prints = Prints-Prints b E p.passed (strip_last 10 line ∷ []) old mid new now then p.prints (prints (E ++ p.prints.told) p.prints.holds);
+    }
+
+-- what is printed stays printed
+pub Replays-Keeps : (file list : List ℕ) (old mid new : Option (List ℕ)) → Replays file list old mid → Keeps mid new → Replays file list old new
+Replays-Keeps file list old mid new r kept = record {
+  building = r.building;
+  told = r.told;
+  building_is = r.building_is;
+  told_is = r.told_is;
+  printed = Appends-Keeps old mid new _ r.printed kept;
+}
+
+-- the replies and then the points
+pub Replays-done : (file list : List ℕ) (b b' b'' : Building) (old mid new : Option (List ℕ)) (now : Tables) → building_of file ≡ Some b → b' ≡ b
+    → Prints b' [] (lines_of list) old mid now → b'' ≡ b' → Appends mid new (point_lines b'' now) → Replays file list old new
+Replays-done file list b b' b'' old mid new now file_is same prints still points = record {
+  building = b';
+  told = prints.told;
+  building_is = file_is ∙ ap Some (sym same);
+  told_is = prints.told_is;
+  printed = Appends-Appends old mid new _ _ prints.printed (subst (λ text. Appends mid new text) (ap₂ point_lines still prints.holds) points);
+}
+
+-- ---- points, one after another
+
+abbrev state_at : List ℕ → Tables → Building → List ℕ
+state_at name t b = state_line name (state_of (t.places name) (point_named b.points name))
+
+pub points-next : (b b' : Building) (t t' : Tables) (ps : List Point) (i : ℕ) (p : Point) (name line shown : List ℕ) (old mid new : Option (List ℕ))
+    → b' ≡ b → t' ≡ t → ps ≡ b'.points → i < length b.points → name ≡ (get_or ps i p).name → line ≡ state_at name t' b' → shown ≡ line
+    → Appends old mid (flat_map (line_of_point b t) (take i b.points)) → Appends mid new shown
+    → Appends old new (flat_map (line_of_point b t) (take (i + 1) b.points))
+points-next b b' t t' ps i p name line shown old mid new b_is t_is ps_are within name_is line_is shown_is before now =
+    let q : Point = get_or b.points i p in
+    let named : name ≡ q.name = name_is ∙ ap (λ (xs : List Point). (get_or xs i p).name) (ps_are ∙ ap (λ (c : Building). c.points) b_is) in
+    let this : shown ≡ line_of_point b t q = shown_is ∙ line_is ∙ ap (λ n. state_at n t' b') named ∙ ap (λ u. state_at q.name u b') t_is ∙ ap (λ c. state_at q.name t c) b_is in
+    let all : flat_map (line_of_point b t) (take (i + 1) b.points) ≡ flat_map (line_of_point b t) (take i b.points) ++ shown =
+    ap (flat_map (line_of_point b t)) (take_more b.points i p within) ∙ flat_map-append (line_of_point b t) (take i b.points) (q ∷ [])
+    ∙ ap (λ l. flat_map (line_of_point b t) (take i b.points) ++ l) (append-nil (line_of_point b t q) ∙ sym this) in
+    subst (λ text. Appends old new text) (sym all) (Appends-Appends old mid new _ _ before now)
+
+-- ---- the file's first bytes
+
+building_of-long : (xs : List ℕ) → nat_le (length xs) longest_file ≡ false → building_of xs ≡ None
+unfolding building_of
+building_of-long xs e = rw e refl
+
+pub building_of-taken : (bytes : List ℕ) (b : Building) → building_of (take 1_048_577 bytes) ≡ Some b → building_of bytes ≡ Some b
+building_of-taken bytes b e = elim (nat_le (length bytes) 1_048_577) as (λ t. nat_le (length bytes) 1_048_577 ≡ t → building_of bytes ≡ Some b) [
+  | true ↦ λ short. ap building_of (sym (take_all 1_048_577 bytes (leb-true (length bytes) 1_048_577 short))) ∙ e
+  | false ↦ λ long.
+      let more : 1_048_577 < length bytes = leb-false (length bytes) 1_048_577 long in
+      let full : length (take 1_048_577 bytes) ≡ 1_048_577 = length-take-le 1_048_577 bytes (omega arith) in
+      let none : building_of (take 1_048_577 bytes) ≡ None = building_of-long (take 1_048_577 bytes) (ap (λ n. nat_le n longest_file) full) in
+      let bad : None ≡ Some b = sym none ∙ e in cc
+] refl
+
+pub taken_bytes : {R : Type 0} (remaining : R → Option (List ℕ)) (limit : ℕ) (inner reader : R) (bytes start buf : List ℕ) → limit ≡ 1_048_577 → inner ≡ reader → start ≡ []
+    → remaining reader ≡ Some bytes → IfSome (option_map (take limit) (remaining inner)) (λ xs. buf ≡ start ++ xs) → buf ≡ take 1_048_577 bytes
+taken_bytes remaining limit inner reader bytes start buf limit_is inner_is start_is known read =
+    let first = subst (λ r. IfSome (option_map (take limit) (remaining r)) (λ xs. buf ≡ start ++ xs)) inner_is read in
+    let then : buf ≡ start ++ take limit bytes = subst (λ o. IfSome (option_map (take limit) o) (λ xs. buf ≡ start ++ xs)) known first in
+    then ∙ ap₂ (λ s n. s ++ take n bytes) start_is limit_is
+
+pub Prints-same : (b b' : Building) (E : List Delivery) (line line' : List ℕ) (old new : Option (List ℕ)) (now : Tables) → b ≡ b' → line ≡ line'
+    → Prints b E (line ∷ []) old new now → Prints b' E (line' ∷ []) old new now
+Prints-same b b' E line line' old new now b_is line_is prints =
+    subst (λ c. Prints c E (line' ∷ []) old new now) b_is (subst (λ l. Prints b E (l ∷ []) old new now) line_is prints)

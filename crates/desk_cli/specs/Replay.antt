@@ -1,0 +1,81 @@
+-- What a replay prints: the replies to the deliveries that the lines tell, and then the points.
+use Rattle.std.specs.Prelude.{◌≡◌, ℕ, Bool, ◌||◌, ◌==◌, List, [], ◌∷◌, ◌++◌, Option, Some, None}
+use Rattle.std.specs.Prelude.{Result, Ok, Err, if◌then◌else◌, option_map}
+use Rattle.std.specs.List.{flat_map}
+use Rattle.std.specs.Str.{bytes_eq}
+use Rattle.std.specs.Io.KnownBytes.{Appends}
+use Rattle.points.specs.declared.Point.{Point}
+use Rattle.points.specs.Rights.{point_named}
+use Rattle.desk.specs.declared.Building.{Building}
+use Rattle.desk.specs.declared.Delivery.{Delivery}
+use Rattle.desk.specs.declared.PointState.{PointState}
+use Rattle.desk.specs.declared.Reply.{Reply}
+use Rattle.desk.specs.PointState.{state_of}
+use Rattle.desk.specs.Reply.{replies}
+use Rattle.desk.specs.Tables.{Tables, tables}
+use Rattle.desk_cli.specs.BuildingFile.{building_of}
+use Rattle.desk_cli.specs.DeliveryLine.{delivery_of}
+use Rattle.desk_cli.specs.PointLine.{point_line}
+use Rattle.desk_cli.specs.ReplyText.{reply_line}
+use Rattle.desk_cli.specs.TableFields.{◌>>=◌}
+
+-- ---- lines
+
+abbrev pub with_first : ℕ → List (List ℕ) → List (List ℕ)
+with_first x [] = (x ∷ []) ∷ []
+with_first x (line ∷ lines) = (x ∷ line) ∷ lines
+
+-- the lines of bytes, each without its LF; after the last LF a line stands only if it has bytes
+abbrev pub lines_of : List ℕ → List (List ℕ)
+lines_of [] = []
+lines_of (x ∷ xs) = if x == 10 then [] ∷ lines_of xs else with_first x (lines_of xs)
+
+-- the line has no bytes, or a CR alone
+abbrev pub is_empty_line : List ℕ → Bool
+is_empty_line line = bytes_eq line [] || bytes_eq line (13 ∷ [])
+
+-- the deliveries that the lines tell, without the empty ones, where each of the others tells one
+abbrev pub told_by : List (List ℕ) → Option (List Delivery)
+told_by [] = Some []
+told_by (line ∷ lines) = if is_empty_line line then told_by lines
+    else (delivery_of line >>= (λ d. option_map (λ ds. d ∷ ds) (told_by lines)))
+
+-- ---- what is printed
+
+abbrev pub reply_lines : List Reply → List ℕ
+reply_lines told = flat_map reply_line told
+
+-- the line of a point that the building has
+abbrev pub state_line : List ℕ → Option PointState → List ℕ
+state_line name None = []
+state_line name (Some state) = point_line name state.present state.priority
+
+abbrev pub line_of_point : Building → Tables → Point → List ℕ
+line_of_point b now point =
+    state_line point.name (state_of (now.places point.name) (point_named b.points point.name))
+
+abbrev pub point_lines : Building → Tables → List ℕ
+point_lines b now = flat_map (line_of_point b now) b.points
+
+-- after the list E the lines tell deliveries, their replies were printed, and the tables are those
+-- of E and these deliveries
+pub record Prints (b : Building) (E : List Delivery) (lines : List (List ℕ)) (old new : Option (List ℕ)) (now : Tables) : Type 0 where
+  pub told : List Delivery
+  pub told_is : told_by lines ≡ Some told
+  pub printed : Appends old new (reply_lines (replies b E told))
+  pub holds : now ≡ tables b (E ++ told)
+
+-- the file is a building, the list tells deliveries, and what was printed is the replies to them
+-- and then the points as they leave them
+pub record Replays (file list : List ℕ) (old new : Option (List ℕ)) : Type 0 where
+  pub building : Building
+  pub told : List Delivery
+  pub building_is : building_of file ≡ Some building
+  pub told_is : told_by (lines_of list) ≡ Some told
+  pub printed : Appends old new
+      (reply_lines (replies building [] told) ++ point_lines building (tables building told))
+
+-- the bytes that an opened reader has left, where they are known
+abbrev pub bytes_of : {R E : Type 0} → (R → Option (List ℕ)) → Result R E → Option (List ℕ)
+bytes_of remaining (Ok reader) = remaining reader
+bytes_of {R} {E} remaining (Err error) = None
