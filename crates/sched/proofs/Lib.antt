@@ -1,3 +1,5 @@
 pub mod ChosenLemmas
 pub mod DayListLemmas
 pub mod ExceptionLemmas
+pub mod SegmentLemmas
+pub mod QuietLemmas

@@ -14,4 +14,5 @@ mod calendar;
 mod day_list;
 mod exception;
 mod schedule;
+mod segments;
 mod time;

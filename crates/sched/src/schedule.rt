@@ -44,7 +44,7 @@ impl Schedule {
         }
     }
 
-    fn weekday_list(&self, day: Day) -> &DayList
+    pub(crate) fn weekday_list(&self, day: Day) -> &DayList
         ensures { result.now ≡ weekday_list self.now day }
     {
         match day.weekday() {

@@ -1,0 +1,6 @@
+use Rattle.std.proofs.Common.{◌≡◌, ◌++◌, map, take}
+use Rattle.sched.specs.Named.{times_of}
+use Rattle.sched.proofs.segments.push_times.Given as goal
+
+abbrev pub invariant-loop-time_value : goal.invariant-loop-time_value
+invariant-loop-time_value l = l.times.items ≡ l.fn.times.items ++ times_of (take l.time_value-index l.list)
