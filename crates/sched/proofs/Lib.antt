@@ -3,3 +3,4 @@ pub mod DayListLemmas
 pub mod ExceptionLemmas
 pub mod SegmentLemmas
 pub mod QuietLemmas
+pub mod LawLemmas

@@ -4,4 +4,5 @@ pub mod DayList
 pub mod Exceptions
 pub mod Named
 pub mod Schedule
+pub mod SegmentLaws
 pub mod Segments

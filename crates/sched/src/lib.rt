@@ -7,12 +7,14 @@
 pub use calendar::{CalId, Calendar};
 pub use day_list::{DayList, TimeValue};
 pub use exception::{Exception, Period};
+pub use laws::{last_segment_has_the_value, value_stands_between_segments};
 pub use schedule::Schedule;
 pub use time::Time;
 
 mod calendar;
 mod day_list;
 mod exception;
+mod laws;
 mod schedule;
 mod segments;
 mod time;
