@@ -17,4 +17,6 @@ mod exception;
 mod laws;
 mod schedule;
 mod segments;
+#[cfg(test)]
+mod tests;
 mod time;
