@@ -91,6 +91,19 @@ fn assert_segments(
     Ok(())
 }
 
+fn assert_values(
+    rt: &impl Abort,
+    segments: &[TimeValue],
+    wanted: &[(u32, i64)],
+) -> Result<(), Fail> {
+    assert_eq!(rt; segments.len(), wanted.len(), "{segments:?}");
+    for (segment, (at, value)) in segments.iter().zip(wanted) {
+        assert_eq!(rt; segment.time, hour(*at)?);
+        assert_eq!(rt; segment.value, Some(*value));
+    }
+    Ok(())
+}
+
 #[test]
 fn of_equal_times_the_later_in_the_list_counts(rt: HostRuntime) -> Result<(), Fail> {
     let alloc = rt.alloc();
@@ -164,6 +177,24 @@ fn a_schedule_is_active_in_its_effective_period(rt: HostRuntime) -> Result<(), F
         assert_eq!(rt; schedule.is_active(day), active);
     }
     Ok(())
+}
+
+#[test]
+fn a_holiday_an_exception_the_weekly_list_and_the_default(rt: HostRuntime) -> Result<(), Fail> {
+    let alloc = rt.alloc();
+    let holidays = [calendar(alloc, "2025-06-02")?];
+    let of_holidays = Period::Calendar(CalId { place: 0 });
+    let mut exceptions = Vec::new(alloc);
+    exceptions.push(exception(alloc, of_holidays, 5, &[(0, Some(1500)), (12, None)])?)?;
+    exceptions.push(exception(alloc, every_day()?, 3, &[(6, Some(1700)), (7, None)])?)?;
+    let mut schedule = schedule(alloc, &[(8, Some(2100))], exceptions, Some(1600))?;
+    schedule.weekly[1] = list(alloc, &[])?;
+    let monday = schedule.segments(alloc, holidays.as_slice(), monday()?)?;
+    let wanted = [(0, 1500), (6, 1700), (7, 1500), (12, 2100)];
+    assert_values(&rt, monday.as_slice(), wanted.as_slice())?;
+    let day = Day::new(2025, 6, 3).ok_or("no day")?;
+    let tuesday = schedule.segments(alloc, holidays.as_slice(), day)?;
+    assert_values(&rt, tuesday.as_slice(), &[(0, 1600), (6, 1700), (7, 1600)])
 }
 
 #[test]
