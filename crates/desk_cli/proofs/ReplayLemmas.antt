@@ -8,7 +8,6 @@ use Rattle.std.specs.Io.KnownBytes.{Appends, IsAtEnd, Keeps}
 use Rattle.std.specs.Io.BufRead.{DropsThrough, drop_through, strip_last, take_through}
 use Rattle.desk.specs.declared.Building.{Building}
 use Rattle.desk.specs.declared.Delivery.{Delivery}
-use Rattle.desk.specs.declared.Reply.{Reply}
 use Rattle.desk.specs.Reply.{replies, reply}
 use Rattle.desk.specs.Tables.{Tables, tables}
 use Rattle.points.specs.declared.Point.{Point}
@@ -30,6 +29,10 @@ Appends-Keeps None b c x h k = tt
 Appends-Keeps (Some xs) None c x h k = absurd h
 Appends-Keeps (Some xs) (Some ys) None x h k = absurd k
 Appends-Keeps (Some xs) (Some ys) (Some zs) x h k = k ∙ h
+
+pub Keeps-same : (a : Option (List ℕ)) → Keeps a a
+Keeps-same None = tt
+Keeps-same (Some xs) = refl
 
 append-nil : {A : Type 0} (xs : List A) → xs ++ [] ≡ xs
 append-nil [] = refl

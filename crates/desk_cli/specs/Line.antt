@@ -1,5 +1,5 @@
 -- What the words of a command line ask of the program, by `clap`'s own reading of them.
-use Rattle.std.specs.Prelude.{ℕ, true, List, [], ◌∷◌, Option, Some, None, codes}
+use Rattle.std.specs.Prelude.{true, List, Option, None, codes}
 use Rattle.std.specs.Prelude.{if◌then◌else◌, option_and_then, option_map}
 use Rattle.std.specs.Str.{bytes_eq}
 use Rattle.clap.specs.Words.{App, Row, Rule, Text, first_of, new_app, new_rule, subcommand_of}

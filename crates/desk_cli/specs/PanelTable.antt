@@ -1,6 +1,6 @@
 -- The panel that a `[[panel]]` table names, beside the points of the building.
 use Rattle.std.specs.Prelude.{ℕ, ℤ, pos, negsuc, Bool, not, nat_le, ◌&&◌, ◌==◌, List}
-use Rattle.std.specs.Prelude.{[], ◌∷◌, Option, Some, None, codes, if◌then◌else◌}
+use Rattle.std.specs.Prelude.{[], ◌∷◌, Option, None, codes}
 use Rattle.std.specs.List.{list_all, list_any}
 use Rattle.toml.specs.Data.{Data, Members, as_integer, as_str}
 use Rattle.points.specs.Rights.{is_same}

@@ -1,5 +1,5 @@
 -- The point that a `[[point]]` table names.
-use Rattle.std.specs.Prelude.{ℕ, ℤ, Bool, pos, neg_ℤ, int_le, ◌&&◌, List, [], ◌∷◌, Option, Some}
+use Rattle.std.specs.Prelude.{ℕ, ℤ, Bool, pos, neg_ℤ, int_le, ◌&&◌, List, [], ◌∷◌, Option}
 use Rattle.std.specs.Prelude.{None, codes, if◌then◌else◌}
 use Rattle.std.specs.Str.{bytes_eq}
 use Rattle.toml.specs.Data.{Members}

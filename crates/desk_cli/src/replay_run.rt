@@ -2,7 +2,7 @@
 
 ghost use Rattle.std.specs.Prelude.{◌≡◌, List, ℕ, [], ◌∷◌, IfOk, OnOk, Some, string_bytes};
 ghost use Rattle.std.specs.Io.BufRead.{strip_last};
-ghost use Rattle.std.specs.Io.KnownBytes.{Appends};
+ghost use Rattle.std.specs.Io.KnownBytes.{Appends, Keeps};
 ghost use Rattle.points.specs.Rights.{point_named};
 ghost use Rattle.desk.specs.Held.{tables_held};
 ghost use Rattle.desk.specs.PointState.{state_of};
@@ -39,6 +39,7 @@ pub fn replay<B: Read + Drop, D: BufRead + Drop, W: Write, F: Write>(
         → bytes_of B.remaining file.entry.reader ≡ Some file_bytes
         → bytes_of D.remaining deliveries.entry.reader ≡ Some list_bytes
         → Replays file_bytes list_bytes (W.contents out.old) (W.contents out.new) }
+    ensures quiet { result ≡ Status.Done → Keeps (F.contents fault.old) (F.contents fault.new) }
 {
     let replayed = replay_over(alloc, file, deliveries, out);
     let flushed = out.flush();

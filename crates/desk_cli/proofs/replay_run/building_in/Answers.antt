@@ -1,4 +1,4 @@
-use Rattle.std.proofs.Common.{◌≡◌, ◌∙◌, ℕ, List, Some, take, sym, ap}
+use Rattle.std.proofs.Common.{◌≡◌, ◌∙◌, Some, take, sym, ap}
 use Rattle.desk_cli.specs.BuildingFile.{building_of}
 use Rattle.desk_cli.proofs.ReplayLemmas.{building_of-taken, taken_bytes}
 use Rattle.desk_cli.proofs.replay_run.building_in.Goals as goal

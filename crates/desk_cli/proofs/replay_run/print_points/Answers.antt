@@ -1,4 +1,4 @@
-use Rattle.std.proofs.Common.{◌≡◌, ◌∙◌, sym, rules, arith}
+use Rattle.std.proofs.Common.{◌∙◌, rules, arith}
 use Rattle.desk.specs.Held.{tables_held}
 use Rattle.desk_cli.proofs.ReplayLemmas.{points-next}
 use Rattle.desk_cli.proofs.replay_run.print_points.Goals as goal

@@ -1,6 +1,5 @@
-use Rattle.std.proofs.Common.{◌≡◌, ◌∙◌, ◌++◌, ℕ, ◌<◌, List, [], ◌∷◌, length, subst, sym, ap, rules, arith}
+use Rattle.std.proofs.Common.{◌≡◌, ◌∙◌, ◌++◌, ℕ, List, subst, sym, ap, rules, arith}
 use Rattle.desk.specs.declared.Building.{Building}
-use Rattle.desk.specs.declared.Delivery.{Delivery}
 use Rattle.desk.specs.Held.{tables_held}
 use Rattle.desk.specs.Tables.{tables}
 use Rattle.desk_cli.proofs.ReplayLemmas.{Progress-end, Progress-line, Progress-start, Prints-same}

@@ -1,4 +1,4 @@
-use Rattle.std.proofs.Common.{◌≡◌, ℕ, List, Option, Some}
+use Rattle.std.proofs.Common.{◌≡◌, ℕ, List, Some}
 use Rattle.desk.specs.declared.Delivery.{Delivery}
 use Rattle.desk.specs.Held.{tables_held}
 use Rattle.desk.specs.Tables.{tables}

@@ -1,4 +1,4 @@
-use Rattle.std.proofs.Common.{◌≡◌, ◌∙◌, [], OnOk, Some, sym, ap}
+use Rattle.std.proofs.Common.{◌≡◌, ◌∙◌, [], Some, sym, ap}
 use Rattle.std.proofs.lemmas.Result.{on_ok_weaker}
 use Rattle.desk.specs.declared.Building.{Building}
 use Rattle.desk.specs.Held.{tables_held}

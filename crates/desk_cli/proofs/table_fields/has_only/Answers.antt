@@ -1,7 +1,6 @@
-use Rattle.std.proofs.Common.{◌≡◌, ◌∙◌, ℕ, List, [], ◌∷◌, ◌&&◌, ◌||◌, map, String, BTreeMap, Global, string_bytes, Bor, bytes_eq, refl, ap, ap₂, rules}
+use Rattle.std.proofs.Common.{◌≡◌, ◌∙◌, ℕ, List, [], ◌∷◌, ◌&&◌, ◌||◌, map, string_bytes, Bor, bytes_eq, refl, ap, ap₂}
 use Rattle.std.specs.List.{list_all, list_any}
 use Rattle.std.specs.Map.{keys_of}
-use Rattle.std.specs.BTreeMap.{keys}
 use Rattle.toml.proofs.Views.{Entry}
 use Rattle.toml.specs.View.{members_view}
 use Rattle.desk_cli.specs.TableFields.{has_only}
