@@ -25,7 +25,7 @@ pub record Machine : Type 0 where
 abbrev pub opening_machine : Machine
 opening_machine = record { places = λ point. empty; answers = λ panel number. Refused X1 }
 
--- the least rule against a panel's content
+-- the least rule against a panel's content; a panel that the building lacks has no event
 abbrev pub rule_for : Building → Text → Content → Option Rule
 rule_for b panel content = option_map_or (λ p. rule_of b.points p content) (panel_named b panel) (Some X1)
 

@@ -49,10 +49,9 @@ fn number_in_range(number: i64) -> Option<u64>
     ensures least { IfSome result (λ n. 1 ≤ n) }
     ensures last { IfSome result (λ n. n ≤ LAST_NUMBER) }
 {
-    if 1 <= number && number <= 1_000_000_000_000 {
-        Some(number as u64)
-    } else {
-        None
+    match u64::try_from(number) {
+        Ok(natural) if 1 <= natural && natural <= LAST_NUMBER => Some(natural),
+        _ => None,
     }
 }
 
