@@ -11,6 +11,7 @@ pub mod PointTable
 pub mod TableFields
 pub mod Utf8Text
 pub mod Replay
+pub mod ReplayFault
 pub mod ReplyText
 pub mod PointLine
 pub mod Status

@@ -13,6 +13,11 @@ pub enum FileFault {
 }
 
 impl fmt::Display for FileFault {
+    ghost use Rattle.std.specs.Prelude.{Some};
+    ghost use Rattle.desk_cli.specs.FileFault.{line_of};
+
+    ghost output = { λ fault. Some (line_of fault) };
+
     fn fmt<W: fmt::Write>(&self, f: &mut fmt::Formatter<W>) -> fmt::Result {
         f.write_str(match self {
             FileFault::Refused => "desk: building refused",

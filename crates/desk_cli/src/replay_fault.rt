@@ -43,6 +43,11 @@ impl<'a> ReplayFault<'a> {
 }
 
 impl fmt::Display for ReplayFault<'_> {
+    ghost use Rattle.std.specs.Prelude.{Some};
+    ghost use Rattle.desk_cli.specs.ReplayFault.{line_of};
+
+    ghost output = { λ fault. Some (line_of fault) };
+
     fn fmt<W: fmt::Write>(&self, f: &mut fmt::Formatter<W>) -> fmt::Result {
         match self {
             ReplayFault::CannotRead { path } => write!(f, "desk: cannot read {path}"),
@@ -55,12 +60,20 @@ impl fmt::Display for ReplayFault<'_> {
 }
 
 impl From<AllocError> for ReplayFault<'_> {
+    ghost use Rattle.desk_cli.specs.declared.replay_fault.ReplayFault.{ReplayFault};
+
+    ghost from_gives = { λ _ fault. fault ≡ ReplayFault.NoMemory };
+
     fn from(_error: AllocError) -> Self {
         ReplayFault::NoMemory
     }
 }
 
 impl From<DeskFault> for ReplayFault<'_> {
+    ghost use Rattle.desk_cli.specs.declared.replay_fault.ReplayFault.{ReplayFault};
+
+    ghost from_gives = { λ _ fault. fault ≡ ReplayFault.NoMemory };
+
     fn from(_fault: DeskFault) -> Self {
         ReplayFault::NoMemory
     }

@@ -41,12 +41,10 @@ pub fn replay<B: Read + Drop, D: BufRead + Drop, W: Write, F: Write>(
         → Replays file_bytes list_bytes (W.contents out.old) (W.contents out.new) }
     ensures quiet { result ≡ Status.Done → Keeps (F.contents fault.old) (F.contents fault.new) }
 {
-    let replayed = replay_over(alloc, file, deliveries, out);
-    let flushed = out.flush();
-    match replayed {
-        Ok(()) if flushed.is_ok() => Status::Done,
-        Ok(()) => Status::Fault,
+    match replay_over(alloc, file, deliveries, out) {
+        Ok(()) => Status::Done,
         Err(end) => {
+            let _flushed = out.flush();
             let _told = writeln!(fault, "{end}");
             end.status()
         }
@@ -71,7 +69,8 @@ fn replay_over<'a, B: Read + Drop, D: BufRead + Drop, W: Write>(
         Ok(reader) => print_replies(alloc, &mut desk, path, reader, out)?,
         Err(error) => return Err(ReplayFault::of_read(&error, path)),
     }
-    print_points(alloc, &mut desk, out)
+    print_points(alloc, &mut desk, out)?;
+    flush(out)
 }
 
 /// The building of a file.
@@ -155,6 +154,15 @@ fn print_text<'a, W: Write>(out: &mut W, text: &[u8]) -> Result<(), ReplayFault<
     ensures { OnOk result (Appends (W.contents out.old) (W.contents out.new) text.now) }
 {
     match out.write_all(text) {
+        Ok(()) => Ok(()),
+        Err(_) => Err(ReplayFault::OutputFailed),
+    }
+}
+
+fn flush<'a, W: Write>(out: &mut W) -> Result<(), ReplayFault<'a>>
+    ensures { Keeps (W.contents out.old) (W.contents out.new) }
+{
+    match out.flush() {
         Ok(()) => Ok(()),
         Err(_) => Err(ReplayFault::OutputFailed),
     }

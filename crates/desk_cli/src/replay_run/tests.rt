@@ -389,6 +389,7 @@ fn ends_with_a_fault_where_the_output_fails(rt: HostRuntime) -> Result<(), Fail>
             reader: Ok(SET_1.as_bytes()),
         };
         assert!(rt; replay(alloc, file, list, &mut out, &mut fault) == Status::Fault);
+        assert!(rt; fault.as_slice() == b"desk: cannot write\n".as_slice());
     }
     Ok(())
 }

@@ -1,11 +1,8 @@
-use Rattle.desk_cli.proofs.ReplayLemmas.{Keeps-same, Replays-Keeps}
+use Rattle.desk_cli.proofs.ReplayLemmas.{Keeps-same}
 use Rattle.desk_cli.proofs.replay_run.replay.Goals as goal
 
 pub returns-in-Ok : goal.returns-in-Ok
-returns-in-Ok g c = record {
-  done = λ e file_bytes list_bytes file list. Replays-Keeps file_bytes list_bytes _ _ _ (c.in-Ok.ensures file_bytes list_bytes file list) c.flush-flushed.ensures.bytes;
-  quiet = λ e. Keeps-same _;
-}
+returns-in-Ok g c = record { done = λ e. c.in-Ok.ensures; quiet = λ e. Keeps-same _ }
 
 pub returns-in-Err : goal.returns-in-Err
 returns-in-Err g c = record { done = λ e file_bytes list_bytes file list. absurd (c.status.ensures e); quiet = λ e. absurd (c.status.ensures e) }

@@ -1,18 +1,23 @@
-use Rattle.std.proofs.Common.{◌≡◌, ◌∙◌, [], Some, sym, ap}
-use Rattle.std.proofs.lemmas.Result.{on_ok_weaker}
+use Rattle.std.proofs.Common.{◌≡◌, ◌∙◌, [], Err, Ok, OnOk, Result, Some, sym, ap}
 use Rattle.desk.specs.declared.Building.{Building}
 use Rattle.desk.specs.Held.{tables_held}
 use Rattle.desk.specs.Tables.{tables}
-use Rattle.desk_cli.proofs.ReplayLemmas.{Replays-done}
+use Rattle.desk_cli.proofs.ReplayLemmas.{Replays-Keeps, Replays-done}
 use Rattle.desk_cli.proofs.replay_run.replay_over.Goals as goal
+
+-- what holds at all holds at an `Ok`
+of_any : {T E : Type 0} (r : Result T E) (P : Type 0) → P → OnOk r P
+of_any {T} {E} (Ok x) P p = p
+of_any {T} {E} (Err e) P p = tt
 
 pub returns : goal.returns
 returns g c =
     let empty : tables_held c.new-desk.result ≡ tables c.new-desk.result.building [] =
     c.new-desk.ensures.empty ∙ ap (λ (b : Building). tables b []) (sym c.new-desk.ensures.building) in
     let prints = rw c.in-Ok.is at c.in_ok-print_replies-in-Ok.ensures.prints in
-    on_ok_weaker c.print_points.result (λ points file_bytes list_bytes file list.
+    of_any c.flush.result _ (λ file_bytes list_bytes file list.
     let list_is : g.D.Read.remaining c.in-Ok.reader ≡ Some list_bytes = rw c.in-Ok.is at list in
-    Replays-done file_bytes list_bytes c.in_ok-building.building c.new-desk.result.building c.print_replies.new.desk.building _ _ _ _
+    Replays-Keeps file_bytes list_bytes _ _ _
+    (Replays-done file_bytes list_bytes c.in_ok-building.building c.new-desk.result.building c.print_replies.new.desk.building _ _ _ _
     (c.in_ok-building.ensures file_bytes file) c.new-desk.ensures.building (prints list_bytes [] list_is empty)
-    c.in_ok-print_replies-in-Ok.ensures.building points) c.print_points.ensures
+    c.in_ok-print_replies-in-Ok.ensures.building c.in_ok-print_points.ensures) c.flush.ensures)

@@ -1,0 +1,15 @@
+-- The line that tells why a replay stopped.
+use Rattle.std.specs.Prelude.{ℕ, List, ◌++◌, codes}
+use Rattle.std.specs.Fmt.{decimal}
+use Rattle.desk_cli.specs.declared.replay_fault.ReplayFault.{ReplayFault}
+use Rattle.desk_cli.specs.declared.replay_fault.ReplayFault.TheVariants.{BuildingRefused, CannotRead}
+use Rattle.desk_cli.specs.declared.replay_fault.ReplayFault.TheVariants.{NoMemory, NotDelivery}
+use Rattle.desk_cli.specs.declared.replay_fault.ReplayFault.TheVariants.{OutputFailed}
+
+-- the line, without the line end
+abbrev pub line_of : ReplayFault → List ℕ
+line_of (CannotRead path) = codes "desk: cannot read " ++ path.now
+line_of BuildingRefused = codes "desk: building refused"
+line_of (NotDelivery line) = codes "desk: line " ++ (decimal line ++ codes " is not a delivery")
+line_of OutputFailed = codes "desk: cannot write"
+line_of NoMemory = codes "desk: out of memory"
