@@ -1,6 +1,6 @@
 //! A wall panel and its rights.
-use listing::Listing;
 use crate::name::Name;
+use listing::Listing;
 
 /// A panel: what it may write, and with which priorities (this profile's choice).
 #[derive(Debug, Drop)]

@@ -20,7 +20,6 @@ mod laws;
 mod panel_view;
 mod plan;
 mod planning;
-mod verdict;
-
 #[cfg(test)]
 mod tests;
+mod verdict;
