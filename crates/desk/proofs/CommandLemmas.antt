@@ -1,5 +1,5 @@
 -- What the rules say of one command.
-use Rattle.std.proofs.Common.{◌≡◌, ℕ, ◌+◌, Bool, true, false, cond, List, Option, Some, None, refl, sym, ap, ◌∙◌, find}
+use Rattle.std.proofs.Common.{◌≡◌, ℕ, Bool, true, false, cond, List, Option, Some, None, refl, sym}
 use Rattle.std.specs.Option.{option_map_or}
 use Rattle.points.specs.declared.answer.Answer.{Answer}
 use Rattle.points.specs.declared.answer.Answer.TheVariants.{Refused}
@@ -8,14 +8,14 @@ use Rattle.points.specs.declared.content.Content.{Content}
 use Rattle.points.specs.declared.panel.Panel.{Panel}
 use Rattle.points.specs.declared.point.Point.{Point}
 use Rattle.points.specs.declared.rule.Rule.{Rule}
-use Rattle.points.specs.declared.rule.Rule.TheVariants.{X1, X2, X3, X4, X5, X6}
+use Rattle.points.specs.declared.rule.Rule.TheVariants.{X1, X2, X3}
 use Rattle.points.specs.PriorityArray.{Places, present_of}
 use Rattle.points.specs.Rights.{breaks, rule_of, names_no_place}
 use Rattle.desk.specs.declared.building.Building.{Building}
 use Rattle.desk.specs.Accepted.{Text, panel_named}
 use Rattle.desk.specs.Applied.{with_applied}
 use Rattle.desk.specs.Content.{with_row, with_places}
-use Rattle.desk.specs.Machine.{answer_to, answer_under, places_after, places_under, rule_for, commanded, default_of, done_of}
+use Rattle.desk.specs.Machine.{answer_to, places_after, places_under, rule_for, commanded, default_of, done_of}
 use Rattle.desk.specs.Tables.{Tables}
 
 not_none : (r : Rule) → Some r ≡ None → ⊥

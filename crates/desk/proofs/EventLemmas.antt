@@ -1,16 +1,11 @@
 -- One delivery more, in what was accepted and in the machine.
-use Rattle.std.proofs.Common.{◌≡◌, ℕ, ◌+◌, ◌&&◌, Bool, true, false, cond, List, [], ◌∷◌, ◌++◌, map, Option, Some, None, is_some, refl, sym, ap, ◌∙◌, subst, append_assoc}
+use Rattle.std.proofs.Common.{◌≡◌, List, [], ◌∷◌, ◌++◌, refl, sym, ap, ◌∙◌, append_assoc}
 use Rattle.std.specs.List.{flat_map}
 use Rattle.std.proofs.lemmas.Grind.{flat_map-append}
-use Rattle.std.specs.Str.{bytes_eq}
-use Rattle.points.specs.declared.content.Content.{Content}
 use Rattle.window.specs.Taken as asks
-use Rattle.window.specs.Applied.{applied}
-use Rattle.window.proofs.PlanLemmas.{applied-same}
 use Rattle.desk.specs.declared.building.Building.{Building}
 use Rattle.desk.specs.declared.delivery.Delivery.{Delivery}
-use Rattle.desk.specs.declared.delivery.Delivery.TheVariants.{Command}
-use Rattle.desk.specs.Accepted.{Text, panel_named, panel_of, number_of, asked, asks_of, taken_by}
+use Rattle.desk.specs.Accepted.{Text, asks_of, taken_by}
 use Rattle.desk.specs.Machine.{Event, Machine, opening_machine, run, step}
 use Rattle.desk.specs.Events.{told, events_after, machine}
 

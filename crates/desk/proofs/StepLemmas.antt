@@ -1,5 +1,5 @@
 -- The tables and the reply after one delivery more, said of the tables before it.
-use Rattle.std.proofs.Common.{◌≡◌, ◌≢◌, ℕ, ◌+◌, ◌-◌, ◌<◌, ◌≤◌, ◌==◌, ◌&&◌, Bool, true, false, cond, List, [], ◌∷◌, ◌++◌, map, Option, Some, None, is_some, refl, sym, ap, ◌∙◌, subst, arith, inl, inr, ⊎_elim, ℤ, pos, negsuc, nat_lt, nat_le, find}
+use Rattle.std.proofs.Common.{◌≡◌, ◌≢◌, ℕ, ◌+◌, ◌<◌, ◌≤◌, ◌==◌, ◌&&◌, Bool, true, false, cond, List, [], ◌∷◌, ◌++◌, map, Option, Some, None, is_some, refl, sym, ap, ◌∙◌, subst, arith, inl, inr, ⊎_elim, ℤ, pos, negsuc, nat_lt, nat_le, find}
 use Rattle.std.specs.List.{flat_map}
 use Rattle.std.specs.Str.{bytes_eq}
 use Rattle.std.proofs.lemmas.Bool.{cases_Bool, cases_eq, cases_lt, false≢true}
@@ -7,7 +7,6 @@ use Rattle.std.proofs.lemmas.Bool.Decides.{nat_tests}
 use Rattle.std.proofs.lemmas.Slice.Eq.{bytes_eq-Decides}
 use Rattle.points.specs.declared.answer.Answer.{Answer}
 use Rattle.points.specs.declared.command_row.CommandRow.{CommandRow}
-use Rattle.points.specs.declared.command_row.CommandState.{CommandState}
 use Rattle.points.specs.declared.command_row.CommandState.TheVariants.{Parked, Answered}
 use Rattle.points.specs.declared.content.Content.{Content}
 use Rattle.points.specs.declared.panel.Panel.{Panel}
@@ -28,7 +27,7 @@ use Rattle.desk.specs.declared.reply.Reply.{Reply}
 use Rattle.desk.specs.declared.reply.Reply.TheVariants as reply
 use Rattle.desk.specs.Accepted.{Text, panel_named, panel_of, number_of, asked, asks_of, taken_by}
 use Rattle.desk.specs.Machine as m
-use Rattle.desk.specs.Events.{told, events_after, machine}
+use Rattle.desk.specs.Events.{told, machine}
 use Rattle.desk.specs.Tables.{Tables, tables, next_of, row_of}
 use Rattle.desk.specs.Reply as r
 use Rattle.desk.specs.Applied.{with_applied}

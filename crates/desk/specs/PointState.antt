@@ -1,4 +1,4 @@
-use Rattle.std.specs.Prelude.{◌≡◌, Option, Some, None, ℤ}
+use Rattle.std.specs.Prelude.{Option, Some, None}
 use Rattle.points.specs.declared.point.Point.{Point}
 use Rattle.points.specs.PriorityArray.{Places, present_of}
 use Rattle.desk.specs.declared.point_state.PointState.{PointState}

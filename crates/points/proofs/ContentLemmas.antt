@@ -1,5 +1,5 @@
 -- The test of two contents decides whether they are the same.
-use Rattle.std.proofs.Common.{◌≡◌, Bool, true, false, Option, Some, None, ℤ, Decides, refl, ap, ◌&&◌}
+use Rattle.std.proofs.Common.{◌≡◌, Option, Some, None, ℤ, Decides, refl, ap}
 use Rattle.std.specs.Str.{bytes_eq}
 use Rattle.std.specs.Ordering.{int_eq}
 use Rattle.std.proofs.lemmas.Slice.Eq.{bytes_eq-Decides}

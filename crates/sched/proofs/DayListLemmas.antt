@@ -1,11 +1,9 @@
 -- The latest of a list, by one pass.
-use Rattle.std.proofs.Common.{◌≡◌, ℕ, ◌<◌, ◌≤◌, suc, Bool, true, false, nat_le, not, ◌==◌, List, Option, None, refl, sym, ap, ◌∙◌, arith}
-use Rattle.std.specs.List.{list_all}
+use Rattle.std.proofs.Common.{◌≡◌, ℕ, true, false, nat_le, List, None, arith}
 use Rattle.std.proofs.lemmas.Bool.Decides.{nat_tests}
 use Rattle.sched.specs.declared.day_list.TimeValue.{TimeValue}
-use Rattle.sched.specs.Chosen.{chosen}
 use Rattle.sched.specs.DayList.{latest, gives_way_later}
-use Rattle.sched.proofs.ChosenLemmas.{Settles, best_from, chosen-best_from, chosen-agree}
+use Rattle.sched.proofs.ChosenLemmas.{Settles, best_from, chosen-best_from}
 
 onward : (q b z : ℕ) → nat_le q b ≡ true → nat_le b z ≡ true → nat_le q z ≡ true
 onward q b z h k = grind (arith, nat_tests)

@@ -1,13 +1,10 @@
 -- One value at each named time, in rising order, gives the segments of the day.
-use Rattle.std.proofs.Common.{◌≡◌, ◌≢◌, ℕ, zero, suc, ◌+◌, ◌-◌, ◌<◌, ◌≤◌, ◌==◌, ◌&&◌, ◌||◌, nat_le, nat_lt, Bool, true, false, cond, not, List, [], ◌∷◌, ◌++◌, map, length, get_or, take, drop, Option, Some, None, is_some, option_map, option_and_then, slice_get, ℤ, Decides, refl, sym, ap, ◌∙◌, subst, arith, inl, inr, ⊎_elim, ◌⊎◌, append_assoc, length-append}
-use Rattle.std.specs.List.{list_any, list_all, flat_map}
-use Rattle.std.specs.Option.{option_eq}
-use Rattle.std.specs.Ordering.{int_eq}
+use Rattle.std.proofs.Common.{◌≡◌, ◌≢◌, ℕ, zero, suc, ◌+◌, ◌-◌, ◌<◌, ◌≤◌, ◌==◌, Bool, true, false, cond, not, List, [], ◌∷◌, ◌++◌, length, get_or, Option, Some, None, option_map, slice_get, ℤ, refl, sym, ap, ◌∙◌, arith, inl, inr, ⊎_elim, ◌⊎◌, length-append}
+use Rattle.std.specs.List.{list_any}
 use Rattle.std.proofs.lemmas.Bool.{cases_Bool, cases_eq, cases_lt, false≢true}
 use Rattle.std.proofs.lemmas.Bool.Decides.{nat_tests, Decides-int_eq}
-use Rattle.std.proofs.lemmas.List.Folds.{list_any-append}
 use Rattle.sched.specs.declared.day_list.TimeValue.{TimeValue}
-use Rattle.sched.specs.Segments.{begins_at, segment_at, segments_below, segments_of, last_value, value_eq, with_change}
+use Rattle.sched.specs.Segments.{begins_at, segments_below, last_value, value_eq, with_change}
 use Rattle.sched.proofs.ChosenLemmas.{append_nil}
 
 pub value_eq-same : (x : Option ℤ) → value_eq x x ≡ true

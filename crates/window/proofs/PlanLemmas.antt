@@ -1,18 +1,16 @@
 -- What a plan for a window of one has to say.
-use Rattle.std.proofs.Common.{◌≡◌, ◌≢◌, ℕ, suc, zero, ◌+◌, ◌-◌, ◌<◌, ◌≤◌, ◌==◌, Bool, true, false, cond, not, ◌&&◌, List, [], ◌∷◌, Option, Some, None, is_some, length, refl, sym, ap, ◌∙◌, subst, arith, inl, inr, ⊎_elim, nat_lt, nat_le}
+use Rattle.std.proofs.Common.{◌≡◌, ◌≢◌, ℕ, ◌+◌, ◌-◌, ◌==◌, Bool, true, false, cond, not, ◌&&◌, [], ◌∷◌, Option, Some, None, is_some, refl, sym, ap, ◌∙◌, subst, arith, ⊎_elim, nat_lt, nat_le}
 use Rattle.std.proofs.lemmas.Bool.Decides.{nat_tests}
-use Rattle.std.proofs.lemmas.Bool.{cases_eq, cases_lt, cases_order, cases_Bool, false≢true}
+use Rattle.std.proofs.lemmas.Bool.{cases_eq, false≢true}
 use Rattle.points.specs.declared.content.Content.{Content}
 use Rattle.points.specs.declared.command_row.CommandRow.{CommandRow}
 use Rattle.points.specs.ContentEq.{content_eq}
 use Rattle.window.specs.declared.plan.NumberedContent.{NumberedContent}
-use Rattle.window.specs.declared.plan.Plan.{Plan}
 use Rattle.window.specs.declared.verdict.Verdict.{Verdict}
-use Rattle.window.specs.declared.verdict.Verdict.TheVariants.{Applies, Parked, Repeat, Skipped, Differs, TooFar, SkipDone}
-use Rattle.window.specs.Taken.{Ask, Command, Taken, take, content_at, is_key, front, accepts, with_command}
-use Rattle.window.specs.Applied.{applied, contents_from, and_at}
-use Rattle.window.specs.Front.{IsFront}
-use Rattle.window.specs.Plan.{Plans, Shows, verdict_of, parked_by}
+use Rattle.window.specs.declared.verdict.Verdict.TheVariants.{Applies, Parked, Repeat, Skipped, Differs, TooFar}
+use Rattle.window.specs.Taken.{Taken, content_at, is_key, front, accepts, with_command}
+use Rattle.window.specs.Applied.{applied, contents_from}
+use Rattle.window.specs.Plan.{Plans, verdict_of}
 use Rattle.window.specs.Window.{window}
 use Rattle.window.proofs.FrontLemmas.{EndsInWindow, IsFront-front, front-is, key_new, key_other, key_stays, take-accepted, take-refused}
 

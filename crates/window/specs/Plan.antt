@@ -1,7 +1,6 @@
-use Rattle.std.specs.Prelude.{◌≡◌, ℕ, ◌+◌, Bool, ◌&&◌, nat_lt, ◌==◌, if◌then◌else◌, List, Option, Some, None, option_map}
+use Rattle.std.specs.Prelude.{◌≡◌, ℕ, ◌+◌, ◌&&◌, nat_lt, ◌==◌, if◌then◌else◌, Option, Some, None, option_map}
 use Rattle.points.specs.declared.content.Content.{Content}
 use Rattle.points.specs.declared.command_row.CommandRow.{CommandRow}
-use Rattle.points.specs.declared.command_row.CommandState.{CommandState}
 use Rattle.points.specs.ContentEq.{content_eq}
 use Rattle.window.specs.declared.plan.NumberedContent.{NumberedContent}
 use Rattle.window.specs.declared.plan.Plan.{Plan}
@@ -9,7 +8,7 @@ use Rattle.window.specs.declared.panel_view.PanelView.{PanelView}
 use Rattle.window.specs.declared.verdict.Verdict.{Verdict}
 use Rattle.window.specs.declared.verdict.Verdict.TheVariants.{Applies, Parked, Repeat, Skipped, Differs, TooFar}
 use Rattle.window.specs.Applied.{applied}
-use Rattle.window.specs.Taken.{Ask, Command, Taken, take, content_at, front, accepts}
+use Rattle.window.specs.Taken.{Command, Taken, take, content_at, front, accepts}
 use Rattle.window.specs.Window.{window}
 
 -- a view shows what was accepted of its panel: the front, and the row of the number asked for

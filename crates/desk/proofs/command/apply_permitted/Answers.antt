@@ -1,5 +1,4 @@
-use Rattle.std.proofs.Common.{◌≡◌, ◌∙◌, ℕ, ℤ, sym, ap, to_z, of_z, w64, rules}
-use Rattle.points.specs.declared.answer.Answer.TheVariants.{Done}
+use Rattle.std.proofs.Common.{◌≡◌, ◌∙◌, sym, ap, to_z, of_z, w64, rules}
 use Rattle.points.specs.PriorityArray.{Places, present_of}
 use Rattle.desk.specs.Content.{content_of, with_row, with_places}
 use Rattle.desk.specs.Machine.{commanded, default_of, done_of}

@@ -1,4 +1,4 @@
-use Rattle.std.proofs.Common.{◌≡◌, ◌∙◌, sym, ap}
+use Rattle.std.proofs.Common.{◌∙◌, sym, ap}
 use Rattle.points.specs.declared.command_row.CommandRow.{CommandRow}
 use Rattle.desk.specs.Content.{content_of, with_row}
 use Rattle.desk.proofs.CommandLemmas.{with_applied-refused}

@@ -1,4 +1,4 @@
-use Rattle.std.proofs.Common.{◌≡◌, ◌∙◌, ℤ, List, sym, ap, refl, pos, to_z, w64, rules, Option, Some, None}
+use Rattle.std.proofs.Common.{◌≡◌, ◌∙◌, sym, ap, refl, pos, to_z, w64, rules}
 use Rattle.std.specs.List.{flat_map}
 use Rattle.desk.specs.Accepted.{asks_of}
 use Rattle.desk.specs.Content.{content_of}

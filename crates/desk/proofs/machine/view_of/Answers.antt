@@ -1,4 +1,4 @@
-use Rattle.std.proofs.Common.{◌≡◌, ◌∙◌, ap, Option, option_map, unwrap_or}
+use Rattle.std.proofs.Common.{◌∙◌, ap, option_map, unwrap_or}
 use Rattle.points.specs.declared.command_row.CommandRow.{CommandRow}
 use Rattle.desk.specs.Tables.{Tables}
 use Rattle.desk.proofs.DeliverLemmas.{shown_next, shown_content}

@@ -1,4 +1,4 @@
-use Rattle.std.proofs.Common.{◌≡◌, ◌∙◌, sym, ap, subst, Some, None, option_and_then, refl, is_some, false}
+use Rattle.std.proofs.Common.{◌≡◌, ◌∙◌, sym, ap, None, option_and_then, refl, is_some, false}
 use Rattle.std.specs.BTreeMap as tree
 use Rattle.std.specs.Cmp.Lexicographic.{slice_cmp}
 use Rattle.std.specs.Ordering.{nat_cmp}

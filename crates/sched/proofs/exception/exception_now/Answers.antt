@@ -1,4 +1,4 @@
-use Rattle.std.proofs.Common.{◌≡◌, ◌∙◌, sym, ap, arith, List, option_copied}
+use Rattle.std.proofs.Common.{◌∙◌, sym, ap, arith, List, option_copied}
 use Rattle.std.proofs.lemmas.List.{drop_all}
 use Rattle.sched.specs.declared.exception.Exception.{Exception}
 use Rattle.sched.specs.Exceptions.{gives_way_to_lower, speaks}

@@ -1,4 +1,4 @@
-use Rattle.std.proofs.Common.{◌≡◌, ◌++◌, map, take}
+use Rattle.std.proofs.Common.{◌≡◌, ◌++◌, take}
 use Rattle.sched.specs.Named.{times_of}
 use Rattle.sched.proofs.segments.push_times.Given as goal
 

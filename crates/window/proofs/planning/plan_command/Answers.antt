@@ -1,4 +1,4 @@
-use Rattle.std.proofs.Common.{◌≡◌, ◌∙◌, sym, ap, is_some, Option, Some, None, option_map, Bool, refl}
+use Rattle.std.proofs.Common.{◌≡◌, ◌∙◌, sym, ap, is_some, Option, Some, None, option_map}
 use Rattle.points.specs.declared.content.Content.{Content}
 use Rattle.points.specs.declared.command_row.CommandRow.{CommandRow}
 use Rattle.window.specs.Taken.{taken, opening}

@@ -1,4 +1,4 @@
-use Rattle.std.proofs.Common.{◌≡◌, ◌∙◌, ℤ, List, sym, ap, subst, refl, pos, to_z, of_z, w64, rules, Option, Some, None, option_copied}
+use Rattle.std.proofs.Common.{◌≡◌, ◌∙◌, sym, ap, subst, pos, to_z, of_z, w64, rules, Some, None, option_copied}
 use Rattle.desk.specs.declared.delivery.Delivery.TheVariants.{Command}
 use Rattle.desk.specs.Accepted.{panel_named, number_of}
 use Rattle.desk.specs.Content.{content_of}

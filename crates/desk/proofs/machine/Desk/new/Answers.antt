@@ -1,4 +1,4 @@
-use Rattle.std.proofs.Common.{◌≡◌, ◌∙◌, ℕ, List, [], sym, None, refl}
+use Rattle.std.proofs.Common.{◌≡◌, ◌∙◌, ℕ, [], sym, None, refl}
 use Rattle.std.specs.FinMap.{empty}
 use Rattle.desk.specs.declared.building.Building.{Building}
 use Rattle.desk.specs.Accepted.{Text}

@@ -1,4 +1,4 @@
-use Rattle.std.proofs.Common.{◌≡◌, ◌+◌, ◌≤◌, ◌++◌, List, length, take, vec_len, vec_capacity}
+use Rattle.std.proofs.Common.{◌≡◌, ◌≤◌, ◌++◌, List, length, take, vec_len, vec_capacity}
 use Rattle.desk.specs.declared.delivery.Delivery.{Delivery}
 use Rattle.desk.specs.Held.{tables_held}
 use Rattle.desk.specs.Reply.{replies}

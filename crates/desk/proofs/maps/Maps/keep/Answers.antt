@@ -1,9 +1,9 @@
-use Rattle.std.proofs.Common.{◌≡◌, ◌∙◌, ℕ, List, sym, ap, Some, Option}
+use Rattle.std.proofs.Common.{◌≡◌}
 use Rattle.std.specs.BTreeMap as tree
 use Rattle.std.specs.Cmp.Lexicographic.{slice_cmp}
 use Rattle.std.specs.Ordering.{nat_cmp}
 use Rattle.desk.specs.declared.row_key.RowKey.{RowKey}
-use Rattle.desk.specs.Content.{content_of, row_cmp, with_row}
+use Rattle.desk.specs.Content.{content_of, row_cmp}
 use Rattle.desk.proofs.MapLemmas.{next-set, row-put}
 use Rattle.desk.proofs.maps.Maps.keep.Goals as goal
 

@@ -1,11 +1,9 @@
-use Rattle.std.proofs.Common.{◌≡◌, ◌∙◌, ℕ, List, sym, ap, subst, Some, Option, IsSome, cond}
+use Rattle.std.proofs.Common.{◌∙◌, ℕ, List, ap, Some, cond}
 use Rattle.std.specs.Str.{bytes_eq}
 use Rattle.points.specs.PriorityArray.{Places}
 use Rattle.std.specs.BTreeMap as tree
 use Rattle.std.specs.Cmp.Lexicographic.{slice_cmp}
 use Rattle.std.specs.Ordering.{nat_cmp}
-use Rattle.desk.specs.Content.{content_of, row_cmp, with_row, with_places}
-use Rattle.desk.specs.Tables.{Tables}
 use Rattle.desk.proofs.MapLemmas.{places-set}
 use Rattle.desk.proofs.maps.Maps.keep_written.Goals as goal
 

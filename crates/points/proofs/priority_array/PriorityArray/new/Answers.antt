@@ -1,4 +1,3 @@
-use Rattle.std.proofs.Common.{◌≡◌}
 use Rattle.points.proofs.PlacesLemmas.{from_sorted-none}
 use Rattle.points.proofs.priority_array.PriorityArray.new.Goals as goal
 

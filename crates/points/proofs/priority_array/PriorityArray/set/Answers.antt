@@ -1,4 +1,4 @@
-use Rattle.std.proofs.Common.{◌≡◌, ◌+◌, ◌-◌, ◌<◌, length, sym, ap, ◌∙◌, arith, subst, set}
+use Rattle.std.proofs.Common.{◌≡◌, ◌+◌, ◌<◌, length, ◌∙◌, arith}
 use Rattle.points.specs.PriorityArray.{put}
 use Rattle.points.proofs.PlacesLemmas.{numbered-set}
 use Rattle.points.proofs.priority_array.PriorityArray.set.Goals as goal

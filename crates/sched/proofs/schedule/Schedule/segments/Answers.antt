@@ -1,4 +1,4 @@
-use Rattle.std.proofs.Common.{◌≡◌, ◌∙◌, ◌<◌, ◌+◌, ℕ, suc, ℤ, Option, length, get_or, sym, ap, arith, add-one, List, below_more, subst}
+use Rattle.std.proofs.Common.{◌≡◌, ◌∙◌, ◌<◌, ◌+◌, ℕ, ℤ, Option, length, get_or, sym, ap, arith, add-one, List, below_more, subst}
 use Rattle.std.proofs.lemmas.List.{get_or_read}
 use Rattle.std.specs.List.Sorted.{IsPermutation, IsSorted}
 use Rattle.std.specs.Ordering.{nat_cmp}
