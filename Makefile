@@ -25,6 +25,7 @@ test: | toolchain
 
 bench: build/desk
 	@python3 scripts/bench.py
+	@cd crates/sched_bench && rt run -- measure 2> /dev/null
 
 install: build/desk
 	install -D -m 755 build/desk $(DESTDIR)$(PREFIX)/bin/desk
