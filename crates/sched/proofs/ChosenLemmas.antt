@@ -1,46 +1,19 @@
 -- One pass that keeps the best so far finds the chosen element.
-use Rattle.std.proofs.Common.{◌≡◌, Bool, true, false, not, ◌&&◌, ◌||◌, List, [], ◌∷◌, ◌++◌, Option, Some, None, refl, sym, ap, ◌∙◌, subst, inl, inr, ⊎_elim, append_assoc, ◌⊎◌}
+use Rattle.std.proofs.Common.{◌≡◌, Bool, true, false, not, ◌&&◌, ◌||◌, List, [], ◌∷◌, ◌++◌, Option, Some, None, refl, sym, ap, ◌∙◌, subst, inl, inr, ⊎_elim, append_assoc}
 use Rattle.std.specs.List.{list_all}
-use Rattle.std.proofs.lemmas.Bool.{cases_Bool, false≢true}
+use Rattle.std.proofs.lemmas.Bool.{and_from, and_left, and_parts, cases_Bool, false≢true, not_from_false, not-true, or_cases, or_left, or_right}
+use Rattle.std.proofs.lemmas.List.{append-nil}
+use Rattle.std.proofs.lemmas.List.Folds.{list_all-append}
 use Rattle.sched.specs.Chosen.{is_chosen, chosen_from, chosen, kept}
 
-pub append_nil : {A : Type 0} (xs : List A) → xs ++ [] ≡ xs
-append_nil [] = refl
-append_nil (x ∷ xs) = ap (λ ys. x ∷ ys) (append_nil xs)
-
-both : (a b : Bool) → a ≡ true → b ≡ true → (a && b) ≡ true
-both a b p q = rw (p, q) refl
-
-first_of : (a b : Bool) → (a && b) ≡ true → a ≡ true
-first_of true b e = refl
-first_of false b e = absurd (false≢true e)
-
-second_of : (a b : Bool) → (a && b) ≡ true → b ≡ true
-second_of true b e = e
-second_of false b e = absurd (false≢true e)
-
-second_false : (a b : Bool) → b ≡ false → (a && b) ≡ false
-second_false true b e = e
-second_false false b e = refl
-
-first_false : (a b : Bool) → a ≡ false → (a && b) ≡ false
-first_false a b e = rw e refl
-
 module _ {A : Type 0} where
-  list_all-append : (test : A → Bool) (xs ys : List A) → list_all test (xs ++ ys) ≡ (list_all test xs && list_all test ys)
-  list_all-append test [] ys = refl
-  list_all-append test (x ∷ xs) ys = elim (test x) as (λ t. (t && list_all test (xs ++ ys)) ≡ ((t && list_all test xs) && list_all test ys)) [
-    | true ↦ list_all-append test xs ys
-    | false ↦ refl
-  ]
-
   list_all-push : (test : A → Bool) (xs : List A) (x : A) → list_all test xs ≡ true → test x ≡ true → list_all test (xs ++ x ∷ []) ≡ true
-  list_all-push test xs x all here = list_all-append test xs (x ∷ []) ∙ both _ _ all (both _ _ here refl)
+  list_all-push test xs x all here = list_all-append test xs (x ∷ []) ∙ and_from _ _ all (and_from _ _ here refl)
 
   -- one test follows from another
   list_all-follows : (one two : A → Bool) (xs : List A) → ((x : A) → one x ≡ true → two x ≡ true) → list_all one xs ≡ true → list_all two xs ≡ true
   list_all-follows one two [] follows all = refl
-  list_all-follows one two (x ∷ xs) follows all = both _ _ (follows x (first_of _ _ all)) (list_all-follows one two xs follows (second_of _ _ all))
+  list_all-follows one two (x ∷ xs) follows all = and_from _ _ (follows x (and_parts _ _ all).0) (list_all-follows one two xs follows (and_parts _ _ all).1)
 
   -- the best of a list, in one pass
   abbrev pub best_from : (A → Bool) → (A → A → Bool) → Option A → List A → Option A
@@ -52,59 +25,41 @@ pub record Settles {A : Type 0} (gives_way : A → A → Bool) : Type 0 where
   pub onward : (q b z : A) → gives_way q b ≡ true → gives_way b z ≡ true → gives_way q z ≡ true
   pub past : (b q z : A) → gives_way b q ≡ false → gives_way b z ≡ true → gives_way q z ≡ true
 
-abbrev earlier : {A : Type 0} → (A → Bool) → (A → A → Bool) → A → A → Bool
+abbrev pub earlier : {A : Type 0} → (A → Bool) → (A → A → Bool) → A → A → Bool
 earlier passes gives_way x q = not (passes q) || gives_way q x
 
-abbrev later : {A : Type 0} → (A → Bool) → (A → A → Bool) → A → A → Bool
+abbrev pub later : {A : Type 0} → (A → Bool) → (A → A → Bool) → A → A → Bool
 later passes gives_way x q = not (passes q) || not (gives_way x q)
 
 -- the best of a list seen so far: where it stands, and why
-record IsBest {A : Type 0} (passes : A → Bool) (gives_way : A → A → Bool) (seen : List A) (best : A) : Type 0 where
-  before : List A
-  after : List A
-  split : seen ≡ before ++ best ∷ after
-  passes_it : passes best ≡ true
-  earlier_ones : list_all (earlier passes gives_way best) before ≡ true
-  later_ones : list_all (later passes gives_way best) after ≡ true
+pub record IsBest {A : Type 0} (passes : A → Bool) (gives_way : A → A → Bool) (seen : List A) (best : A) : Type 0 where
+  pub before : List A
+  pub after : List A
+  pub split : seen ≡ before ++ best ∷ after
+  pub passes_it : passes best ≡ true
+  pub earlier_ones : list_all (earlier passes gives_way best) before ≡ true
+  pub later_ones : list_all (later passes gives_way best) after ≡ true
 
-NonePasses : {A : Type 0} → (A → Bool) → List A → Type 0
-NonePasses passes seen = list_all (λ x. not (passes x)) seen ≡ true
+unfoldable pub AllFail : {A : Type 0} → (A → Bool) → List A → Type 0
+AllFail passes seen = list_all (λ x. not (passes x)) seen ≡ true
 
-Best : {A : Type 0} → (A → Bool) → (A → A → Bool) → List A → Option A → Type 0
-Best passes gives_way seen None = NonePasses passes seen
+unfoldable pub Best : {A : Type 0} → (A → Bool) → (A → A → Bool) → List A → Option A → Type 0
+Best passes gives_way seen None = AllFail passes seen
 Best passes gives_way seen (Some best) = IsBest passes gives_way seen best
 
-not_true : (a : Bool) → not a ≡ true → a ≡ false
-not_true true e = absurd (false≢true e)
-not_true false e = refl
-
-not_false : (a : Bool) → a ≡ false → not a ≡ true
-not_false a e = rw e refl
-
-or_first : (a b : Bool) → a ≡ true → (a || b) ≡ true
-or_first a b e = rw e refl
-
-or_second : (a b : Bool) → b ≡ true → (a || b) ≡ true
-or_second true b e = refl
-or_second false b e = e
-
-or_cases : (a b : Bool) → (a || b) ≡ true → (a ≡ true) ⊎ (b ≡ true)
-or_cases true b e = inl refl
-or_cases false b e = inr e
-
 module _ {A : Type 0} (passes : A → Bool) (gives_way : A → A → Bool) (settles : Settles gives_way) where
-  Best-none : (seen : List A) (x : A) → passes x ≡ false → NonePasses passes seen → NonePasses passes (seen ++ x ∷ [])
-  unfolding NonePasses
-  Best-none seen x fails none = list_all-push (λ y. not (passes y)) seen x none (not_false (passes x) fails)
+  Best-none : (seen : List A) (x : A) → passes x ≡ false → AllFail passes seen → AllFail passes (seen ++ x ∷ [])
+  unfolding AllFail
+  Best-none seen x fails none = list_all-push (λ y. not (passes y)) seen x none (not_from_false (passes x) fails)
 
-  Best-first : (seen : List A) (x : A) → passes x ≡ true → NonePasses passes seen → IsBest passes gives_way (seen ++ x ∷ []) x
-  unfolding NonePasses
+  Best-first : (seen : List A) (x : A) → passes x ≡ true → AllFail passes seen → IsBest passes gives_way (seen ++ x ∷ []) x
+  unfolding AllFail
   Best-first seen x passed none = record {
     before = seen;
     after = [];
     split = refl;
     passes_it = passed;
-    earlier_ones = list_all-follows (λ y. not (passes y)) (earlier passes gives_way x) seen (λ y e. or_first _ _ e) none;
+    earlier_ones = list_all-follows (λ y. not (passes y)) (earlier passes gives_way x) seen (λ y e. or_left _ _ e) none;
     later_ones = refl;
   }
 
@@ -127,12 +82,12 @@ module _ {A : Type 0} (passes : A → Bool) (gives_way : A → A → Bool) (sett
     split = refl;
     passes_it = passed;
     earlier_ones = ap (list_all (earlier passes gives_way x)) is.split ∙ list_all-append (earlier passes gives_way x) is.before (best ∷ is.after)
-        ∙ both _ _
+        ∙ and_from _ _
         (list_all-follows (earlier passes gives_way best) (earlier passes gives_way x) is.before
-        (λ q e. ⊎_elim (λ fails. or_first _ _ fails) (λ gave. or_second _ _ (settles.onward q best x gave gives)) (or_cases _ _ e)) is.earlier_ones)
-        (both _ _ (or_second _ _ gives)
+        (λ q e. ⊎_elim (λ fails. or_left _ _ fails) (λ gave. or_right _ _ (settles.onward q best x gave gives)) (or_cases _ _ e)) is.earlier_ones)
+        (and_from _ _ (or_right _ _ gives)
         (list_all-follows (later passes gives_way best) (earlier passes gives_way x) is.after
-        (λ q e. ⊎_elim (λ fails. or_first _ _ fails) (λ stood. or_second _ _ (settles.past best q x (not_true _ stood) gives)) (or_cases _ _ e)) is.later_ones));
+        (λ q e. ⊎_elim (λ fails. or_left _ _ fails) (λ stood. or_right _ _ (settles.past best q x (not-true _ stood) gives)) (or_cases _ _ e)) is.later_ones));
     later_ones = refl;
   }
 
@@ -143,22 +98,22 @@ module _ {A : Type 0} (passes : A → Bool) (gives_way : A → A → Bool) (sett
     | inr fails ↦ rw fails (Best-none seen x fails is)
   ]
   Best-kept seen (Some best) x is = elim (cases_Bool (passes x)) [
-    | inr fails ↦ rw fails (Best-stays seen best x (or_first _ _ (not_false (passes x) fails)) is)
+    | inr fails ↦ rw fails (Best-stays seen best x (or_left _ _ (not_from_false (passes x) fails)) is)
     | inl passed ↦ elim (cases_Bool (gives_way best x)) [
       | inl gives ↦ rw (passed, gives) (Best-gives seen best x passed gives is)
-      | inr stands ↦ rw (passed, stands) (Best-stays seen best x (or_second _ _ (not_false _ stands)) is)
+      | inr stands ↦ rw (passed, stands) (Best-stays seen best x (or_right _ _ (not_from_false _ stands)) is)
     ]
   ]
 
   Best-all : (seen : List A) (best : Option A) (xs : List A) → Best passes gives_way seen best → Best passes gives_way (seen ++ xs) (best_from passes gives_way best xs)
-  Best-all seen best [] is = subst (λ s. Best passes gives_way s best) (sym (append_nil seen)) is
+  Best-all seen best [] is = subst (λ s. Best passes gives_way s best) (sym (append-nil seen)) is
   Best-all seen best (x ∷ xs) is =
       subst (λ s. Best passes gives_way s (best_from passes gives_way (kept passes gives_way best x) xs)) (append_assoc seen (x ∷ []) xs)
       (Best-all (seen ++ x ∷ []) (kept passes gives_way best x) xs (Best-kept seen best x is))
 
 module _ {A : Type 0} (passes : A → Bool) (gives_way : A → A → Bool) where
   last_holds : (test : A → Bool) (xs : List A) (x : A) (ys : List A) → list_all test (xs ++ x ∷ ys) ≡ true → test x ≡ true
-  last_holds test xs x ys all = first_of _ _ (second_of _ _ (sym (list_all-append test xs (x ∷ ys)) ∙ all))
+  last_holds test xs x ys all = (and_parts _ _ (and_parts _ _ (sym (list_all-append test xs (x ∷ ys)) ∙ all)).1).0
 
   not_later : (y best : A) → passes y ≡ true → passes best ≡ true → gives_way y best ≡ true → later passes gives_way y best ≡ false
   not_later y best passed passed_best gives = rw (passed_best, gives) refl
@@ -170,9 +125,9 @@ module _ {A : Type 0} (passes : A → Bool) (gives_way : A → A → Bool) where
       elim (cases_Bool (is_chosen passes gives_way before y (ys ++ best ∷ after))) [
         | inr fails ↦ fails
         | inl is ↦
-            let passed = first_of _ _ is in
-            let last = last_holds (later passes gives_way y) ys best after (second_of _ _ (second_of _ _ is)) in
-            ⊎_elim (λ fails. absurd (false≢true (sym (not_true _ fails) ∙ passed)))
+            let passed = (and_parts _ _ is).0 in
+            let last = last_holds (later passes gives_way y) ys best after (and_parts _ _ (and_parts _ _ is).1).1 in
+            ⊎_elim (λ fails. absurd (false≢true (sym (not-true _ fails) ∙ passed)))
             (λ gave. absurd (false≢true (sym (not_later y best passed passed_best gave) ∙ last)))
             (or_cases _ _ gives)
       ]
@@ -182,7 +137,7 @@ module _ {A : Type 0} (passes : A → Bool) (gives_way : A → A → Bool) where
       → chosen_from passes gives_way before (ys ++ best ∷ after) ≡ Some best
   chosen_from-found before [] best after passed_best before_all after_all =
       let here : is_chosen passes gives_way before best after ≡ true =
-      both _ _ passed_best (both _ _ (ap (list_all (earlier passes gives_way best)) (sym (append_nil before)) ∙ before_all) after_all) in
+      and_from _ _ passed_best (and_from _ _ (ap (list_all (earlier passes gives_way best)) (sym (append-nil before)) ∙ before_all) after_all) in
       rw here refl
   chosen_from-found before (y ∷ ys) best after passed_best before_all after_all =
       let gives = last_holds (earlier passes gives_way best) before y ys before_all in
@@ -191,15 +146,15 @@ module _ {A : Type 0} (passes : A → Bool) (gives_way : A → A → Bool) where
       ap (list_all (earlier passes gives_way best)) (append_assoc before (y ∷ []) ys) ∙ before_all in
       rw not_here (chosen_from-found (before ++ y ∷ []) ys best after passed_best shifted after_all)
 
-  chosen_from-none : (before xs : List A) → NonePasses passes xs → chosen_from passes gives_way before xs ≡ None
-  unfolding NonePasses
+  chosen_from-none : (before xs : List A) → AllFail passes xs → chosen_from passes gives_way before xs ≡ None
+  unfolding AllFail
   chosen_from-none before [] none = refl
   chosen_from-none before (x ∷ xs) none =
       let rest = list_all (λ y. not (passes y)) xs in
-      let fails = not_true (passes x) (first_of (not (passes x)) rest none) in
+      let fails = not-true (passes x) (and_parts (not (passes x)) rest none).0 in
       let not_here : is_chosen passes gives_way before x xs ≡ false =
-      first_false (passes x) (list_all (earlier passes gives_way x) before && list_all (later passes gives_way x) xs) fails in
-      rw not_here (chosen_from-none (before ++ x ∷ []) xs (second_of (not (passes x)) rest none))
+      and_left (passes x) (list_all (earlier passes gives_way x) before && list_all (later passes gives_way x) xs) fails in
+      rw not_here (chosen_from-none (before ++ x ∷ []) xs (and_parts (not (passes x)) rest none).1)
 
   chosen-Best : (xs : List A) (best : Option A) → Best passes gives_way xs best → chosen passes gives_way xs ≡ best
   unfolding chosen Best
@@ -209,8 +164,12 @@ module _ {A : Type 0} (passes : A → Bool) (gives_way : A → A → Bool) where
 
   -- the one pass finds the chosen element
   pub chosen-best_from : Settles gives_way → (xs : List A) → chosen passes gives_way xs ≡ best_from passes gives_way None xs
-  unfolding Best NonePasses
+  unfolding Best AllFail
   chosen-best_from settles xs = chosen-Best xs _ (Best-all passes gives_way settles [] None xs refl)
+
+  pub chosen-is_best : Settles gives_way → (xs : List A) → Best passes gives_way xs (chosen passes gives_way xs)
+  unfolding Best AllFail
+  chosen-is_best settles xs = subst (Best passes gives_way xs) (sym (chosen-best_from settles xs)) (Best-all passes gives_way settles [] None xs refl)
 
 module _ {A : Type 0} (one two : A → Bool) (gives_way : A → A → Bool) where
   kept-agree : (best : Option A) (x : A) → one x ≡ two x → kept one gives_way best x ≡ kept two gives_way best x
@@ -221,8 +180,8 @@ module _ {A : Type 0} (one two : A → Bool) (gives_way : A → A → Bool) wher
       → best_from one gives_way best xs ≡ best_from two gives_way best xs
   best_from-agree agree follows best [] all = refl
   best_from-agree agree follows best (x ∷ xs) all =
-      ap (λ b. best_from one gives_way b xs) (kept-agree best x (follows x (first_of _ _ all)))
-      ∙ best_from-agree agree follows (kept two gives_way best x) xs (second_of _ _ all)
+      ap (λ b. best_from one gives_way b xs) (kept-agree best x (follows x (and_parts _ _ all).0))
+      ∙ best_from-agree agree follows (kept two gives_way best x) xs (and_parts _ _ all).1
 
   -- two tests that agree on a list choose the same element
   pub chosen-agree : Settles gives_way → (agree : A → Bool) → ((x : A) → agree x ≡ true → one x ≡ two x) → (xs : List A) → list_all agree xs ≡ true
@@ -254,7 +213,7 @@ module _ {A : Type 0} (passes : A → Bool) (gives_way : A → A → Bool) where
   best_from-holds each test follows best [] held all = held
   best_from-holds each test follows best (x ∷ xs) held all =
       best_from-holds each test follows (kept passes gives_way best x) xs
-      (kept-holds test best x (follows x (first_of _ _ all)) held) (second_of _ _ all)
+      (kept-holds test best x (follows x (and_parts _ _ all).0) held) (and_parts _ _ all).1
 
   -- what follows for each element of the list that passes is so of the chosen one
   pub chosen-holds : Settles gives_way → (each test : A → Bool) → ((x : A) → each x ≡ true → passes x ≡ true → test x ≡ true) → (xs : List A) → list_all each xs ≡ true

@@ -1,12 +1,12 @@
 -- The segments up to a time are those that begin below the hundredth after it.
-use Rattle.std.proofs.Common.{◌≡◌, ℕ, zero, suc, ◌+◌, ◌-◌, ◌<◌, ◌≤◌, ◌&&◌, ◌||◌, nat_le, nat_lt, Bool, true, false, cond, List, [], ◌∷◌, ◌++◌, filter, Option, Some, ℤ, refl, sym, ap, ◌∙◌, arith}
+use Rattle.std.proofs.Common.{◌≡◌, ℕ, zero, suc, ◌+◌, ◌-◌, ◌<◌, ◌≤◌, ◌&&◌, nat_le, nat_lt, Bool, true, false, cond, List, [], ◌∷◌, ◌++◌, filter, Option, Some, ℤ, refl, sym, ap, ◌∙◌, arith}
 use Rattle.std.specs.List.{list_any}
-use Rattle.std.proofs.lemmas.Bool.{false≢true}
+use Rattle.std.proofs.lemmas.Bool.{or_parts}
 use Rattle.std.proofs.lemmas.Bool.Decides.{nat_tests}
 use Rattle.sched.specs.declared.day_list.TimeValue.{TimeValue}
 use Rattle.sched.specs.declared.time.TheConstants.{HUNDREDTHS_A_DAY}
 use Rattle.sched.specs.Segments.{begins_at, segment_at, segments_below, segments_of, last_value}
-use Rattle.sched.proofs.ChosenLemmas.{append_nil}
+use Rattle.std.proofs.lemmas.List.{append-nil}
 use Rattle.sched.proofs.SegmentLemmas.{last_value-below}
 
 filter-append : (test : TimeValue → Bool) (xs ys : List TimeValue) → filter test (xs ++ ys) ≡ filter test xs ++ filter test ys
@@ -45,7 +45,7 @@ module _ (value : ℕ → Option ℤ) (c : ℕ) where
       ap (λ n. filter (up_to c) (segments_below value n)) e
       ∙ filter-append (up_to c) (segments_below value (suc c + k)) (segment_at value (suc c + k))
       ∙ (λ i. filter-past k i ++ filter-segment_at (suc c + k) false past i)
-      ∙ append_nil (segments_below value (suc c))
+      ∙ append-nil (segments_below value (suc c))
 
   filter-all : (n : ℕ) → c < n → filter (up_to c) (segments_below value n) ≡ segments_below value (suc c)
   filter-all n h =
@@ -56,22 +56,14 @@ pub last_segment : (value : ℕ → Option ℤ) (c : ℕ) → c < HUNDREDTHS_A_D
 unfolding segments_of
 last_segment value c h = ap last_value (filter-all value c HUNDREDTHS_A_DAY h) ∙ last_value-below value c
 
-or_first : (a b : Bool) → (a || b) ≡ false → a ≡ false
-or_first true b e = absurd (false≢true (sym e))
-or_first false b e = refl
-
-or_second : (a b : Bool) → (a || b) ≡ false → b ≡ false
-or_second true b e = absurd (false≢true (sym e))
-or_second false b e = e
-
 not_between : (t a c : ℕ) → a ≤ c → (nat_lt a t && nat_le t c) ≡ false → nat_le t c ≡ nat_le t a
 not_between t a c h e = grind (arith, nat_tests)
 
 filter-same : (a c : ℕ) (xs : List TimeValue) → a ≤ c → list_any (λ segment. nat_lt a segment.time && nat_le segment.time c) xs ≡ false → filter (up_to c) xs ≡ filter (up_to a) xs
 filter-same a c [] h none = refl
 filter-same a c (x ∷ xs) h none =
-    let same = not_between x.time a c h (or_first (nat_lt a x.time && nat_le x.time c) _ none) in
-    let rest = filter-same a c xs h (or_second (nat_lt a x.time && nat_le x.time c) _ none) in
+    let same = not_between x.time a c h (or_parts (nat_lt a x.time && nat_le x.time c) _ none).0 in
+    let rest = filter-same a c xs h (or_parts (nat_lt a x.time && nat_le x.time c) _ none).1 in
     λ i. cond (same i) (x ∷ rest i) (rest i)
 
 some_is : (x y : Option ℤ) → Some x ≡ Some y → x ≡ y

@@ -4,3 +4,5 @@ pub mod ExceptionLemmas
 pub mod SegmentLemmas
 pub mod QuietLemmas
 pub mod LawLemmas
+pub mod FirstLemmas
+pub mod ValueLemmas

@@ -1,9 +1,9 @@
 -- Where no list of the day names a hundredth, the value is that of the hundredth before.
-use Rattle.std.proofs.Common.{◌≡◌, ℕ, suc, ◌==◌, ◌&&◌, ◌||◌, nat_le, Bool, true, false, not, List, [], ◌∷◌, Option, Some, None, is_some, option_and_then, refl, sym, ap, ◌∙◌, arith, inl, inr}
+use Rattle.std.proofs.Common.{◌≡◌, ℕ, suc, ◌==◌, ◌||◌, nat_le, Bool, true, false, not, List, [], ◌∷◌, Option, Some, None, is_some, option_and_then, refl, sym, ap, ◌∙◌, arith, inl, inr}
 use Rattle.std.specs.List.{list_all, flat_map}
 use Rattle.std.specs.List.Sorted.{IsPermutation, IsSorted}
 use Rattle.std.specs.Ordering.{nat_cmp}
-use Rattle.std.proofs.lemmas.Bool.{cases_Bool, false≢true}
+use Rattle.std.proofs.lemmas.Bool.{and_from, and_parts, cases_Bool, not_from_false, not-true, or_parts}
 use Rattle.std.proofs.lemmas.Bool.Decides.{nat_tests}
 use Rattle.std.proofs.lemmas.List.Folds.{list_any-append}
 use Rattle.std.proofs.lemmas.List.Sorted.{list_any-IsPermutation, IsNonDecreasingBy-from_sort}
@@ -22,24 +22,6 @@ use Rattle.sched.proofs.DayListLemmas.{settles_later}
 use Rattle.sched.proofs.ExceptionLemmas.{settles_lower}
 use Rattle.sched.proofs.SegmentLemmas.{is_among, Rises, same_values, value_eq-same}
 
-or_first : (a b : Bool) → (a || b) ≡ false → a ≡ false
-or_first true b e = absurd (false≢true (sym e))
-or_first false b e = refl
-
-or_second : (a b : Bool) → (a || b) ≡ false → b ≡ false
-or_second true b e = absurd (false≢true (sym e))
-or_second false b e = e
-
-not_of : (b : Bool) → b ≡ false → not b ≡ true
-not_of b e = rw e refl
-
-of_not : (b : Bool) → not b ≡ true → b ≡ false
-of_not true e = absurd (false≢true e)
-of_not false e = refl
-
-both : (a b : Bool) → a ≡ true → b ≡ true → (a && b) ≡ true
-both a b p q = rw (p, q) refl
-
 apart_from : (x c : ℕ) → (x == suc c) ≡ false → nat_le x (suc c) ≡ nat_le x c
 apart_from x c e = grind (arith, nat_tests)
 
@@ -49,13 +31,13 @@ apart c x = not (x.time == c)
 
 all_apart : (list : List TimeValue) (c : ℕ) → is_among c (times_of list) ≡ false → list_all (apart c) list ≡ true
 all_apart [] c none = refl
-all_apart (x ∷ list) c none = both _ _ (not_of _ (or_first (x.time == c) _ none)) (all_apart list c (or_second (x.time == c) _ none))
+all_apart (x ∷ list) c none = and_from _ _ (not_from_false _ (or_parts (x.time == c) _ none).0) (all_apart list c (or_parts (x.time == c) _ none).1)
 
 latest-quiet : (list : List TimeValue) (c : ℕ) → is_among (suc c) (times_of list) ≡ false → latest list (suc c) ≡ latest list c
 unfolding latest
 latest-quiet list c none =
     chosen-agree (λ x. nat_le x.time (suc c)) (λ x. nat_le x.time c) gives_way_later settles_later (apart (suc c))
-    (λ x e. apart_from x.time c (of_not _ e)) list (all_apart list (suc c) none)
+    (λ x e. apart_from x.time c (not-true _ e)) list (all_apart list (suc c) none)
 
 list_value-quiet : (list : List TimeValue) (c : ℕ) → is_among (suc c) (times_of list) ≡ false → list_value list (suc c) ≡ list_value list c
 list_value-quiet list c none = ap (option_and_then (λ (x : TimeValue). x.value)) (latest-quiet list c none)
@@ -68,7 +50,7 @@ in_effect-quiet : (calendars : List Calendar) (day : Date) (c : ℕ) (exception 
     → quiet_at calendars day (suc c) exception ≡ true → list_value exception.times (suc c) ≡ list_value exception.times c
 in_effect-quiet calendars day c exception effect quiet =
     let named : exception_times calendars day exception ≡ times_of exception.times = rw effect refl in
-    list_value-quiet exception.times c (ap (is_among (suc c)) (sym named) ∙ of_not _ quiet)
+    list_value-quiet exception.times c (ap (is_among (suc c)) (sym named) ∙ not-true _ quiet)
 
 speaks-quiet : (calendars : List Calendar) (day : Date) (c : ℕ) (exception : Exception)
     → quiet_at calendars day (suc c) exception ≡ true → speaks calendars day (suc c) exception ≡ speaks calendars day c exception
@@ -82,8 +64,8 @@ all_quiet : (calendars : List Calendar) (day : Date) (c : ℕ) (exceptions : Lis
 all_quiet calendars day c [] none = refl
 all_quiet calendars day c (x ∷ xs) none =
     let parts = sym (list_any-append (λ t. t == c) (exception_times calendars day x) (flat_map (exception_times calendars day) xs)) ∙ none in
-    both _ _ (not_of _ (or_first (is_among c (exception_times calendars day x)) _ parts))
-    (all_quiet calendars day c xs (or_second (is_among c (exception_times calendars day x)) _ parts))
+    and_from _ _ (not_from_false _ (or_parts (is_among c (exception_times calendars day x)) _ parts).0)
+    (all_quiet calendars day c xs (or_parts (is_among c (exception_times calendars day x)) _ parts).1)
 
 exception_now-quiet : (calendars : List Calendar) (day : Date) (c : ℕ) (exceptions : List Exception)
     → list_all (quiet_at calendars day (suc c)) exceptions ≡ true → exception_now calendars day (suc c) exceptions ≡ exception_now calendars day c exceptions
@@ -92,10 +74,6 @@ exception_now-quiet calendars day c exceptions quiet =
     chosen-agree (speaks calendars day (suc c)) (speaks calendars day c) gives_way_to_lower settles_lower (quiet_at calendars day (suc c))
     (speaks-quiet calendars day c) exceptions quiet
 
-first_of : (a b : Bool) → (a && b) ≡ true → a ≡ true
-first_of true b e = refl
-first_of false b e = absurd (false≢true e)
-
 -- the exception that counts says the same at both
 same_said : (calendars : List Calendar) (day : Date) (c : ℕ) (exceptions : List Exception) → list_all (quiet_at calendars day (suc c)) exceptions ≡ true
     → holds_if (λ (x : Exception). value_eq (list_value x.times (suc c)) (list_value x.times c)) (exception_now calendars day c exceptions) ≡ true
@@ -103,7 +81,7 @@ unfolding exception_now
 same_said calendars day c exceptions quiet =
     chosen-holds (speaks calendars day c) gives_way_to_lower settles_lower (quiet_at calendars day (suc c)) (λ (x : Exception). value_eq (list_value x.times (suc c)) (list_value x.times c))
     (λ x quiet_x speaks_x.
-    let same = in_effect-quiet calendars day c x (first_of (in_effect calendars day x) _ speaks_x) quiet_x in
+    let same = in_effect-quiet calendars day c x (and_parts (in_effect calendars day x) _ speaks_x).0 quiet_x in
     rw same (value_eq-same (list_value x.times c))) exceptions quiet
 
 same_value_of : (chosen : Option Exception) (c : ℕ) → holds_if (λ (x : Exception). value_eq (list_value x.times (suc c)) (list_value x.times c)) chosen ≡ true
@@ -124,9 +102,9 @@ schedule_value-quiet schedule calendars day c none =
     let weekday = times_of (weekday_list schedule day) in
     let exceptions = flat_map (exception_times calendars day) schedule.exceptions in
     let parts : (is_among (suc c) weekday || is_among (suc c) exceptions) ≡ false =
-    sym (list_any-append (λ t. t == suc c) weekday exceptions) ∙ or_second (0 == suc c) _ none in
-    let first = exceptional-quiet calendars day c schedule.exceptions (all_quiet calendars day (suc c) schedule.exceptions (or_second (is_among (suc c) weekday) _ parts)) in
-    let second = list_value-quiet (weekday_list schedule day) c (or_first (is_among (suc c) weekday) _ parts) in
+    sym (list_any-append (λ t. t == suc c) weekday exceptions) ∙ (or_parts (0 == suc c) _ none).1 in
+    let first = exceptional-quiet calendars day c schedule.exceptions (all_quiet calendars day (suc c) schedule.exceptions (or_parts (is_among (suc c) weekday) _ parts).1) in
+    let second = list_value-quiet (weekday_list schedule day) c (or_parts (is_among (suc c) weekday) _ parts).0 in
     λ i. first_value (first i) (first_value (second i) schedule.default)
 
 -- the times that are named, once sorted, rise through the day's values

@@ -3,9 +3,9 @@ use Rattle.std.proofs.Common.{◌≡◌, ◌≢◌, ℕ, zero, suc, ◌+◌, ◌
 use Rattle.std.specs.List.{list_any}
 use Rattle.std.proofs.lemmas.Bool.{cases_Bool, cases_eq, cases_lt, false≢true}
 use Rattle.std.proofs.lemmas.Bool.Decides.{nat_tests, Decides-int_eq}
+use Rattle.std.proofs.lemmas.List.{append-nil}
 use Rattle.sched.specs.declared.day_list.TimeValue.{TimeValue}
 use Rattle.sched.specs.Segments.{begins_at, segments_below, last_value, value_eq, with_change}
-use Rattle.sched.proofs.ChosenLemmas.{append_nil}
 
 pub value_eq-same : (x : Option ℤ) → value_eq x x ≡ true
 value_eq-same None = refl
@@ -32,7 +32,7 @@ last_value-push : (xs : List TimeValue) (x : TimeValue) → last_value (xs ++ x 
 last_value-push xs x = ap (option_map (λ (s : TimeValue). s.value)) (slice_get-last xs x)
 
 pushed : (same : Bool) (xs : List TimeValue) (x : TimeValue) → cond (not same) (xs ++ x ∷ []) xs ≡ xs ++ cond (not same) (x ∷ []) []
-pushed true xs x = sym (append_nil xs)
+pushed true xs x = sym (append-nil xs)
 pushed false xs x = refl
 
 cases_le : (k j : ℕ) → (k ≤ j) ⊎ (suc j ≤ k)
@@ -84,7 +84,7 @@ module _ (value : ℕ → Option ℤ) where
   last_value-below zero = last_value-push [] (record { time = 0; value = value 0 })
   last_value-below (suc c) = elim (cases_Bool (value_eq (value c) (value (suc c)))) [
     | inl same ↦
-        let stays : segments_below value (suc (suc c)) ≡ segments_below value (suc c) = rw same (append_nil (segments_below value (suc c))) in
+        let stays : segments_below value (suc (suc c)) ≡ segments_below value (suc c) = rw same (append-nil (segments_below value (suc c))) in
         ap last_value stays ∙ last_value-below c ∙ ap Some (same_values (value c) (value (suc c)) same)
     | inr other ↦
         let grows : segments_below value (suc (suc c)) ≡ segments_below value (suc c) ++ record { time = suc c; value = value (suc c) } ∷ [] = rw other refl in
@@ -107,7 +107,7 @@ module _ (value : ℕ → Option ℤ) where
   segments_below-gap a (suc k) none =
       let e : a + suc k ≡ suc (a + k) = omega arith in
       let here : begins_at value (a + k) ≡ false = none (a + k) (omega arith) (omega arith) in
-      let stays : segments_below value (suc (a + k)) ≡ segments_below value (a + k) = rw here (append_nil (segments_below value (a + k))) in
+      let stays : segments_below value (suc (a + k)) ≡ segments_below value (a + k) = rw here (append-nil (segments_below value (a + k))) in
       ap (segments_below value) e ∙ stays ∙ segments_below-gap a k (λ c from below. none c from (omega arith))
 
   segments_below-to : (a b : ℕ) → a ≤ b → ((c : ℕ) → a ≤ c → c < b → begins_at value c ≡ false) → segments_below value b ≡ segments_below value a

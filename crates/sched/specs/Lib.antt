@@ -6,3 +6,5 @@ pub mod Named
 pub mod Schedule
 pub mod SegmentLaws
 pub mod Segments
+pub mod TimeText
+pub mod ValueCases

@@ -7,7 +7,10 @@
 pub use calendar::{CalId, Calendar};
 pub use day_list::{DayList, TimeValue};
 pub use exception::{Exception, Period};
-pub use laws::{last_segment_has_the_value, value_stands_between_segments};
+pub use laws::{
+    last_segment_has_the_value, list_value_is_the_latest, value_is_by_three_cases,
+    value_stands_between_segments,
+};
 pub use schedule::Schedule;
 pub use time::Time;
 

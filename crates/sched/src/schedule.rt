@@ -23,7 +23,7 @@ pub struct Schedule {
 
 impl Schedule {
     /// Whether the day is one of the effective period. Outside it the schedule writes nothing.
-    pub fn is_active(&self, day: Day) -> bool
+    pub fn active(&self, day: Day) -> bool
         ensures { result ≡ is_active self.now day }
     {
         self.effective_period.holds(day)

@@ -167,14 +167,14 @@ fn exceptions_go_by_priority_and_then_by_index(rt: HostRuntime) -> Result<(), Fa
 fn a_schedule_is_active_in_its_effective_period(rt: HostRuntime) -> Result<(), Fail> {
     let alloc = rt.alloc();
     let mut schedule = schedule(alloc, &[], Vec::new(alloc), None)?;
-    assert!(rt; schedule.is_active(monday()?));
+    assert!(rt; schedule.active(monday()?));
     schedule.effective_period = Range {
         start: Day::new(2025, 6, 1),
         end: Day::new(2025, 6, 30),
     };
     for (month, day, active) in [(5, 31, false), (6, 1, true), (6, 30, true), (7, 1, false)] {
         let day = Day::new(2025, month, day).ok_or("no day")?;
-        assert_eq!(rt; schedule.is_active(day), active);
+        assert_eq!(rt; schedule.active(day), active);
     }
     Ok(())
 }

@@ -60,8 +60,13 @@ impl Time {
 
 /// `HH:MM:SS.hh`
 impl fmt::Display for Time {
+    ghost use Rattle.std.specs.Prelude.{Some};
+    ghost use Rattle.sched.specs.TimeText.{time_text};
+
+    ghost output = { λ time. Some (time_text time) };
+
     fn fmt<W: fmt::Write>(&self, f: &mut fmt::Formatter<W>) -> fmt::Result {
-        let hundredths = self.hundredths;
+        let hundredths = self.hundredths();
         let (hour, minute) = (hundredths / 360_000, hundredths / 6_000 % 60);
         let (second, rest) = (hundredths / 100 % 60, hundredths % 100);
         write!(f, "{hour:02}:{minute:02}:{second:02}.{rest:02}")
