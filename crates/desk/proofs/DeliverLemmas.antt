@@ -28,7 +28,7 @@ use Rattle.desk.specs.Headline.{Delivers}
 use Rattle.desk.specs.Reply as r
 use Rattle.desk.specs.Tables.{Tables, tables, next_of, row_of}
 use Rattle.desk.specs.Unchanged.{unchanged_reply}
-use Rattle.desk.proofs.EventLemmas.{append_nil}
+use Rattle.std.proofs.lemmas.List.{append-nil}
 use Rattle.desk.proofs.StepLemmas.{Asks, tables-applied, tables-refused, machine-applied, reply-verdict, reply_by}
 use Rattle.desk.specs.Machine as m
 
@@ -148,7 +148,7 @@ Delivers-applied b E p n content before now asked v next answer asks_it held row
     (sym said, moved ∙ ap (with_applied b p n content) held ∙ sym (tables-applied b E p (pos n) n content asks_it at_front.same))
 
 pub replies-push : (b : Building) (E ds : List Delivery) (d : Delivery) → r.replies b E (ds ++ d ∷ []) ≡ r.replies b E ds ++ r.reply b (E ++ ds) d ∷ []
-replies-push b E [] d = ap (λ before. r.reply b before d ∷ []) (sym (append_nil E))
+replies-push b E [] d = ap (λ before. r.reply b before d ∷ []) (sym (append-nil E))
 replies-push b E (x ∷ ds) d =
     ap (λ rest. r.reply b E x ∷ rest)
     (replies-push b (E ++ x ∷ []) ds d ∙ ap (λ before. r.replies b (E ++ x ∷ []) ds ++ r.reply b before d ∷ []) (append_assoc E (x ∷ []) ds))

@@ -2,6 +2,7 @@
 use Rattle.std.proofs.Common.{◌≡◌, List, [], ◌∷◌, ◌++◌, refl, sym, ap, ◌∙◌, append_assoc}
 use Rattle.std.specs.List.{flat_map}
 use Rattle.std.proofs.lemmas.Grind.{flat_map-append}
+use Rattle.std.proofs.lemmas.List.{append-nil}
 use Rattle.window.specs.Taken as asks
 use Rattle.desk.specs.declared.building.Building.{Building}
 use Rattle.desk.specs.declared.delivery.Delivery.{Delivery}
@@ -9,16 +10,12 @@ use Rattle.desk.specs.Accepted.{Text, asks_of, taken_by}
 use Rattle.desk.specs.Machine.{Event, Machine, opening_machine, run, step}
 use Rattle.desk.specs.Events.{told, events_after, machine}
 
-pub append_nil : {A : Type 0} (xs : List A) → xs ++ [] ≡ xs
-append_nil [] = refl
-append_nil (x ∷ xs) = ap (λ ys. x ∷ ys) (append_nil xs)
-
 taken-append : (t : asks.Taken) (xs ys : List asks.Ask) → asks.taken t (xs ++ ys) ≡ asks.taken (asks.taken t xs) ys
 taken-append t [] ys = refl
 taken-append t (x ∷ xs) ys = taken-append (asks.take t x) xs ys
 
 flat_map-push : {A B : Type 0} (f : A → List B) (xs : List A) (x : A) → flat_map f (xs ++ x ∷ []) ≡ flat_map f xs ++ f x
-flat_map-push f xs x = flat_map-append f xs (x ∷ []) ∙ ap (λ ys. flat_map f xs ++ ys) (append_nil (f x))
+flat_map-push f xs x = flat_map-append f xs (x ∷ []) ∙ ap (λ ys. flat_map f xs ++ ys) (append-nil (f x))
 
 -- what was accepted of a panel, after one delivery more
 pub taken_by-push : (b : Building) (p : Text) (E : List Delivery) (d : Delivery)
@@ -32,7 +29,7 @@ run-append b m (x ∷ xs) ys = run-append b (step b m x) xs ys
 
 events_after-push : (b : Building) (earlier ds : List Delivery) (d : Delivery)
     → events_after b earlier (ds ++ d ∷ []) ≡ events_after b earlier ds ++ told b (earlier ++ ds) d
-events_after-push b earlier [] d = append_nil (told b earlier d) ∙ ap (λ ds. told b ds d) (sym (append_nil earlier))
+events_after-push b earlier [] d = append-nil (told b earlier d) ∙ ap (λ ds. told b ds d) (sym (append-nil earlier))
 events_after-push b earlier (x ∷ ds) d =
     ap (λ es. told b earlier x ++ es) (events_after-push b (earlier ++ x ∷ []) ds d)
     ∙ sym (append_assoc (told b earlier x) (events_after b (earlier ++ x ∷ []) ds) (told b ((earlier ++ x ∷ []) ++ ds) d))

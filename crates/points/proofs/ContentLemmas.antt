@@ -1,13 +1,14 @@
 -- The test of two contents decides whether they are the same.
 use Rattle.std.proofs.Common.{◌≡◌, Option, Some, None, ℤ, Decides, refl, ap}
 use Rattle.std.specs.Str.{bytes_eq}
+use Rattle.std.specs.Option.{option_eq}
 use Rattle.std.specs.Ordering.{int_eq}
 use Rattle.std.proofs.lemmas.Slice.Eq.{bytes_eq-Decides}
 use Rattle.std.proofs.lemmas.Bool.Decides.{Decides-int_eq, Decides-and}
 use Rattle.points.specs.declared.content.Content.{Content}
-use Rattle.points.specs.ContentEq.{value_eq, content_eq}
+use Rattle.points.specs.ContentEq.{content_eq}
 
-value_eq-Decides : (x y : Option ℤ) → Decides (value_eq x y) (x ≡ y)
+value_eq-Decides : (x y : Option ℤ) → Decides (option_eq int_eq x y) (x ≡ y)
 value_eq-Decides None None = (λ _. refl, λ _. refl)
 value_eq-Decides None (Some y) = (λ e. cc, λ e. cc)
 value_eq-Decides (Some x) None = (λ e. cc, λ e. cc)

@@ -1,7 +1,7 @@
 -- The front is the least missing number, and it never falls.
-use Rattle.std.proofs.Common.{◌≡◌, ◌≢◌, ℕ, suc, zero, ◌+◌, ◌<◌, ◌≤◌, ◌==◌, Bool, true, false, cond, not, ◌&&◌, max, List, [], ◌∷◌, Some, is_some, length, refl, sym, ◌∙◌, subst, arith, inl, inr, ⊎_elim, nat_lt, nat_le}
+use Rattle.std.proofs.Common.{◌≡◌, ◌≢◌, ℕ, suc, zero, ◌+◌, ◌<◌, ◌≤◌, ◌==◌, Bool, true, false, cond, not, ◌&&◌, max, List, [], ◌∷◌, Some, is_some, length, refl, sym, subst, arith, inl, inr, ⊎_elim, nat_lt, nat_le}
 use Rattle.std.proofs.lemmas.Bool.Decides.{nat_tests}
-use Rattle.std.proofs.lemmas.Bool.{cases_eq, cases_lt, cases_order, cases_Bool, false≢true}
+use Rattle.std.proofs.lemmas.Bool.{both_ways, cases_eq, cases_lt, cases_order, cases_Bool, false≢true}
 use Rattle.points.specs.declared.content.Content.{Content}
 use Rattle.window.specs.declared.plan.NumberedContent.{NumberedContent}
 use Rattle.window.specs.Taken.{Ask, Command, Skip, Taken, taken, take, opening, content_in, content_at, is_key, missing_from, front, accepts, accepts_skip, with_command}
@@ -87,16 +87,13 @@ IsFront-front t = record {
   least = missing_from-least (length t.accepted) t.accepted t.upto;
 }
 
-not_both : (b : Bool) → b ≡ true → b ≡ false → ⊥
-not_both b yes_is no_is = false≢true (sym no_is ∙ yes_is)
-
 pub IsFront-unique : (t : Taken) (f g : ℕ) → IsFront t f → IsFront t g → f ≡ g
 IsFront-unique t f g at_f at_g =
     elim (cases_order f g) [
       | inl same ↦ same
       | inr apart ↦ elim apart [
-        | inl below ↦ absurd (not_both (is_key t f) (at_g.least f at_f.given_up below) at_f.missing)
-        | inr above ↦ absurd (not_both (is_key t g) (at_f.least g at_g.given_up above) at_g.missing)
+        | inl below ↦ absurd (both_ways (is_key t f) at_f.missing (at_g.least f at_f.given_up below))
+        | inr above ↦ absurd (both_ways (is_key t g) at_g.missing (at_f.least g at_g.given_up above))
       ]
     ]
 
@@ -137,7 +134,7 @@ front-grows old new grows =
       | inl below ↦
           let at_new = IsFront-front new in
           let from : old.upto ≤ front new = omega (arith, grows.upto, at_new.given_up) in
-          absurd (not_both (is_key new (front new)) (grows.keys (front new) ((IsFront-front old).least (front new) from below)) at_new.missing)
+          absurd (both_ways (is_key new (front new)) at_new.missing (grows.keys (front new) ((IsFront-front old).least (front new) from below)))
       | inr h ↦ h
     ]
 
