@@ -1,7 +1,7 @@
 """Measures the desk: lines a second of `desk replay`, its peak memory, and how both grow.
 
-Writes a building of 20 panels and lists of in-order commands to it into build/bench, replays each list five
-times and takes the fastest run.
+Writes a building of 20 panels, one of the largest size, and lists of in-order commands to them into
+build/bench, replays each list five times and takes the fastest run.
 """
 import os
 import pathlib
@@ -9,35 +9,51 @@ import resource
 import subprocess
 import sys
 import time
+from dataclasses import dataclass
 
-PANELS = 20
-POINTS = 40
 SIZES = (50_000, 100_000, 200_000)
 RUNS = 5
 ROOT = pathlib.Path(__file__).resolve().parent.parent
 FOLDER = ROOT / "build" / "bench"
 
 
-def write_building(path):
-    points = [f"ROOM-{place}" for place in range(1, POINTS + 1)]
-    names = ", ".join(f'"{name}"' for name in points)
-    with open(path, "w") as out:
-        out.write('zone = "UTC0"\n')
-        for name in points:
-            out.write(f'[[point]]\nname = "{name}"\nkind = "analog"\nlow = 500\nhigh = 3500\ndefault = 1800\n')
-        for place in range(1, PANELS + 1):
-            out.write(f'[[panel]]\nname = "PANEL-{place}"\npoints = [{names}]\npriorities = [8, 10]\n')
+@dataclass(frozen=True)
+class Building:
+    """So many panels and points, each panel with its own share of the points granted."""
+
+    panels: int
+    points: int
+    granted: int
+
+    def granted_to(self, panel):
+        """The numbers of the points that are granted to a panel, from 1."""
+        first = panel * self.granted
+        return [(first + place) % self.points + 1 for place in range(self.granted)]
+
+    def write(self, path):
+        with open(path, "w") as out:
+            out.write('zone = "UTC0"\n')
+            for point in range(1, self.points + 1):
+                out.write(f'[[point]]\nname = "ROOM-{point}"\nkind = "analog"\n')
+                out.write("low = 500\nhigh = 3500\ndefault = 1800\n")
+            for panel in range(self.panels):
+                names = ", ".join(f'"ROOM-{point}"' for point in self.granted_to(panel))
+                out.write(f'[[panel]]\nname = "PANEL-{panel + 1}"\npoints = [{names}]\npriorities = [8, 10]\n')
+
+    def write_commands(self, path, count):
+        with open(path, "w") as out:
+            for index in range(count):
+                panel, number = index % self.panels, index // self.panels + 1
+                points = self.granted_to(panel)
+                point, value = points[index % len(points)], 500 + index * 7 % 3001
+                out.write(
+                    f'{{"number":{number},"panel":"PANEL-{panel + 1}","point":"ROOM-{point}",'
+                    f'"priority":8,"value":{value}}}\n'
+                )
 
 
-def write_commands(path, count):
-    with open(path, "w") as out:
-        for index in range(count):
-            panel, number = index % PANELS + 1, index // PANELS + 1
-            point, value = index % POINTS + 1, 500 + index * 7 % 3001
-            out.write(
-                f'{{"number":{number},"panel":"PANEL-{panel}","point":"ROOM-{point}",'
-                f'"priority":8,"value":{value}}}\n'
-            )
+USUAL = Building(panels=20, points=40, granted=40)
+LARGEST = Building(panels=200, points=1_000, granted=20)
 
 
 def replay(building, deliveries):
@@ -61,19 +77,29 @@ def replay(building, deliveries):
     return float(seconds), int(peak)
 
 
+def measure(building, size):
+    """The fastest of some runs of a list of so many commands: its seconds and peak kilobytes."""
+    file = FOLDER / f"{building.points}-points.toml"
+    deliveries = FOLDER / f"{building.points}-points-{size}.jsonl"
+    building.write(file)
+    building.write_commands(deliveries, size)
+    return min(replay(str(file), str(deliveries)) for _ in range(RUNS))
+
+
 def main():
     FOLDER.mkdir(parents=True, exist_ok=True)
-    building = str(FOLDER / "building.toml")
-    write_building(building)
     earlier = None
     for size in SIZES:
-        deliveries = str(FOLDER / f"{size}.jsonl")
-        write_commands(deliveries, size)
-        runs = [replay(building, deliveries) for _ in range(RUNS)]
-        seconds, peak = min(runs)
+        seconds, peak = measure(USUAL, size)
         growth = "" if earlier is None else f", {seconds / earlier:.2f} times the time for twice the lines"
         print(f"{size} lines: {size / seconds:,.0f} lines a second, {peak / 1024:.0f} MB at most{growth}")
         earlier = seconds
+    size = SIZES[-1]
+    seconds, peak = measure(LARGEST, size)
+    print(
+        f"{size} lines to {LARGEST.panels} panels and {LARGEST.points} points: "
+        f"{size / seconds:,.0f} lines a second, {peak / 1024:.0f} MB at most"
+    )
 
 
 main()

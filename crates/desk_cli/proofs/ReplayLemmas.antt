@@ -1,8 +1,9 @@
 -- Printing one line after another.
-use Rattle.std.proofs.Common.{◌≡◌, ℕ, suc, ◌+◌, ◌-◌, ◌<◌, ◌==◌, ◌&&◌, ◌++◌, Bool, true, false, List, [], ◌∷◌, length, take, get_or, Option, Some, None, IfSome, option_map, option_and_then, cond, lt-ltb, nat_le, refl, sym, ap, ap₂, subst, ◌∙◌, append_assoc, arith}
+use Rattle.std.proofs.Common.{◌≡◌, ℕ, suc, ◌+◌, ◌-◌, ◌<◌, ◌≤◌, ◌==◌, ◌&&◌, ◌++◌, Bool, true, false, List, [], ◌∷◌, length, take, drop, get_or, Option, Some, None, IfSome, option_map, option_and_then, cond, lt-ltb, nat_le, refl, sym, ap, ap₂, subst, ◌∙◌, append_assoc, arith}
 use Rattle.std.proofs.lemmas.Bool.{leb-false, leb-true}
 use Rattle.std.proofs.lemmas.Grind.{flat_map-append}
-use Rattle.std.proofs.lemmas.List.{length-take-le, take_all, take_more}
+use Rattle.std.proofs.lemmas.List.{append-nil, length-drop, length-take-le, take-append-drop, take_all, take_more}
+use Rattle.std.proofs.lemmas.Option.{same_Some}
 use Rattle.std.specs.List.{flat_map}
 use Rattle.std.specs.Io.KnownBytes.{Appends, IsAtEnd, Keeps}
 use Rattle.std.specs.Io.BufRead.{DropsThrough, drop_through, strip_last, take_through}
@@ -34,25 +35,29 @@ pub Keeps-same : (a : Option (List ℕ)) → Keeps a a
 Keeps-same None = tt
 Keeps-same (Some xs) = refl
 
-append-nil : {A : Type 0} (xs : List A) → xs ++ [] ≡ xs
-append-nil [] = refl
-append-nil (x ∷ xs) = ap (λ t. x ∷ t) (append-nil xs)
-
 pub Appends-nothing : (a : Option (List ℕ)) → Appends a a []
 Appends-nothing None = tt
 Appends-nothing (Some xs) = sym (append-nil xs)
 
+-- a write takes some bytes more of a text
+pub written-more : (text written rest : List ℕ) (n : ℕ) (old mid new : Option (List ℕ)) → n ≤ length rest → text ≡ written ++ rest → Appends old mid written → Appends mid new (take n rest)
+    → (more : List ℕ) × (text ≡ more ++ take (length rest - n) (drop n rest)) × Appends old new more
+written-more text written rest n old mid new within is before now =
+    let left : take (length rest - n) (drop n rest) ≡ drop n rest = take_all (length rest - n) (drop n rest) (omega (arith, length-drop n rest)) in (
+      written ++ take n rest,
+      is ∙ ap (λ xs. written ++ xs) (sym (take-append-drop n rest)) ∙ sym (append_assoc written (take n rest) (drop n rest))
+          ∙ ap (λ xs. (written ++ take n rest) ++ xs) (sym left),
+      Appends-Appends old mid new written (take n rest) before now,
+    )
+
 -- ---- replies and lines, one part after another
 
-replies-append : (b : Building) (E ds es : List Delivery) → replies b E (ds ++ es) ≡ replies b E ds ++ replies b (E ++ ds) es
+pub replies-append : (b : Building) (E ds es : List Delivery) → replies b E (ds ++ es) ≡ replies b E ds ++ replies b (E ++ ds) es
 replies-append b E [] es = ap (λ F. replies b F es) (sym (append-nil E))
 replies-append b E (d ∷ ds) es = ap (λ t. reply b E d ∷ t) (replies-append b (E ++ d ∷ []) ds es ∙ ap (λ F. replies b (E ++ d ∷ []) ds ++ replies b F es) (append_assoc E (d ∷ []) ds))
 
-some_same : {A : Type 0} {x y : A} → Some x ≡ Some y → x ≡ y
-some_same e = cc
-
-told_by-append : (ls ms : List (List ℕ)) (ds es : List Delivery) → told_by ls ≡ Some ds → told_by ms ≡ Some es → told_by (ls ++ ms) ≡ Some (ds ++ es)
-told_by-append [] ms ds es p q = q ∙ ap (λ (ts : List Delivery). Some (ts ++ es)) (some_same p)
+pub told_by-append : (ls ms : List (List ℕ)) (ds es : List Delivery) → told_by ls ≡ Some ds → told_by ms ≡ Some es → told_by (ls ++ ms) ≡ Some (ds ++ es)
+told_by-append [] ms ds es p q = q ∙ ap (λ (ts : List Delivery). Some (ts ++ es)) (same_Some _ _ p)
 told_by-append (l ∷ ls) ms ds es p q = step (is_empty_line l) (delivery_of l) (told_by ls) (told_by (ls ++ ms)) p (λ ts e. told_by-append ls ms ts es e q)
   where
     step : (empty : Bool) (one : Option Delivery) (rest all : Option (List Delivery))
@@ -62,7 +67,7 @@ told_by-append (l ∷ ls) ms ds es p q = step (is_empty_line l) (delivery_of l) 
     step true one rest all e ih = ih ds e
     step false None rest all e ih = cc
     step false (Some d) None all e ih = cc
-    step false (Some d) (Some ts) all e ih = rw (ih ts refl) (ap (λ (xs : List Delivery). Some (xs ++ es)) (some_same e))
+    step false (Some d) (Some ts) all e ih = rw (ih ts refl) (ap (λ (xs : List Delivery). Some (xs ++ es)) (same_Some _ _ e))
 
 -- what was printed of some lines, and then of more
 pub Prints-Prints : (b : Building) (E : List Delivery) (ls ms : List (List ℕ)) (w x y : Option (List ℕ)) (t u : Tables)
@@ -140,17 +145,21 @@ Progress-end b E bytes left old new now p end =
     let at_end : p.rest ≡ [] = subst IsAtEnd p.left_is end in
     subst (λ ls. Prints b E ls old new now) (sym (p.lines_are ∙ ap (λ r. p.passed ++ lines_of r) at_end ∙ append-nil p.passed)) p.prints
 
+-- the next line that was read, and those after it
+pub lines_of-left : (b : Building) (E : List Delivery) (bytes line : List ℕ) (left old new : Option (List ℕ)) (now : Tables) → (p : Progress b E bytes left old new now)
+    → IfSome left (λ xs. line ≡ take_through 10 xs) → 0 < length line → lines_of p.rest ≡ strip_last 10 line ∷ lines_of (drop_through 10 p.rest)
+lines_of-left b E bytes line left old new now p reads some =
+    let line_is : line ≡ take_through 10 p.rest = subst (λ o. IfSome o (λ xs. line ≡ take_through 10 xs)) p.left_is reads in
+    lines_of-next p.rest (subst (λ l. 0 < length l) line_is some) ∙ ap (λ l. strip_last 10 l ∷ lines_of (drop_through 10 p.rest)) (sym line_is)
+
 -- one more line was read and printed
 pub Progress-line : (b : Building) (E : List Delivery) (bytes line : List ℕ) (left after old mid new : Option (List ℕ)) (now then : Tables)
     → Progress b E bytes left old mid now → IfSome left (λ xs. line ≡ take_through 10 xs) → DropsThrough left after 10 → 0 < length line
     → ((F : List Delivery) → now ≡ tables b F → Prints b F (strip_last 10 line ∷ []) mid new then)
     → Progress b E bytes after old new then
 Progress-line b E bytes line left after old mid new now then p reads drops some prints =
-    let line_is : line ≡ take_through 10 p.rest = subst (λ o. IfSome o (λ xs. line ≡ take_through 10 xs)) p.left_is reads in
     let after_is : after ≡ Some (drop_through 10 p.rest) = subst (λ o. DropsThrough o after 10) p.left_is drops in
-    let more : 0 < length (take_through 10 p.rest) = subst (λ l. 0 < length l) line_is some in
-    let next : lines_of p.rest ≡ strip_last 10 line ∷ lines_of (drop_through 10 p.rest) =
-    lines_of-next p.rest more ∙ ap (λ l. strip_last 10 l ∷ lines_of (drop_through 10 p.rest)) (sym line_is) in
+    let next = lines_of-left b E bytes line left old mid now p reads some in
     record {
       passed = p.passed ++ strip_last 10 line ∷ [];
       rest = drop_through 10 p.rest;
@@ -185,18 +194,15 @@ Replays-done file list b b' b'' old mid new now file_is same prints still points
 abbrev state_at : List ℕ → Tables → Building → List ℕ
 state_at name t b = state_line name (state_of (t.places name) (point_named b.points name))
 
-pub points-next : (b b' : Building) (t t' : Tables) (ps : List Point) (i : ℕ) (p : Point) (name line shown : List ℕ) (old mid new : Option (List ℕ))
+pub points-then : (b b' : Building) (t t' : Tables) (ps : List Point) (i : ℕ) (p : Point) (name line shown : List ℕ)
     → b' ≡ b → t' ≡ t → ps ≡ b'.points → i < length b.points → name ≡ (get_or ps i p).name → line ≡ state_at name t' b' → shown ≡ line
-    → Appends old mid (flat_map (line_of_point b t) (take i b.points)) → Appends mid new shown
-    → Appends old new (flat_map (line_of_point b t) (take (i + 1) b.points))
-points-next b b' t t' ps i p name line shown old mid new b_is t_is ps_are within name_is line_is shown_is before now =
+    → flat_map (line_of_point b t) (take (i + 1) b.points) ≡ flat_map (line_of_point b t) (take i b.points) ++ shown
+points-then b b' t t' ps i p name line shown b_is t_is ps_are within name_is line_is shown_is =
     let q : Point = get_or b.points i p in
     let named : name ≡ q.name = name_is ∙ ap (λ (xs : List Point). (get_or xs i p).name) (ps_are ∙ ap (λ (c : Building). c.points) b_is) in
     let this : shown ≡ line_of_point b t q = shown_is ∙ line_is ∙ ap (λ n. state_at n t' b') named ∙ ap (λ u. state_at q.name u b') t_is ∙ ap (λ c. state_at q.name t c) b_is in
-    let all : flat_map (line_of_point b t) (take (i + 1) b.points) ≡ flat_map (line_of_point b t) (take i b.points) ++ shown =
     ap (flat_map (line_of_point b t)) (take_more b.points i p within) ∙ flat_map-append (line_of_point b t) (take i b.points) (q ∷ [])
-    ∙ ap (λ l. flat_map (line_of_point b t) (take i b.points) ++ l) (append-nil (line_of_point b t q) ∙ sym this) in
-    subst (λ text. Appends old new text) (sym all) (Appends-Appends old mid new _ _ before now)
+    ∙ ap (λ l. flat_map (line_of_point b t) (take i b.points) ++ l) (append-nil (line_of_point b t q) ∙ sym this)
 
 -- ---- the file's first bytes
 

@@ -1,9 +1,9 @@
 -- What a replay prints: the replies to the deliveries that the lines tell, and then the points.
-use Rattle.std.specs.Prelude.{◌≡◌, ℕ, Bool, ◌||◌, ◌==◌, List, [], ◌∷◌, ◌++◌, Option, Some, None}
+use Rattle.std.specs.Prelude.{◌≡◌, ◌⊎◌, ℕ, Bool, ◌||◌, ◌==◌, List, [], ◌∷◌, ◌++◌, Option, Some, None}
 use Rattle.std.specs.Prelude.{Result, Ok, Err, if◌then◌else◌, option_map}
 use Rattle.std.specs.List.{flat_map}
 use Rattle.std.specs.Str.{bytes_eq}
-use Rattle.std.specs.Io.KnownBytes.{Appends}
+use Rattle.std.specs.Io.KnownBytes.{Appends, Keeps}
 use Rattle.points.specs.declared.Point.{Point}
 use Rattle.points.specs.Rights.{point_named}
 use Rattle.desk.specs.declared.Building.{Building}
@@ -74,6 +74,35 @@ pub record Replays (file list : List ℕ) (old new : Option (List ℕ)) : Type 0
   pub told_is : told_by (lines_of list) ≡ Some told
   pub printed : Appends old new
       (reply_lines (replies building [] told) ++ point_lines building (tables building told))
+
+-- ---- what is printed at most, whatever the end
+
+-- known bytes grow by a beginning of a text
+abbrev pub AppendsStart : Option (List ℕ) → Option (List ℕ) → List ℕ → Type 0
+AppendsStart old new text = (start : List ℕ) × (rest : List ℕ) × (text ≡ start ++ rest) × Appends old new start
+
+-- after the list E the first lines tell deliveries, and a beginning of the replies to them was printed
+pub record PrintsStart (b : Building) (E : List Delivery) (lines : List (List ℕ)) (old new : Option (List ℕ)) : Type 0 where
+  pub first : List (List ℕ)
+  pub others : List (List ℕ)
+  pub told : List Delivery
+  pub cut : lines ≡ first ++ others
+  pub told_is : told_by first ≡ Some told
+  pub printed : AppendsStart old new (reply_lines (replies b E told))
+
+-- the list tells deliveries, and a beginning of the replies to them and the points was printed
+pub record PrintsAllLines (b : Building) (lines : List (List ℕ)) (old new : Option (List ℕ)) : Type 0 where
+  pub told : List Delivery
+  pub told_is : told_by lines ≡ Some told
+  pub printed : AppendsStart old new (reply_lines (replies b [] told) ++ point_lines b (tables b told))
+
+-- nothing was printed; or the file is a building, and a beginning of the replies to the first lines was
+-- printed, or of the replies to all of them and the points
+abbrev pub PrintsNoMore : List ℕ → List ℕ → Option (List ℕ) → Option (List ℕ) → Type 0
+PrintsNoMore file list old new =
+    Keeps old new
+    ⊎ ((b : Building) × (building_of file ≡ Some b)
+    × (PrintsStart b [] (lines_of list) old new ⊎ PrintsAllLines b (lines_of list) old new))
 
 -- the bytes that an opened reader has left, where they are known
 abbrev pub bytes_of : {R E : Type 0} → (R → Option (List ℕ)) → Result R E → Option (List ℕ)

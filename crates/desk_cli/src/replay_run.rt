@@ -9,8 +9,8 @@ ghost use Rattle.desk.specs.PointState.{state_of};
 ghost use Rattle.desk.specs.Tables.{tables};
 ghost use Rattle.desk.specs.declared.Delivery.{Delivery as a_delivery};
 ghost use Rattle.desk_cli.specs.BuildingFile.{building_of};
-ghost use Rattle.desk_cli.specs.Replay.{Prints, Replays, bytes_of, is_empty_line, lines_of, point_lines};
-ghost use Rattle.desk_cli.specs.Replay.{state_line};
+ghost use Rattle.desk_cli.specs.Replay.{AppendsStart, Prints, PrintsNoMore, PrintsStart, Replays, bytes_of};
+ghost use Rattle.desk_cli.specs.Replay.{is_empty_line, lines_of, point_lines, state_line};
 
 use crate::building_file::{LONGEST_FILE, read_building};
 use crate::line_answer::answer_line;
@@ -27,7 +27,9 @@ use std::io::{BufRead, Read, Write};
 /// and then the POINT line of each point in file order. Empty lines are passed over, also with a CR.
 ///
 /// A fault is told on `fault` as one line, and ends the run: the replies before it stand, and no
-/// POINT line follows. `out` is flushed at the end of the run, whatever it was.
+/// POINT line follows a line that tells no delivery. Whatever the end, nothing else is printed: a
+/// beginning of the replies to the first lines, or of all replies and the points. `out` is flushed at
+/// the end of the run, whatever it was.
 pub fn replay<B: Read + Drop, D: BufRead + Drop, W: Write, F: Write>(
     alloc: Global,
     file: Input<'_, B>,
@@ -40,6 +42,10 @@ pub fn replay<B: Read + Drop, D: BufRead + Drop, W: Write, F: Write>(
         → bytes_of D.remaining deliveries.entry.reader ≡ Some list_bytes
         → Replays file_bytes list_bytes (W.contents out.old) (W.contents out.new) }
     ensures quiet { result ≡ Status.Done → Keeps (F.contents fault.old) (F.contents fault.new) }
+    ensures no_more { (file_bytes list_bytes : List ℕ)
+        → bytes_of B.remaining file.entry.reader ≡ Some file_bytes
+        → bytes_of D.remaining deliveries.entry.reader ≡ Some list_bytes
+        → PrintsNoMore file_bytes list_bytes (W.contents out.old) (W.contents out.new) }
 {
     match replay_over(alloc, file, deliveries, out) {
         Ok(()) => Status::Done,
@@ -57,10 +63,14 @@ fn replay_over<'a, B: Read + Drop, D: BufRead + Drop, W: Write>(
     deliveries: Input<'a, D>,
     out: &mut W,
 ) -> Result<(), ReplayFault<'a>>
-    ensures { OnOk result ((file_bytes list_bytes : List ℕ)
+    ensures done { OnOk result ((file_bytes list_bytes : List ℕ)
         → bytes_of B.remaining file.entry.reader ≡ Some file_bytes
         → bytes_of D.remaining deliveries.entry.reader ≡ Some list_bytes
         → Replays file_bytes list_bytes (W.contents out.old) (W.contents out.new)) }
+    ensures no_more { (file_bytes list_bytes : List ℕ)
+        → bytes_of B.remaining file.entry.reader ≡ Some file_bytes
+        → bytes_of D.remaining deliveries.entry.reader ≡ Some list_bytes
+        → PrintsNoMore file_bytes list_bytes (W.contents out.old) (W.contents out.new) }
 {
     let building = building_in(alloc, file)?;
     let mut desk = Desk::new(alloc, building);
@@ -112,6 +122,10 @@ fn print_replies<'a, D: BufRead + Drop, W: Write>(
         → tables_held desk.old ≡ tables desk.old.building E
         → Prints desk.old.building E (lines_of bytes) (W.contents out.old) (W.contents out.new)
         (tables_held desk.new)) }
+    ensures no_more { (bytes : List ℕ) (E : List a_delivery)
+        → D.remaining reader ≡ Some bytes
+        → tables_held desk.old ≡ tables desk.old.building E
+        → PrintsStart desk.old.building E (lines_of bytes) (W.contents out.old) (W.contents out.new) }
     ensures building { desk.new.building ≡ desk.old.building }
 {
     let mut line = Vec::new(alloc);
@@ -138,6 +152,9 @@ fn print_reply<'a, W: Write>(
         → tables_held desk.old ≡ tables desk.old.building E
         → Prints desk.old.building E (line.now ∷ []) (W.contents out.old) (W.contents out.new)
         (tables_held desk.new)) }
+    ensures no_more { (E : List a_delivery)
+        → tables_held desk.old ≡ tables desk.old.building E
+        → PrintsStart desk.old.building E (line.now ∷ []) (W.contents out.old) (W.contents out.new) }
     ensures building { desk.new.building ≡ desk.old.building }
 {
     if is_empty(line) {
@@ -150,13 +167,20 @@ fn print_reply<'a, W: Write>(
     }
 }
 
+/// Prints a text whole, or where the output fails a beginning of it; what `write_all` has printed by
+/// then, std does not say.
 fn print_text<'a, W: Write>(out: &mut W, text: &[u8]) -> Result<(), ReplayFault<'a>>
-    ensures { OnOk result (Appends (W.contents out.old) (W.contents out.new) text.now) }
+    ensures whole { OnOk result (Appends (W.contents out.old) (W.contents out.new) text.now) }
+    ensures no_more { AppendsStart (W.contents out.old) (W.contents out.new) text.now }
 {
-    match out.write_all(text) {
-        Ok(()) => Ok(()),
-        Err(_) => Err(ReplayFault::OutputFailed),
+    let mut rest = text;
+    while !rest.is_empty() {
+        match out.write(rest) {
+            Ok(0) | Err(_) => return Err(ReplayFault::OutputFailed),
+            Ok(taken) => rest = &rest[taken..],
+        }
     }
+    Ok(())
 }
 
 fn flush<'a, W: Write>(out: &mut W) -> Result<(), ReplayFault<'a>>
@@ -174,8 +198,10 @@ fn print_points<'a, W: Write>(
     desk: &mut Desk,
     out: &mut W,
 ) -> Result<(), ReplayFault<'a>>
-    ensures { OnOk result (Appends (W.contents out.old) (W.contents out.new)
+    ensures whole { OnOk result (Appends (W.contents out.old) (W.contents out.new)
         (point_lines desk.old.building (tables_held desk.old))) }
+    ensures no_more { AppendsStart (W.contents out.old) (W.contents out.new)
+        (point_lines desk.old.building (tables_held desk.old)) }
 {
     let count = desk.building().points.as_slice().len();
     for place in 0..count {

@@ -2,7 +2,8 @@ use Rattle.std.proofs.Common.{◌≡◌, ◌∙◌, [], Err, Ok, OnOk, Result, S
 use Rattle.desk.specs.declared.Building.{Building}
 use Rattle.desk.specs.Held.{tables_held}
 use Rattle.desk.specs.Tables.{tables}
-use Rattle.desk_cli.proofs.ReplayLemmas.{Replays-Keeps, Replays-done}
+use Rattle.desk_cli.proofs.ReplayLemmas.{Keeps-same, Replays-Keeps, Replays-done}
+use Rattle.desk_cli.proofs.StopLemmas.{no_more-points}
 use Rattle.desk_cli.proofs.replay_run.replay_over.Goals as goal
 
 -- what holds at all holds at an `Ok`
@@ -10,8 +11,8 @@ of_any : {T E : Type 0} (r : Result T E) (P : Type 0) → P → OnOk r P
 of_any {T} {E} (Ok x) P p = p
 of_any {T} {E} (Err e) P p = tt
 
-pub returns : goal.returns
-returns g c =
+pub returns-clause-done : goal.returns-clause-done
+returns-clause-done g c =
     let empty : tables_held c.new-desk.result ≡ tables c.new-desk.result.building [] =
     c.new-desk.ensures.empty ∙ ap (λ (b : Building). tables b []) (sym c.new-desk.ensures.building) in
     let prints = rw c.in-Ok.is at c.in_ok-print_replies-in-Ok.ensures.prints in
@@ -20,4 +21,24 @@ returns g c =
     Replays-Keeps file_bytes list_bytes _ _ _
     (Replays-done file_bytes list_bytes c.in_ok-building.building c.new-desk.result.building c.print_replies.new.desk.building _ _ _ _
     (c.in_ok-building.ensures file_bytes file) c.new-desk.ensures.building (prints list_bytes [] list_is empty)
-    c.in_ok-print_replies-in-Ok.ensures.building c.in_ok-print_points.ensures) c.flush.ensures)
+    c.in_ok-print_replies-in-Ok.ensures.building c.in_ok-print_points.ensures.whole) c.flush.ensures)
+
+pub returns-clause-no_more : goal.returns-clause-no_more
+returns-clause-no_more g c = λ file_bytes list_bytes file list.
+    let empty : tables_held c.new-desk.result ≡ tables c.new-desk.result.building [] =
+    c.new-desk.ensures.empty ∙ ap (λ (b : Building). tables b []) (sym c.new-desk.ensures.building) in
+    let prints = rw c.in-Ok.is at c.in_ok-print_replies-in-Ok.ensures.prints in
+    let list_is : g.D.Read.remaining c.in-Ok.reader ≡ Some list_bytes = rw c.in-Ok.is at list in
+    no_more-points file_bytes list_bytes c.in_ok-building.building c.new-desk.result.building c.print_replies.new.desk.building _ _ _ _ _
+    (c.in_ok-building.ensures file_bytes file) c.new-desk.ensures.building (prints list_bytes [] list_is empty)
+    c.in_ok-print_replies-in-Ok.ensures.building c.print_points.ensures.no_more c.flush.ensures
+
+pub returns-in_err-print_points-clause-no_more : goal.returns-in_err-print_points-clause-no_more
+returns-in_err-print_points-clause-no_more g c = λ file_bytes list_bytes file list.
+    let empty : tables_held c.new-desk.result ≡ tables c.new-desk.result.building [] =
+    c.new-desk.ensures.empty ∙ ap (λ (b : Building). tables b []) (sym c.new-desk.ensures.building) in
+    let prints = rw c.in-Ok.is at c.in_ok-print_replies-in-Ok.ensures.prints in
+    let list_is : g.D.Read.remaining c.in-Ok.reader ≡ Some list_bytes = rw c.in-Ok.is at list in
+    no_more-points file_bytes list_bytes c.in_ok-building.building c.new-desk.result.building c.print_replies.new.desk.building _ _ _ _ _
+    (c.in_ok-building.ensures file_bytes file) c.new-desk.ensures.building (prints list_bytes [] list_is empty)
+    c.in_ok-print_replies-in-Ok.ensures.building c.print_points.ensures.no_more (Keeps-same _)

@@ -1,0 +1,174 @@
+-- What a run has printed at most, wherever it stops.
+use Rattle.std.proofs.Common.{◌≡◌, ℕ, ◌<◌, ◌++◌, false, Ok, Vec, List, [], ◌∷◌, drop, length, take, Option, None, Some, IfSome, refl, sym, ap, subst, ◌∙◌, inl, inr, ⊎_elim, append_assoc}
+use Rattle.std.proofs.lemmas.Grind.{flat_map-append}
+use Rattle.std.proofs.lemmas.List.{append-nil, take-append-drop}
+use Rattle.std.specs.List.{flat_map}
+use Rattle.std.specs.declared.alloc.Global.{Global}
+use Rattle.std.specs.Io.BufRead.{DropsThrough, drop_through, strip_last, take_through}
+use Rattle.std.specs.Io.KnownBytes.{Appends, Keeps}
+use Rattle.desk.specs.declared.Building.{Building}
+use Rattle.desk.specs.declared.Delivery.{Delivery}
+use Rattle.desk.specs.Reply.{replies, reply}
+use Rattle.desk.specs.Tables.{Tables, tables}
+use Rattle.desk_cli.specs.BuildingFile.{building_of}
+use Rattle.desk_cli.specs.DeliveryLine.{delivery_of}
+use Rattle.desk_cli.specs.LineAnswer.{AnswersLine}
+use Rattle.desk_cli.specs.Replay.{AppendsStart, Prints, PrintsNoMore, PrintsStart, is_empty_line, lines_of, point_lines, reply_lines}
+use Rattle.desk_cli.specs.ReplyText.{reply_line}
+use Rattle.desk_cli.proofs.ReplayLemmas.{Appends-Appends, Appends-Keeps, Appends-nothing, Progress, lines_of-left, replies-append, told_by-append}
+
+-- ---- beginnings of a text
+
+pub start-nothing : (a : Option (List ℕ)) (text : List ℕ) → AppendsStart a a text
+start-nothing a text = ([], text, refl, Appends-nothing a)
+
+pub start-whole : (a b : Option (List ℕ)) (text : List ℕ) → Appends a b text → AppendsStart a b text
+start-whole a b text whole = (text, [], sym (append-nil text), whole)
+
+pub start-after : (a b c : Option (List ℕ)) (text more : List ℕ) → Appends a b text → AppendsStart b c more → AppendsStart a c (text ++ more)
+start-after a b c text more whole start = (
+  text ++ start.0,
+  start.1,
+  ap (λ t. text ++ t) start.2 ∙ sym (append_assoc text start.0 start.1),
+  Appends-Appends a b c text start.0 whole start.3,
+)
+
+pub start-longer : (a b : Option (List ℕ)) (text more : List ℕ) → AppendsStart a b text → AppendsStart a b (text ++ more)
+start-longer a b text more start = (start.0, start.1 ++ more, ap (λ t. t ++ more) start.2 ∙ append_assoc start.0 start.1 more, start.3)
+
+pub start-Keeps : (a b c : Option (List ℕ)) (text : List ℕ) → AppendsStart a b text → Keeps b c → AppendsStart a c text
+start-Keeps a b c text start kept = (start.0, start.1, start.2, Appends-Keeps a b c start.0 start.3 kept)
+
+-- the texts of some items, and of all
+pub start-taken : {A : Type 0} (f : A → List ℕ) (xs : List A) (i : ℕ) (a b : Option (List ℕ)) → AppendsStart a b (flat_map f (take i xs)) → AppendsStart a b (flat_map f xs)
+start-taken f xs i a b start =
+    let all : flat_map f (take i xs) ++ flat_map f (drop i xs) ≡ flat_map f xs = sym (flat_map-append f (take i xs) (drop i xs)) ∙ ap (flat_map f) (take-append-drop i xs) in
+    subst (λ text. AppendsStart a b text) all (start-longer a b (flat_map f (take i xs)) (flat_map f (drop i xs)) start)
+
+-- ---- the first lines
+
+pub first-none : (b : Building) (E : List Delivery) (lines : List (List ℕ)) (a : Option (List ℕ)) → PrintsStart b E lines a a
+first-none b E lines a = record { first = []; others = lines; told = []; cut = refl; told_is = refl; printed = start-nothing a [] }
+
+pub first-all : (b : Building) (E : List Delivery) (lines : List (List ℕ)) (old new : Option (List ℕ)) (now : Tables) → Prints b E lines old new now → PrintsStart b E lines old new
+first-all b E lines old new now prints = record {
+  first = lines;
+  others = [];
+  told = prints.told;
+  cut = sym (append-nil lines);
+  told_is = prints.told_is;
+  printed = start-whole old new _ prints.printed;
+}
+
+pub first-same : (b b' : Building) (E : List Delivery) (line line' : List ℕ) (old new : Option (List ℕ)) → b ≡ b' → line ≡ line'
+    → PrintsStart b E (line ∷ []) old new → PrintsStart b' E (line' ∷ []) old new
+first-same b b' E line line' old new b_is line_is part =
+    subst (λ c. PrintsStart c E (line' ∷ []) old new) b_is (subst (λ l. PrintsStart b E (l ∷ []) old new) line_is part)
+
+-- some lines, of more
+pub first-of_more : (b : Building) (E : List Delivery) (lines more : List (List ℕ)) (old new : Option (List ℕ)) → PrintsStart b E lines old new → PrintsStart b E (lines ++ more) old new
+first-of_more b E lines more old new part = record {
+  first = part.first;
+  others = part.others ++ more;
+  told = part.told;
+  cut = ap (λ ls. ls ++ more) part.cut ∙ append_assoc part.first part.others more;
+  told_is = part.told_is;
+  printed = part.printed;
+}
+
+-- some lines, and the first of others
+pub first-after : (b : Building) (E : List Delivery) (lines more : List (List ℕ)) (old mid new : Option (List ℕ)) (now : Tables)
+    → (prints : Prints b E lines old mid now) → PrintsStart b (E ++ prints.told) more mid new → PrintsStart b E (lines ++ more) old new
+first-after b E lines more old mid new now prints part = record {
+  first = lines ++ part.first;
+  others = part.others;
+  told = prints.told ++ part.told;
+  cut = ap (λ ls. lines ++ ls) part.cut ∙ sym (append_assoc lines part.first part.others);
+  told_is = told_by-append lines part.first prints.told part.told prints.told_is part.told_is;
+  printed = subst (λ text. AppendsStart old new text)
+      (sym (flat_map-append reply_line (replies b E prints.told) (replies b (E ++ prints.told) part.told)) ∙ ap reply_lines (sym (replies-append b E prints.told part.told)))
+      (start-after old mid new _ _ prints.printed part.printed);
+}
+
+-- the reply to a line, or a beginning of it
+replied : (b : Building) (E : List Delivery) (line text : List ℕ) (answered : Vec ℕ Global) (old new : Option (List ℕ)) (now : Tables) (told : Option Delivery)
+    → is_empty_line line ≡ false → delivery_of line ≡ told → AnswersLine b E told (Ok answered) now → text ≡ answered.items → AppendsStart old new text → PrintsStart b E (line ∷ []) old new
+replied b E line text answered old new now None some none answers is start = absurd answers
+replied b E line text answered old new now (Some d) some one answers is start = record {
+  first = line ∷ [];
+  others = [];
+  told = d ∷ [];
+  cut = refl;
+  told_is = rw (some, one) refl;
+  printed = start-longer old new (reply_line (reply b E d)) [] (subst (λ t. AppendsStart old new t) (is ∙ answers.0) start);
+}
+
+pub first-replied : (b : Building) (E : List Delivery) (line text : List ℕ) (answered : Vec ℕ Global) (old new : Option (List ℕ)) (now : Tables)
+    → is_empty_line line ≡ false → AnswersLine b E (delivery_of line) (Ok answered) now → text ≡ answered.items → AppendsStart old new text → PrintsStart b E (line ∷ []) old new
+first-replied b E line text answered old new now some answers is start = replied b E line text answered old new now (delivery_of line) some refl answers is start
+
+-- ---- where the reading stops
+
+-- before the next line
+pub Progress-stops : (b : Building) (E : List Delivery) (bytes : List ℕ) (left old new : Option (List ℕ)) (now : Tables) → Progress b E bytes left old new now
+    → PrintsStart b E (lines_of bytes) old new
+Progress-stops b E bytes left old new now p =
+    subst (λ ls. PrintsStart b E ls old new) (sym p.lines_are) (first-of_more b E p.passed (lines_of p.rest) old new (first-all b E p.passed old new now p.prints))
+
+-- at it
+pub Progress-stops-at : (b : Building) (E : List Delivery) (bytes line : List ℕ) (left after old mid new : Option (List ℕ)) (now : Tables)
+    → Progress b E bytes left old mid now → IfSome left (λ xs. line ≡ take_through 10 xs) → DropsThrough left after 10 → 0 < length line
+    → ((F : List Delivery) → now ≡ tables b F → PrintsStart b F (strip_last 10 line ∷ []) mid new)
+    → PrintsStart b E (lines_of bytes) old new
+Progress-stops-at b E bytes line left after old mid new now p reads drops some stops =
+    let next = lines_of-left b E bytes line left old mid now p reads some in
+    subst (λ ls. PrintsStart b E ls old new)
+    (sym (p.lines_are ∙ ap (λ ls. p.passed ++ ls) next))
+    (first-after b E p.passed (strip_last 10 line ∷ lines_of (drop_through 10 p.rest)) old mid new now p.prints
+    (first-of_more b (E ++ p.prints.told) (strip_last 10 line ∷ []) (lines_of (drop_through 10 p.rest)) mid new (stops (E ++ p.prints.told) p.prints.holds)))
+
+-- ---- the whole run
+
+pub no_more-lines : (file list : List ℕ) (b b' : Building) (old mid new : Option (List ℕ)) → building_of file ≡ Some b → b' ≡ b → PrintsStart b' [] (lines_of list) old mid
+    → Keeps mid new → PrintsNoMore file list old new
+no_more-lines file list b b' old mid new file_is same part kept = inr (
+  b',
+  file_is ∙ ap Some (sym same),
+  inl (record {
+    first = part.first;
+    others = part.others;
+    told = part.told;
+    cut = part.cut;
+    told_is = part.told_is;
+    printed = start-Keeps old mid new _ part.printed kept;
+  }),
+)
+
+pub no_more-points : (file list : List ℕ) (b b' b'' : Building) (old mid new last : Option (List ℕ)) (now : Tables) → building_of file ≡ Some b → b' ≡ b
+    → Prints b' [] (lines_of list) old mid now → b'' ≡ b' → AppendsStart mid new (point_lines b'' now) → Keeps new last → PrintsNoMore file list old last
+no_more-points file list b b' b'' old mid new last now file_is same prints still points kept = inr (
+  b',
+  file_is ∙ ap Some (sym same),
+  inr (record {
+    told = prints.told;
+    told_is = prints.told_is;
+    printed = start-Keeps old new last _
+        (start-after old mid new _ _ prints.printed (subst (λ text. AppendsStart mid new text) (λ i. point_lines (still i) (prints.holds i)) points)) kept;
+  }),
+)
+
+Keeps-Keeps : (a b c : Option (List ℕ)) → Keeps a b → Keeps b c → Keeps a c
+Keeps-Keeps None b c h k = tt
+Keeps-Keeps (Some xs) None c h k = absurd h
+Keeps-Keeps (Some xs) (Some ys) None h k = absurd k
+Keeps-Keeps (Some xs) (Some ys) (Some zs) h k = k ∙ h
+
+-- what is printed stays printed
+pub no_more-Keeps : (file list : List ℕ) (old mid new : Option (List ℕ)) → PrintsNoMore file list old mid → Keeps mid new → PrintsNoMore file list old new
+no_more-Keeps file list old mid new said kept = ⊎_elim
+    (λ nothing. inl (Keeps-Keeps old mid new nothing kept))
+    (λ some. ⊎_elim
+    (λ first. no_more-lines file list some.0 some.0 old mid new some.1 refl first kept)
+    (λ all. inr (some.0, some.1, inr (record { told = all.told; told_is = all.told_is; printed = start-Keeps old mid new _ all.printed kept })))
+    some.2)
+    said
