@@ -353,9 +353,10 @@ fn names_the_file_that_cannot_be_read(rt: HostRuntime) -> Result<(), Fail> {
     Ok(())
 }
 
-/// An output that takes a number of bytes and then fails.
+/// An output that takes a number of bytes and then fails, at most ten in one write.
 #[derive(Drop)]
 struct Closing {
+    taken: Vec<u8>,
     left: usize,
 }
 
@@ -364,9 +365,10 @@ impl Write for Closing {
         if self.left == 0 {
             return Err(io::Error::from(io::ErrorKind::BrokenPipe));
         }
-        let taken = bytes.len().min(self.left);
-        self.left -= taken;
-        Ok(taken)
+        let count = bytes.len().min(self.left).min(10);
+        self.taken.extend_from_slice(&bytes[..count])?;
+        self.left -= count;
+        Ok(count)
     }
 
     fn flush(&mut self) -> io::Result<()> {
@@ -374,22 +376,37 @@ impl Write for Closing {
     }
 }
 
+/// An output that fails after so many bytes has them, and the fault is told.
+fn expect_cut(rt: &impl Abort, alloc: Global, left: usize) -> Result<(), AllocError> {
+    let mut out = Closing {
+        taken: Vec::new(alloc),
+        left,
+    };
+    let mut fault = Vec::new(alloc);
+    let file = Input {
+        path: "b0.toml",
+        reader: Ok(B0.as_bytes()),
+    };
+    let list = Input {
+        path: "day.jsonl",
+        reader: Ok(SET_1.as_bytes()),
+    };
+    let whole = joined(alloc, &[DONE_1, AFTER_1])?;
+    assert!(rt; replay(alloc, file, list, &mut out, &mut fault) == Status::Fault);
+    assert!(rt; fault.as_slice() == b"desk: cannot write\n".as_slice());
+    assert!(rt;
+        whole.as_bytes().starts_with(out.taken.as_slice()),
+        "{:?}",
+        out.taken
+    );
+    assert_eq!(rt; out.taken.len(), left);
+    Ok(())
+}
+
 #[test]
-fn ends_with_a_fault_where_the_output_fails(rt: HostRuntime) -> Result<(), Fail> {
-    let alloc = rt.alloc();
+fn prints_a_beginning_where_the_output_fails(rt: HostRuntime) -> Result<(), Fail> {
     for left in [0, 10, 57, 100] {
-        let mut out = Closing { left };
-        let mut fault = Vec::new(alloc);
-        let file = Input {
-            path: "b0.toml",
-            reader: Ok(B0.as_bytes()),
-        };
-        let list = Input {
-            path: "day.jsonl",
-            reader: Ok(SET_1.as_bytes()),
-        };
-        assert!(rt; replay(alloc, file, list, &mut out, &mut fault) == Status::Fault);
-        assert!(rt; fault.as_slice() == b"desk: cannot write\n".as_slice());
+        expect_cut(&rt, rt.alloc(), left)?;
     }
     Ok(())
 }
