@@ -13,7 +13,7 @@ ghost use Rattle.desk_cli.specs.DeliveryLine.{priority_in, value_in};
 ghost use Rattle.desk_cli.specs.LineFault.{Tells};
 
 use crate::LineFault;
-use crate::table_fields::name_of;
+use crate::table_fields::{is_among, name_of};
 use crate::utf8_text::text_of;
 use desk::Delivery;
 use points::{Content, Name};
@@ -122,10 +122,4 @@ fn each_key_is_among(known: &[&str], members: &Map<String, Value>) -> bool
         (keys members.now) }
 {
     members.keys().all(|key| is_among(known, key.as_str()))
-}
-
-fn is_among(known: &[&str], key: &str) -> bool
-    ensures { result ≡ list_any (λ k. bytes_eq k.now key.now) known.now }
-{
-    known.iter().any(|k| *k == key)
 }

@@ -67,7 +67,8 @@ fn each_key_is_among(known: &[&str], table: &Table) -> bool
     table.keys().all(|key| is_among(known, key.as_str()))
 }
 
-fn is_among(known: &[&str], key: &str) -> bool
+/// Whether the key is one of these.
+pub(crate) fn is_among(known: &[&str], key: &str) -> bool
     ensures { result ≡ list_any (λ k. bytes_eq k.now key.now) known.now }
 {
     known.iter().any(|k| *k == key)

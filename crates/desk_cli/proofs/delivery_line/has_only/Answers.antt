@@ -1,15 +1,11 @@
-use Rattle.std.proofs.Common.{◌≡◌, ◌∙◌, ℕ, List, [], ◌∷◌, ◌&&◌, ◌||◌, map, string_bytes, Bor, bytes_eq, refl, ap, ap₂}
+use Rattle.std.proofs.Common.{◌≡◌, ◌∙◌, ℕ, List, [], ◌∷◌, ◌&&◌, map, string_bytes, Bor, bytes_eq, refl, ap₂}
 use Rattle.std.specs.List.{list_all, list_any}
 use Rattle.std.specs.Map.{keys_of}
 use Rattle.serde_json.proofs.Views.{Entry}
 use Rattle.serde_json.specs.View.{members_view}
 use Rattle.desk_cli.specs.DeliveryLine.{has_only}
+use Rattle.desk_cli.proofs.KeyLemmas.{known_key}
 use Rattle.desk_cli.proofs.delivery_line.has_only.Goals as goal
-
-known_key : (known : List (Bor (List ℕ))) (key : List ℕ)
-    → list_any (λ k. bytes_eq k.now key) known ≡ list_any (λ k. bytes_eq k key) (map (λ k. k.now) known)
-known_key [] key = refl
-known_key (k ∷ known) key = ap (λ b. bytes_eq k.now key || b) (known_key known key)
 
 known_keys : (known : List (Bor (List ℕ))) (es : List Entry)
     → list_all (λ key. list_any (λ k. bytes_eq k.now (string_bytes key)) known) (keys_of es)
