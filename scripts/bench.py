@@ -1,17 +1,21 @@
 """Measures the desk: lines a second of `desk replay`, its peak memory, and how both grow.
 
 Writes a building of 20 panels, one of the largest size, and lists of in-order commands to them into
-build/bench, replays each list five times and takes the fastest run.
+build/bench, replays each list five times and takes the fastest run. Where valgrind is installed it counts
+instructions too, which come out the same however busy the machine is.
 """
 import os
 import pathlib
+import re
 import resource
+import shutil
 import subprocess
 import sys
 import time
 from dataclasses import dataclass
 
 SIZES = (50_000, 100_000, 200_000)
+COUNTED = (10_000, 20_000, 40_000)
 RUNS = 5
 ROOT = pathlib.Path(__file__).resolve().parent.parent
 FOLDER = ROOT / "build" / "bench"
@@ -77,17 +81,36 @@ def replay(building, deliveries):
     return float(seconds), int(peak)
 
 
-def measure(building, size):
-    """The fastest of some runs of a list of so many commands: its seconds and peak kilobytes."""
+def written(building, size):
+    """The paths of the building and of a list of so many commands to it."""
     file = FOLDER / f"{building.points}-points.toml"
     deliveries = FOLDER / f"{building.points}-points-{size}.jsonl"
     building.write(file)
     building.write_commands(deliveries, size)
-    return min(replay(str(file), str(deliveries)) for _ in range(RUNS))
+    return str(file), str(deliveries)
 
 
-def main():
-    FOLDER.mkdir(parents=True, exist_ok=True)
+def measure(building, size):
+    """The fastest of some runs of a list of so many commands: its seconds and peak kilobytes."""
+    file, deliveries = written(building, size)
+    return min(replay(file, deliveries) for _ in range(RUNS))
+
+
+def instructions(building, size):
+    """The instructions of one run of a list of so many commands."""
+    file, deliveries = written(building, size)
+    run = subprocess.run(
+        ["valgrind", "--tool=callgrind", "--callgrind-out-file=/dev/null", str(ROOT / "build" / "desk")]
+        + ["replay", file, deliveries],
+        stdout=subprocess.DEVNULL,
+        stderr=subprocess.PIPE,
+        text=True,
+        check=True,
+    )
+    return int(re.search(r"Collected : (\d+)", run.stderr).group(1))
+
+
+def show_seconds():
     earlier = None
     for size in SIZES:
         seconds, peak = measure(USUAL, size)
@@ -100,6 +123,25 @@ def main():
         f"{size} lines to {LARGEST.panels} panels and {LARGEST.points} points: "
         f"{size / seconds:,.0f} lines a second, {peak / 1024:.0f} MB at most"
     )
+
+
+def show_instructions():
+    earlier = None
+    for size in COUNTED:
+        count = instructions(USUAL, size)
+        growth = "" if earlier is None else f", {count / earlier:.2f} times as many for twice the lines"
+        print(f"{size} lines: {count / size:,.0f} instructions a line{growth}")
+        earlier = count
+    size = COUNTED[0]
+    count = instructions(LARGEST, size)
+    print(f"{size} lines to {LARGEST.panels} panels and {LARGEST.points} points: {count / size:,.0f} instructions a line")
+
+
+def main():
+    FOLDER.mkdir(parents=True, exist_ok=True)
+    show_seconds()
+    if shutil.which("valgrind"):
+        show_instructions()
 
 
 main()
