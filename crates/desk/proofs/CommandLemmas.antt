@@ -8,7 +8,7 @@ use Rattle.points.specs.declared.content.Content.{Content}
 use Rattle.points.specs.declared.panel.Panel.{Panel}
 use Rattle.points.specs.declared.point.Point.{Point}
 use Rattle.points.specs.declared.rule.Rule.{Rule}
-use Rattle.points.specs.declared.rule.Rule.TheVariants.{X1, X2, X3}
+use Rattle.points.specs.declared.rule.Rule.TheVariants.{NoSuchPoint, NotGranted, NoSuchPriority}
 use Rattle.points.specs.PriorityArray.{Places, present_of}
 use Rattle.points.specs.Rights.{breaks, rule_of, names_no_place}
 use Rattle.desk.specs.declared.building.Building.{Building}
@@ -21,10 +21,10 @@ use Rattle.desk.specs.Tables.{Tables}
 not_none : (r : Rule) → Some r ≡ None → ⊥
 not_none r e = cc
 
-first_three : (a b d : Bool) (rest : Option Rule) → cond a (Some X1) (cond b (Some X2) (cond d (Some X3) rest)) ≡ None → d ≡ false
-first_three true b d rest e = absurd (not_none X1 e)
-first_three false true d rest e = absurd (not_none X2 e)
-first_three false false true rest e = absurd (not_none X3 e)
+first_three : (a b d : Bool) (rest : Option Rule) → cond a (Some NoSuchPoint) (cond b (Some NotGranted) (cond d (Some NoSuchPriority) rest)) ≡ None → d ≡ false
+first_three true b d rest e = absurd (not_none NoSuchPoint e)
+first_three false true d rest e = absurd (not_none NotGranted e)
+first_three false false true rest e = absurd (not_none NoSuchPriority e)
 first_three false false false rest e = refl
 
 place_of-permitted : (points : List Point) (panel : Panel) (content : Content) → rule_of points panel content ≡ None → names_no_place content.priority ≡ false
@@ -35,8 +35,8 @@ place_of-permitted points panel content e = first_three _ _ _ _ e
 pub names_a_place : (b : Building) (panel : Text) (content : Content) → rule_for b panel content ≡ None → names_no_place content.priority ≡ false
 names_a_place b panel content e = under (panel_named b panel) e
   where
-    under : (named : Option Panel) → option_map_or (λ p. rule_of b.points p content) named (Some X1) ≡ None → names_no_place content.priority ≡ false
-    under None e = absurd (not_none X1 e)
+    under : (named : Option Panel) → option_map_or (λ p. rule_of b.points p content) named (Some NoSuchPoint) ≡ None → names_no_place content.priority ≡ false
+    under None e = absurd (not_none NoSuchPoint e)
     under (Some p) e = place_of-permitted b.points p content e
 
 pub rule_for-known : (b : Building) (panel : Text) (content : Content) (p : Panel) → panel_named b panel ≡ Some p → rule_for b panel content ≡ rule_of b.points p content

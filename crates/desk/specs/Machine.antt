@@ -6,7 +6,7 @@ use Rattle.points.specs.declared.answer.Answer.{Answer}
 use Rattle.points.specs.declared.answer.Answer.TheVariants.{Done, Refused}
 use Rattle.points.specs.declared.content.Content.{Content}
 use Rattle.points.specs.declared.rule.Rule.{Rule}
-use Rattle.points.specs.declared.rule.Rule.TheVariants.{X1}
+use Rattle.points.specs.declared.rule.Rule.TheVariants.{NoSuchPoint}
 use Rattle.points.specs.PriorityArray.{Places, put, present_of}
 use Rattle.points.specs.Rights.{rule_of, point_named}
 use Rattle.desk.specs.declared.building.Building.{Building}
@@ -23,11 +23,11 @@ pub record Machine : Type 0 where
 
 -- no place has a value; before its command an answer means nothing
 abbrev pub opening_machine : Machine
-opening_machine = record { places = λ point. empty; answers = λ panel number. Refused X1 }
+opening_machine = record { places = λ point. empty; answers = λ panel number. Refused NoSuchPoint }
 
 -- the least rule against a panel's content; a panel that the building lacks has no event
 abbrev pub rule_for : Building → Text → Content → Option Rule
-rule_for b panel content = option_map_or (λ p. rule_of b.points p content) (panel_named b panel) (Some X1)
+rule_for b panel content = option_map_or (λ p. rule_of b.points p content) (panel_named b panel) (Some NoSuchPoint)
 
 -- the place that a permitted priority names
 abbrev pub place_of : ℤ → ℕ

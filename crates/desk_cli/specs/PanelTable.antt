@@ -3,7 +3,7 @@ use Rattle.std.specs.Prelude.{ℕ, ℤ, pos, negsuc, Bool, not, nat_le, ◌&&◌
 use Rattle.std.specs.Prelude.{[], ◌∷◌, Option, None, codes}
 use Rattle.std.specs.List.{list_all, list_any}
 use Rattle.toml.specs.Data.{Data, Members, as_integer, as_str}
-use Rattle.points.specs.Rights.{is_same}
+use Rattle.std.specs.Str.{bytes_eq}
 use Rattle.points.specs.declared.Panel.{Panel}
 use Rattle.points.specs.declared.Point.{Point}
 use Rattle.desk_cli.specs.DistinctNames.{are_distinct}
@@ -25,7 +25,7 @@ abbrev pub priority_in : Data → Option ℕ
 priority_in d = as_integer d >>= granted_priority
 
 abbrev pub names_point : List Point → List ℕ → Bool
-names_point points name = list_any (λ point. is_same point.name name) points
+names_point points name = list_any (λ point. bytes_eq point.name name) points
 
 -- each names a point, and no two name one
 abbrev pub are_points : List Point → List (List ℕ) → Bool

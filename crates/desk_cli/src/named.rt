@@ -2,7 +2,7 @@
 
 ghost use Rattle.std.specs.Prelude.{◌≡◌};
 ghost use Rattle.std.specs.List.{list_any};
-ghost use Rattle.points.specs.Rights.{is_same};
+ghost use Rattle.std.specs.Str.{bytes_eq};
 ghost use Rattle.desk_cli.specs.DistinctNames.{are_distinct};
 
 use points::{Name, Panel, Point};
@@ -55,7 +55,7 @@ pub(crate) fn are_distinct<T: Named>(items: &[T]) -> bool
 }
 
 fn is_among<T: Named>(items: &[T], name: &Name) -> bool
-    ensures { result ≡ list_any (λ item. is_same name.now (T.name_of item)) items.now }
+    ensures { result ≡ list_any (λ item. bytes_eq name.now (T.name_of item)) items.now }
 {
     items.iter().any(|item| *name == *item.name())
 }

@@ -1,12 +1,16 @@
-//! A list that is made once and then read, and that contracts see as a list.
+//! How is a list kept that contracts see as a list?
+//!
+//! A `Vec` has a room, which contracts see too; two lists of the same items may differ in it. So a type
+//! whose values are compared keeps a `Listing`, which is made of a `Vec` and read as a slice.
 #![tactic(auto)]
 
 ghost use Rattle.std.specs.Prelude.{◌≡◌};
 
 use std::marker::Model;
+use std::ops::DerefSlice;
 
-/// A list of items that contracts see as a list, whatever room it has. It is made of a `Vec`, and gives
-/// it back, without taking memory.
+/// A list of items that contracts see as a list, whatever room it has. It is made of a `Vec`, without
+/// taking memory, and read as a slice.
 #[derive(Debug, Drop)]
 pub struct Listing<T> {
     items: Vec<T>,
@@ -28,18 +32,21 @@ impl<T> Listing<T> {
         Listing { items }
     }
 
-    /// The items as a `Vec`.
-    pub fn into_vec(self) -> Vec<T>
-        ensures { result.items ≡ self }
-    {
-        let Listing { items } = self;
-        items
-    }
-
     /// The items as a slice.
     pub fn as_slice(&self) -> &[T]
         ensures { result.now ≡ self.now }
     {
         self.items.as_slice()
+    }
+}
+
+/// A listing is read like the slice of its items.
+impl<T> DerefSlice for Listing<T> {
+    type Elem = T;
+
+    ghost deref_gives = { λ listing items. items ≡ listing };
+
+    fn deref(&self) -> &[T] {
+        self.as_slice()
     }
 }

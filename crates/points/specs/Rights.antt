@@ -8,18 +8,15 @@ use Rattle.points.specs.declared.point.Point.{Point}
 use Rattle.points.specs.declared.panel.Panel.{Panel}
 use Rattle.points.specs.declared.content.Content.{Content}
 use Rattle.points.specs.declared.rule.Rule.{Rule}
-use Rattle.points.specs.declared.rule.Rule.TheVariants.{X1, X2, X3, X4, X5, X6}
+use Rattle.points.specs.declared.rule.Rule.TheVariants.{NoSuchPoint, NotGranted, NoSuchPriority, ReservedPriority, PriorityNotGranted, OutsideKind}
 use Rattle.points.specs.Kind.{lies_in}
-
-abbrev pub is_same : List ℕ → List ℕ → Bool
-is_same x y = bytes_eq x y
 
 -- the first point of that name
 abbrev pub point_named : List Point → List ℕ → Option Point
-point_named points name = find (λ point. is_same point.name name) points
+point_named points name = find (λ point. bytes_eq point.name name) points
 
 abbrev pub is_granted : Panel → List ℕ → Bool
-is_granted panel point = list_any (λ granted. is_same granted point) panel.points
+is_granted panel point = list_any (λ granted. bytes_eq granted point) panel.points
 
 abbrev pub is_granted_at : Panel → ℤ → Bool
 is_granted_at panel priority = list_any (λ granted. int_eq (pos granted) priority) panel.priorities
@@ -35,13 +32,13 @@ is_outside kind (Some value) = not (lies_in kind value)
 
 -- when a rule is against a content, each by itself
 unfoldable pub breaks : List Point → Panel → Content → Rule → Bool
-breaks points panel content X1 = not (is_some (point_named points content.point))
-breaks points panel content X2 = not (is_granted panel content.point)
-breaks points panel content X3 = names_no_place content.priority
-breaks points panel content X4 = int_eq content.priority (pos 6)
-breaks points panel content X5 = not (is_granted_at panel content.priority)
-breaks points panel content X6 = option_map_or (λ point. is_outside point.kind content.value) (point_named points content.point) false
+breaks points panel content NoSuchPoint = not (is_some (point_named points content.point))
+breaks points panel content NotGranted = not (is_granted panel content.point)
+breaks points panel content NoSuchPriority = names_no_place content.priority
+breaks points panel content ReservedPriority = int_eq content.priority (pos 6)
+breaks points panel content PriorityNotGranted = not (is_granted_at panel content.priority)
+breaks points panel content OutsideKind = option_map_or (λ point. is_outside point.kind content.value) (point_named points content.point) false
 
 -- the least rule against the content
 unfoldable pub rule_of : List Point → Panel → Content → Option Rule
-rule_of points panel content = find (breaks points panel content) (X1 ∷ X2 ∷ X3 ∷ X4 ∷ X5 ∷ X6 ∷ [])
+rule_of points panel content = find (breaks points panel content) (NoSuchPoint ∷ NotGranted ∷ NoSuchPriority ∷ ReservedPriority ∷ PriorityNotGranted ∷ OutsideKind ∷ [])

@@ -7,7 +7,7 @@ use std::alloc::AllocError;
 #[derive(Debug, Drop, PartialEq, Eq)]
 pub struct Content {
     pub point: Name,
-    /// 1 to 16 where it names a place; a command without one is at 16.
+    /// 1 to 16 where it names a place; a command without one is at `LOWEST_PRIORITY`.
     pub priority: i64,
     /// The value; `None` is NULL, which relinquishes the place.
     pub value: Option<i64>,

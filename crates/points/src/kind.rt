@@ -2,15 +2,24 @@
 ghost use Rattle.std.specs.Prelude.{◌≡◌};
 ghost use Rattle.points.specs.Kind.{lies_in};
 
+/// How many states a multistate point has at most (this profile's limit).
+pub const MOST_STATES: i64 = 1_000;
+
+/// The least `low` of an analog point, in hundredths of its unit (this profile's limit).
+pub const LEAST_ANALOG: i64 = -1_000_000_000;
+
+/// The greatest `high` of an analog point, in hundredths of its unit (this profile's limit).
+pub const GREATEST_ANALOG: i64 = 1_000_000_000;
+
 /// The kind of a point, and so the values that may stand in it. NULL lies in every kind.
 #[derive(Clone, Copy, Debug, PartialEq, Eq)]
 pub enum Kind {
     /// 0 inactive, 1 active.
     Binary,
-    /// 1 to the number of states (this profile takes 1 to 1,000 states).
+    /// 1 to the number of states, which is 1 to `MOST_STATES`.
     Multistate { states: i64 },
-    /// Whole hundredths of the point's unit, `low` and `high` included (this profile takes both from
-    /// -1,000,000,000 to 1,000,000,000).
+    /// Whole hundredths of the point's unit, `low` and `high` included, both from `LEAST_ANALOG` to
+    /// `GREATEST_ANALOG`.
     Analog { low: i64, high: i64 },
 }
 

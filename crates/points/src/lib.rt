@@ -1,17 +1,21 @@
-//! Points, kinds of value, priority arrays and the rights of panels: which value a point has now, and
-//! whether a panel may write one there (ANSI/ASHRAE 135-2016, clause 19.2, in this desk's profile).
+//! May this panel write this here, and what is present?
+//!
+//! A `Panel` asks for a `Content`: a value, or NULL, in one place of the priority array of a `Point`.
+//! `permit` finds the first `Rule` against it. Without one, `PriorityArray::set` puts the value in its
+//! place, and `PriorityArray::present` tells the present value (ANSI/ASHRAE 135-2016, clause 19.2, in this
+//! desk's profile). An `Answer` is what the panel is told, and a `CommandRow` what is kept of it.
 #![tactic(auto)]
 
 pub use answer::Answer;
 pub use command_row::{CommandRow, CommandState};
 pub use content::Content;
-pub use kind::Kind;
+pub use kind::{GREATEST_ANALOG, Kind, LEAST_ANALOG, MOST_STATES};
 pub use listing::Listing;
 pub use name::{Name, NameFault};
 pub use panel::Panel;
 pub use point::Point;
-pub use priority_array::{PRIORITIES, PriorityArray};
-pub use rights::permit;
+pub use priority_array::{LOWEST_PRIORITY, PriorityArray};
+pub use rights::{find_point, permit};
 pub use rule::Rule;
 
 mod answer;
@@ -24,5 +28,3 @@ mod point;
 mod priority_array;
 mod rights;
 mod rule;
-#[cfg(test)]
-mod tests;

@@ -6,17 +6,16 @@ ghost use Rattle.points.specs.PriorityArray.{HasSixteenPlaces, put, present_of};
 use std::alloc::AllocError;
 use std::marker::Model;
 
-/// How many places a priority array has.
-pub const PRIORITIES: usize = 16;
+/// The lowest priority (19.2). A command that names none is at this one.
+pub const LOWEST_PRIORITY: u8 = 16;
 
-// The lowest priority.
-const LOWEST: u8 = 16;
+const PLACES: usize = 16;
 
 /// The priority array of a point (19.2): sixteen places, 1 the highest and 16 the lowest, each with a
 /// value or NULL. A contract sees it as the map from the priorities that have a value to these values.
 #[derive(Debug, Drop)]
 pub struct PriorityArray {
-    places: [Option<i64>; PRIORITIES],
+    places: [Option<i64>; PLACES],
 }
 
 impl Model for PriorityArray {
@@ -41,7 +40,7 @@ impl PriorityArray {
         ensures { result ≡ map.empty }
     {
         PriorityArray {
-            places: [None; PRIORITIES],
+            places: [None; PLACES],
         }
     }
 
@@ -70,7 +69,7 @@ impl PriorityArray {
     pub fn present(&self, relinquish_default: i64) -> (i64, u8)
         ensures { result ≡ present_of self.now relinquish_default }
     {
-        for priority in 1..=LOWEST {
+        for priority in 1..=LOWEST_PRIORITY {
             if let Some(value) = self.value_at(priority) {
                 return (value, priority);
             }

@@ -10,7 +10,8 @@ use crate::panel::Panel;
 use crate::point::Point;
 use crate::rule::Rule;
 
-fn find_point<'a>(points: &'a [Point], name: &Name) -> Option<&'a Point>
+/// The first point of that name.
+pub fn find_point<'a>(points: &'a [Point], name: &Name) -> Option<&'a Point>
     ensures { option_copied result ≡ point_named points.now name.now }
 {
     points.iter().find(|point| point.name == *name)
@@ -19,11 +20,7 @@ fn find_point<'a>(points: &'a [Point], name: &Name) -> Option<&'a Point>
 fn is_granted(panel: &Panel, point: &Name) -> bool
     ensures { result ≡ is_granted panel.now point.now }
 {
-    panel
-        .points
-        .as_slice()
-        .iter()
-        .any(|granted| *granted == *point)
+    panel.points.iter().any(|granted| *granted == *point)
 }
 
 fn is_granted_at(panel: &Panel, priority: i64) -> bool
@@ -31,7 +28,6 @@ fn is_granted_at(panel: &Panel, priority: i64) -> bool
 {
     panel
         .priorities
-        .as_slice()
         .iter()
         .any(|granted| i64::from(*granted) == priority)
 }
@@ -57,22 +53,22 @@ pub fn permit(points: &[Point], panel: &Panel, content: &Content) -> Result<(), 
     ensures { result_err result ≡ rule_of points.now panel.now content.now }
 {
     let Some(point) = find_point(points, &content.point) else {
-        return Err(Rule::X1);
+        return Err(Rule::NoSuchPoint);
     };
     if !is_granted(panel, &content.point) {
-        return Err(Rule::X2);
+        return Err(Rule::NotGranted);
     }
     if names_no_place(content.priority) {
-        return Err(Rule::X3);
+        return Err(Rule::NoSuchPriority);
     }
     if content.priority == 6 {
-        return Err(Rule::X4);
+        return Err(Rule::ReservedPriority);
     }
     if !is_granted_at(panel, content.priority) {
-        return Err(Rule::X5);
+        return Err(Rule::PriorityNotGranted);
     }
     if is_outside(point.kind, content.value) {
-        return Err(Rule::X6);
+        return Err(Rule::OutsideKind);
     }
     Ok(())
 }

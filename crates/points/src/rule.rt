@@ -1,21 +1,22 @@
 //! The rules under which a panel's command is refused.
 use std::fmt;
 
-/// Why a command is refused. Of several reasons the first counts.
+/// Why a command is refused (this profile's rules). Of several reasons the first counts, in the order in
+/// which they stand here. A rule is printed as its code.
 #[derive(Clone, Copy, Debug, PartialEq, Eq)]
 pub enum Rule {
-    /// The building has no such point.
-    X1,
-    /// The point is not granted to the panel.
-    X2,
-    /// The priority is not 1 to 16.
-    X3,
-    /// The priority is 6, which is for minimum on and off times alone (19.2).
-    X4,
-    /// The priority is not granted to the panel.
-    X5,
-    /// The value lies outside the point's kind.
-    X6,
+    /// X1: the building has no such point.
+    NoSuchPoint,
+    /// X2: the point is not granted to the panel.
+    NotGranted,
+    /// X3: the priority is not 1 to 16.
+    NoSuchPriority,
+    /// X4: the priority is 6, which is for minimum on and off times alone (19.2).
+    ReservedPriority,
+    /// X5: the priority is not granted to the panel.
+    PriorityNotGranted,
+    /// X6: the value lies outside the point's kind.
+    OutsideKind,
 }
 
 impl fmt::Display for Rule {
@@ -26,12 +27,12 @@ impl fmt::Display for Rule {
 
     fn fmt<W: fmt::Write>(&self, f: &mut fmt::Formatter<W>) -> fmt::Result {
         f.write_str(match self {
-            Rule::X1 => "X1",
-            Rule::X2 => "X2",
-            Rule::X3 => "X3",
-            Rule::X4 => "X4",
-            Rule::X5 => "X5",
-            Rule::X6 => "X6",
+            Rule::NoSuchPoint => "X1",
+            Rule::NotGranted => "X2",
+            Rule::NoSuchPriority => "X3",
+            Rule::ReservedPriority => "X4",
+            Rule::PriorityNotGranted => "X5",
+            Rule::OutsideKind => "X6",
         })
     }
 }

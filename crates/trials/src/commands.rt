@@ -47,15 +47,15 @@ fn a_refused_command_uses_up_its_number(rt: HostRuntime) -> Result<(), Fail> {
     reply(&mut desk, command("P1", 1, "R101-SET", 8, Some(2150)))?;
     reply(&mut desk, command("P1", 2, "R101-SET", 8, None))?;
     let first = reply(&mut desk, command("P1", 3, "LIGHT", 6, Some(1)))?;
-    assert_eq!(rt; first, refused(3, Rule::X4));
+    assert_eq!(rt; first, refused(3, Rule::ReservedPriority));
     let again = reply(&mut desk, command("P1", 3, "LIGHT", 6, Some(1)))?;
-    assert_eq!(rt; again, refused(3, Rule::X4));
+    assert_eq!(rt; again, refused(3, Rule::ReservedPriority));
     let other = reply(&mut desk, command("P1", 3, "LIGHT", 8, Some(1)))?;
     assert_eq!(rt; other, Reply::Differs { number: 3 });
     let next = reply(&mut desk, command("P1", 4, "LIGHT", 16, Some(1)))?;
-    assert_eq!(rt; next, refused(4, Rule::X5));
+    assert_eq!(rt; next, refused(4, Rule::PriorityNotGranted));
     let repeat = reply(&mut desk, command("P1", 4, "LIGHT", 16, Some(1)))?;
-    assert_eq!(rt; repeat, refused(4, Rule::X5));
+    assert_eq!(rt; repeat, refused(4, Rule::PriorityNotGranted));
     assert_eq!(rt; present(&mut desk, "LIGHT")?, Some((0, 0)));
     Ok(())
 }
@@ -89,9 +89,9 @@ fn what_is_out_of_turn_is_told_so(rt: HostRuntime) -> Result<(), Fail> {
     )?;
     assert_eq!(rt; past, Reply::BadNumber);
     let high = reply(&mut desk, command("P1", 2, "R101-SET", 8, Some(3501)))?;
-    assert_eq!(rt; high, refused(2, Rule::X6));
+    assert_eq!(rt; high, refused(2, Rule::OutsideKind));
     let ungranted = reply(&mut desk, command("P2", 1, "LIGHT", 9, Some(1)))?;
-    assert_eq!(rt; ungranted, refused(1, Rule::X2));
+    assert_eq!(rt; ungranted, refused(1, Rule::NotGranted));
     assert_eq!(rt; present(&mut desk, "R101-SET")?, Some((2150, 8)));
     Ok(())
 }

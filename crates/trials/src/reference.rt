@@ -127,7 +127,7 @@ fn act<'a>(
         panel_named(building, command.panel),
         point_named(building, &content.point),
     ) else {
-        machine.answers.push((command, Answer::Refused(Rule::X1)))?;
+        machine.answers.push((command, Answer::Refused(Rule::NoSuchPoint)))?;
         return Ok(machine);
     };
     if let Err(rule) = permit(building.points.as_slice(), panel, content) {
