@@ -1,3 +1,2 @@
-pub mod KeyLemmas
 pub mod ReplayLemmas
 pub mod StopLemmas

@@ -14,10 +14,10 @@ use Rattle.desk.specs.Tables.{Tables, tables}
 use Rattle.points.specs.declared.Point.{Point}
 use Rattle.points.specs.Rights.{point_named}
 use Rattle.desk.specs.PointState.{state_of}
-use Rattle.desk_cli.specs.BuildingFile.{building_of, longest_file}
-use Rattle.desk_cli.specs.DeliveryLine.{delivery_of}
+use Rattle.building_file.specs.BuildingFile.{building_of, longest_file}
+use Rattle.delivery_lines.specs.DeliveryLine.{delivery_of}
 use Rattle.desk_cli.specs.Replay.{Prints, Replays, is_empty_line, line_of_point, lines_of, point_lines, reply_lines, state_line, told_by, with_first}
-use Rattle.desk_cli.specs.ReplyText.{reply_line}
+use Rattle.delivery_lines.specs.ReplyText.{reply_line}
 
 pub Appends-Appends : (a b c : Option (List ℕ)) (x y : List ℕ) → Appends a b x → Appends b c y → Appends a c (x ++ y)
 Appends-Appends None b c x y h k = tt

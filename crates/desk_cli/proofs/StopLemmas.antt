@@ -10,11 +10,11 @@ use Rattle.desk.specs.declared.Building.{Building}
 use Rattle.desk.specs.declared.Delivery.{Delivery}
 use Rattle.desk.specs.Reply.{replies, reply}
 use Rattle.desk.specs.Tables.{Tables, tables}
-use Rattle.desk_cli.specs.BuildingFile.{building_of}
-use Rattle.desk_cli.specs.DeliveryLine.{delivery_of}
-use Rattle.desk_cli.specs.LineAnswer.{AnswersLine}
+use Rattle.building_file.specs.BuildingFile.{building_of}
+use Rattle.delivery_lines.specs.DeliveryLine.{delivery_of}
+use Rattle.delivery_lines.specs.LineAnswer.{AnswersLine}
 use Rattle.desk_cli.specs.Replay.{AppendsStart, Prints, PrintsNoMore, PrintsStart, is_empty_line, lines_of, point_lines, reply_lines}
-use Rattle.desk_cli.specs.ReplyText.{reply_line}
+use Rattle.delivery_lines.specs.ReplyText.{reply_line}
 use Rattle.desk_cli.proofs.ReplayLemmas.{Appends-Appends, Appends-Keeps, Appends-nothing, Progress, lines_of-left, replies-append, told_by-append}
 
 -- ---- beginnings of a text

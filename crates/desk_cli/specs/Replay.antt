@@ -13,11 +13,11 @@ use Rattle.desk.specs.declared.Reply.{Reply}
 use Rattle.desk.specs.PointState.{state_of}
 use Rattle.desk.specs.Reply.{replies}
 use Rattle.desk.specs.Tables.{Tables, tables}
-use Rattle.desk_cli.specs.BuildingFile.{building_of}
-use Rattle.desk_cli.specs.DeliveryLine.{delivery_of}
+use Rattle.building_file.specs.BuildingFile.{building_of}
+use Rattle.delivery_lines.specs.DeliveryLine.{delivery_of}
 use Rattle.desk_cli.specs.PointLine.{point_line}
-use Rattle.desk_cli.specs.ReplyText.{reply_line}
-use Rattle.desk_cli.specs.TableFields.{◌>>=◌}
+use Rattle.delivery_lines.specs.ReplyText.{reply_line}
+use Rattle.texts.specs.Steps.{◌>>=◌}
 
 -- ---- lines
 
@@ -103,6 +103,10 @@ PrintsNoMore file list old new =
     Keeps old new
     ⊎ ((b : Building) × (building_of file ≡ Some b)
     × (PrintsStart b [] (lines_of list) old new ⊎ PrintsAllLines b (lines_of list) old new))
+
+-- whatever reader a call may open, it has these bytes left
+abbrev pub Opens : {R : Type 0} → (R → Type 0) → (R → Option (List ℕ)) → List ℕ → Type 0
+Opens {R} may_open left bytes = (reader : R) → may_open reader → left reader ≡ Some bytes
 
 -- the bytes that an opened reader has left, where they are known
 abbrev pub bytes_of : {R E : Type 0} → (R → Option (List ℕ)) → Result R E → Option (List ℕ)

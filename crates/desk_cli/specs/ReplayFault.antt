@@ -1,6 +1,8 @@
 -- The line that tells why a replay stopped.
 use Rattle.std.specs.Prelude.{ℕ, List, ◌++◌, codes}
 use Rattle.std.specs.Fmt.{decimal}
+use Rattle.building_file.specs.declared.FileFault.{FileFault}
+use Rattle.building_file.specs.declared.FileFault.TheVariants as file
 use Rattle.desk_cli.specs.declared.replay_fault.ReplayFault.{ReplayFault}
 use Rattle.desk_cli.specs.declared.replay_fault.ReplayFault.TheVariants.{BuildingRefused, CannotRead}
 use Rattle.desk_cli.specs.declared.replay_fault.ReplayFault.TheVariants.{NoMemory, NotDelivery}
@@ -13,3 +15,8 @@ line_of BuildingRefused = codes "desk: building refused"
 line_of (NotDelivery line) = codes "desk: line " ++ (decimal line ++ codes " is not a delivery")
 line_of OutputFailed = codes "desk: cannot write"
 line_of NoMemory = codes "desk: out of memory"
+
+-- what ends a run whose building file is not read
+abbrev pub fault_of_file : FileFault → ReplayFault
+fault_of_file file.Refused = BuildingRefused
+fault_of_file file.NoMemory = NoMemory

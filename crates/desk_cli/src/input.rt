@@ -1,4 +1,4 @@
-//! A file that a run of the program reads.
+//! The files that a run of the program reads.
 
 use std::io;
 
@@ -10,4 +10,14 @@ pub struct Input<'a, R> {
     pub path: &'a str,
     /// The reader, from the file's first byte on.
     pub reader: io::Result<R>,
+}
+
+/// A file that a run of the program opens when its turn comes: the path as it was given, and the call that
+/// opens it.
+#[derive(Drop)]
+pub struct Listed<'a, O> {
+    /// The path as it was given.
+    pub path: &'a str,
+    /// Opens the file at its first byte.
+    pub open: O,
 }

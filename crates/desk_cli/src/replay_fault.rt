@@ -3,8 +3,9 @@
 ghost use Rattle.std.specs.Prelude.{◌≡◌};
 
 use crate::Status;
+use building_file::FileFault;
 use desk::DeskFault;
-use std::alloc::AllocError;
+use std::alloc::{AllocError, Global};
 use std::{fmt, io};
 
 /// Why a replay stopped. Its text is the line of the fault end, without the line end.
@@ -31,6 +32,31 @@ impl<'a> ReplayFault<'a> {
             ReplayFault::NoMemory => Status::NoMemory,
             _ => Status::Fault,
         }
+    }
+
+    /// The fault that is told where the output is flushed after this one: of two ends the one that lost
+    /// output.
+    pub(crate) fn after(self, flushed: io::Result<()>) -> ReplayFault<'a> {
+        match flushed {
+            Ok(()) => self,
+            Err(_) => ReplayFault::OutputFailed,
+        }
+    }
+
+    /// The fault as one line with its line end (LF): a character in it that would end or hide the line is
+    /// written as an escape.
+    pub(crate) fn line(&self, alloc: Global) -> Result<String, AllocError> {
+        let text = self.to_string(alloc)?;
+        let mut line = String::new(alloc);
+        for character in text.chars() {
+            if character.is_control() {
+                write!(line, "{}", character.escape_default())?;
+            } else {
+                line.push(character)?;
+            }
+        }
+        line.push('\n')?;
+        Ok(line)
     }
 
     /// Why a file of this path is not read.
@@ -66,6 +92,19 @@ impl From<AllocError> for ReplayFault<'_> {
 
     fn from(_error: AllocError) -> Self {
         ReplayFault::NoMemory
+    }
+}
+
+impl From<FileFault> for ReplayFault<'_> {
+    ghost use Rattle.desk_cli.specs.ReplayFault.{fault_of_file};
+
+    ghost from_gives = { λ fault given. given ≡ fault_of_file fault };
+
+    fn from(fault: FileFault) -> Self {
+        match fault {
+            FileFault::Refused => ReplayFault::BuildingRefused,
+            FileFault::NoMemory => ReplayFault::NoMemory,
+        }
     }
 }
 

@@ -2,80 +2,96 @@
 
 ghost use Rattle.std.specs.Prelude.{◌≡◌, List, ℕ, [], ◌∷◌, IfOk, OnOk, Some, string_bytes};
 ghost use Rattle.std.specs.Io.BufRead.{strip_last};
+ghost use Rattle.std.specs.Io.Buffered.{reader_remaining};
 ghost use Rattle.std.specs.Io.KnownBytes.{Appends, Keeps};
 ghost use Rattle.points.specs.Rights.{point_named};
 ghost use Rattle.desk.specs.Held.{tables_held};
 ghost use Rattle.desk.specs.PointState.{state_of};
 ghost use Rattle.desk.specs.Tables.{tables};
 ghost use Rattle.desk.specs.declared.Delivery.{Delivery as a_delivery};
-ghost use Rattle.desk_cli.specs.BuildingFile.{building_of};
-ghost use Rattle.desk_cli.specs.Replay.{AppendsStart, Prints, PrintsNoMore, PrintsStart, Replays, bytes_of};
+ghost use Rattle.building_file.specs.BuildingFile.{building_of};
+ghost use Rattle.desk_cli.specs.Replay.{AppendsStart, Opens, Prints, PrintsNoMore, PrintsStart, Replays, bytes_of};
 ghost use Rattle.desk_cli.specs.Replay.{is_empty_line, lines_of, point_lines, state_line};
 
-use crate::building_file::{LONGEST_FILE, read_building};
-use crate::line_answer::answer_line;
 use crate::point_line::point_line;
 use crate::replay_fault::ReplayFault;
-use crate::{FileFault, Input, LineFault, Status};
+use crate::{Input, Listed, Status};
+use building_file::{LONGEST_FILE, read_building};
+use delivery_lines::{LineFault, answer_line};
 use desk::Building;
 use desk::machine::Desk;
 use points::Name;
 use std::alloc::Global;
-use std::io::{BufRead, Read, Write};
+use std::io::{self, BufRead, BufReader, Read, Write};
 
 /// Runs the deliveries of a list over the building of a file, in memory: prints each reply as a line,
 /// and then the POINT line of each point in file order. Empty lines are passed over, also with a CR.
 ///
-/// A fault is told on `fault` as one line, and ends the run: the replies before it stand, and no
-/// POINT line follows a line that tells no delivery. Whatever the end, nothing else is printed: a
-/// beginning of the replies to the first lines, or of all replies and the points. `out` is flushed at
-/// the end of the run, whatever it was.
-pub fn replay<B: Read + Drop, D: BufRead + Drop, W: Write, F: Write>(
+/// The building is read, and refused, before the list is opened. A fault is told on `fault` as one line,
+/// in one write, and ends the run: the replies before it stand, and no POINT line follows a line that
+/// tells no delivery. Whatever the end, nothing else is printed: a beginning of the replies to the first
+/// lines, or of all replies and the points. `out` is flushed where no further line is at hand, and at the
+/// end of the run, whatever it was; if that loses output, this is the fault that is told.
+pub fn replay<B: Read + Drop, D: Read + Drop, O, W: Write, F: Write>(
     alloc: Global,
     file: Input<'_, B>,
-    deliveries: Input<'_, D>,
+    deliveries: Listed<'_, O>,
     out: &mut W,
     fault: &mut F,
 ) -> Status
+where
+    O: FnOnce() -> io::Result<BufReader<D>>,
+    requires { O.IsAlwaysCallable deliveries.open }
     ensures done { result ≡ Status.Done → (file_bytes list_bytes : List ℕ)
         → bytes_of B.remaining file.entry.reader ≡ Some file_bytes
-        → bytes_of D.remaining deliveries.entry.reader ≡ Some list_bytes
+        → Opens (O.post deliveries.entry.open) (bytes_of (reader_remaining D.remaining)) list_bytes
         → Replays file_bytes list_bytes (W.contents out.old) (W.contents out.new) }
     ensures quiet { result ≡ Status.Done → Keeps (F.contents fault.old) (F.contents fault.new) }
     ensures no_more { (file_bytes list_bytes : List ℕ)
         → bytes_of B.remaining file.entry.reader ≡ Some file_bytes
-        → bytes_of D.remaining deliveries.entry.reader ≡ Some list_bytes
+        → Opens (O.post deliveries.entry.open) (bytes_of (reader_remaining D.remaining)) list_bytes
         → PrintsNoMore file_bytes list_bytes (W.contents out.old) (W.contents out.new) }
 {
     match replay_over(alloc, file, deliveries, out) {
         Ok(()) => Status::Done,
         Err(end) => {
-            let _flushed = out.flush();
-            let _told = writeln!(fault, "{end}");
+            let end = end.after(out.flush());
+            tell(alloc, &end, fault);
             end.status()
         }
     }
 }
 
-fn replay_over<'a, B: Read + Drop, D: BufRead + Drop, W: Write>(
+/// Tells a fault as one line, in one write where memory is at hand.
+fn tell<F: Write>(alloc: Global, end: &ReplayFault<'_>, fault: &mut F) {
+    let _told = match end.line(alloc) {
+        Ok(line) => fault.write_all(line.as_bytes()),
+        Err(_) => fault.write_all(b"desk: out of memory\n"),
+    };
+}
+
+fn replay_over<'a, B: Read + Drop, D: Read + Drop, O, W: Write>(
     alloc: Global,
     file: Input<'a, B>,
-    deliveries: Input<'a, D>,
+    deliveries: Listed<'a, O>,
     out: &mut W,
 ) -> Result<(), ReplayFault<'a>>
+where
+    O: FnOnce() -> io::Result<BufReader<D>>,
+    requires { O.IsAlwaysCallable deliveries.open }
     ensures done { OnOk result ((file_bytes list_bytes : List ℕ)
         → bytes_of B.remaining file.entry.reader ≡ Some file_bytes
-        → bytes_of D.remaining deliveries.entry.reader ≡ Some list_bytes
+        → Opens (O.post deliveries.entry.open) (bytes_of (reader_remaining D.remaining)) list_bytes
         → Replays file_bytes list_bytes (W.contents out.old) (W.contents out.new)) }
     ensures no_more { (file_bytes list_bytes : List ℕ)
         → bytes_of B.remaining file.entry.reader ≡ Some file_bytes
-        → bytes_of D.remaining deliveries.entry.reader ≡ Some list_bytes
+        → Opens (O.post deliveries.entry.open) (bytes_of (reader_remaining D.remaining)) list_bytes
         → PrintsNoMore file_bytes list_bytes (W.contents out.old) (W.contents out.new) }
 {
     let building = building_in(alloc, file)?;
     let mut desk = Desk::new(alloc, building);
-    let path = deliveries.path;
-    match deliveries.reader {
+    let Listed { path, open } = deliveries;
+    match open() {
         Ok(reader) => print_replies(alloc, &mut desk, path, reader, out)?,
         Err(error) => return Err(ReplayFault::of_read(&error, path)),
     }
@@ -102,28 +118,24 @@ fn building_in<'a, B: Read + Drop>(
         }
         Err(error) => return Err(ReplayFault::of_read(&error, path)),
     }
-    match read_building(alloc, bytes.as_slice()) {
-        Ok(building) => Ok(building),
-        Err(FileFault::Refused) => Err(ReplayFault::BuildingRefused),
-        Err(FileFault::NoMemory) => Err(ReplayFault::NoMemory),
-    }
+    Ok(read_building(alloc, bytes.as_slice())?)
 }
 
 /// Answers each line that the reader has left.
-fn print_replies<'a, D: BufRead + Drop, W: Write>(
+fn print_replies<'a, D: Read + Drop, W: Write>(
     alloc: Global,
     desk: &mut Desk,
     path: &'a str,
-    mut reader: D,
+    mut reader: BufReader<D>,
     out: &mut W,
 ) -> Result<(), ReplayFault<'a>>
     ensures prints { OnOk result ((bytes : List ℕ) (E : List a_delivery)
-        → D.remaining reader ≡ Some bytes
+        → reader_remaining D.remaining reader ≡ Some bytes
         → tables_held desk.old ≡ tables desk.old.building E
         → Prints desk.old.building E (lines_of bytes) (W.contents out.old) (W.contents out.new)
         (tables_held desk.new)) }
     ensures no_more { (bytes : List ℕ) (E : List a_delivery)
-        → D.remaining reader ≡ Some bytes
+        → reader_remaining D.remaining reader ≡ Some bytes
         → tables_held desk.old ≡ tables desk.old.building E
         → PrintsStart desk.old.building E (lines_of bytes) (W.contents out.old) (W.contents out.new) }
     ensures building { desk.new.building ≡ desk.old.building }
@@ -133,11 +145,38 @@ fn print_replies<'a, D: BufRead + Drop, W: Write>(
         line.clear();
         match reader.read_until(b'\n', &mut line) {
             Ok(0) => return Ok(()),
-            Ok(_) => print_reply(alloc, desk, number, without_end(line.as_slice()), out)?,
+            Ok(_) => {
+                let waits = reader.buffer().is_empty();
+                let line = without_end(line.as_slice());
+                print_reply_and_flush(alloc, desk, number, line, waits, out)?;
+            }
             Err(error) => return Err(ReplayFault::of_read(&error, path)),
         }
     }
     Err(ReplayFault::CannotRead { path })
+}
+
+/// Answers one line, with its number from 1, unless it is empty. Where the next line has to be waited for,
+/// what was printed is flushed, so that whoever sends it sees the reply.
+fn print_reply_and_flush<'a, W: Write>(
+    alloc: Global,
+    desk: &mut Desk,
+    number: u64,
+    line: &[u8],
+    waits: bool,
+    out: &mut W,
+) -> Result<(), ReplayFault<'a>>
+    ensures prints { OnOk result ((E : List a_delivery)
+        → tables_held desk.old ≡ tables desk.old.building E
+        → Prints desk.old.building E (line.now ∷ []) (W.contents out.old) (W.contents out.new)
+        (tables_held desk.new)) }
+    ensures no_more { (E : List a_delivery)
+        → tables_held desk.old ≡ tables desk.old.building E
+        → PrintsStart desk.old.building E (line.now ∷ []) (W.contents out.old) (W.contents out.new) }
+    ensures building { desk.new.building ≡ desk.old.building }
+{
+    print_reply(alloc, desk, number, line, out)?;
+    if waits { flush(out) } else { Ok(()) }
 }
 
 /// Answers one line, with its number from 1, unless it is empty.
@@ -243,6 +282,3 @@ fn is_empty(line: &[u8]) -> bool
 {
     matches!(line, b"" | b"\r")
 }
-
-#[cfg(test)]
-mod tests;

@@ -10,18 +10,22 @@ pub enum Status {
     Done,
     /// The data or a file was at fault, or the output failed.
     Fault,
+    /// The words of the command line were at fault, or asked for help.
+    Words,
     /// Memory was refused.
     NoMemory,
 }
 
 impl Status {
-    /// The exit status of the program: 0 done, 1 a fault of data, files or output, 3 want of memory.
+    /// The exit status of the program: 0 done, 1 a fault of data, files or output, 2 a fault of the words,
+    /// 3 want of memory.
     pub fn code(self) -> u8
         ensures { result ≡ code_of self }
     {
         match self {
             Status::Done => 0,
             Status::Fault => 1,
+            Status::Words => 2,
             Status::NoMemory => 3,
         }
     }

@@ -1,10 +1,22 @@
-//! The program `desk`: hands the words, the files and the standard streams to `desk_cli`.
+//! The program `desk`: hands the words, the files and the standard streams to the libraries that do the work.
 #![tactic(auto)]
 
-use desk_cli::{ArgFault, Input, Line, replay};
+use command_line::{ArgFault, Line};
+use desk_cli::{Input, Listed, Status, replay};
+use std::env;
+use std::fs::{self, File};
 use std::io::{self, BufReader, BufWriter, Write};
 use std::process::ExitCode;
-use std::{env, fs};
+
+/// Opens the null device, for reading, on each standard descriptor that is closed, so that no other file
+/// gets its number. A write to such a descriptor fails, as it should.
+fn take_standard_descriptors(rt: &HostRuntime) -> io::Result<[File; 3]> {
+    Ok([
+        fs::open(rt, "/dev/null")?,
+        fs::open(rt, "/dev/null")?,
+        fs::open(rt, "/dev/null")?,
+    ])
+}
 
 /// The words of the command line, the program's name first.
 fn words(rt: &HostRuntime) -> io::Result<Vec<String>> {
@@ -15,40 +27,79 @@ fn words(rt: &HostRuntime) -> io::Result<Vec<String>> {
     Ok(words)
 }
 
-fn run_replay(rt: &HostRuntime, file: &str, deliveries: &str) -> io::Result<u8> {
+/// The file of a path, read in blocks.
+fn open_list(rt: &HostRuntime, path: &str) -> io::Result<BufReader<File>> {
+    BufReader::new(rt.alloc(), fs::open(rt, path)?)
+}
+
+fn run_replay(rt: &HostRuntime, file: &str, deliveries: &str) -> io::Result<Status> {
     let alloc = rt.alloc();
     let mut out = BufWriter::new(alloc, io::writer(rt))?;
     let building = Input {
         path: file,
         reader: fs::open(rt, file),
     };
-    let list = Input {
+    let list = Listed {
         path: deliveries,
-        reader: match fs::open(rt, deliveries) {
-            Ok(list) => BufReader::new(alloc, list),
-            Err(error) => Err(error),
-        },
+        open: || open_list(rt, deliveries),
     };
-    Ok(replay(alloc, building, list, &mut out, &mut rt.stderr()).code())
+    Ok(replay(alloc, building, list, &mut out, &mut rt.stderr()))
 }
 
-fn run(rt: &HostRuntime) -> io::Result<u8> {
-    let words = words(rt)?;
-    match Line::of(rt.alloc(), words.as_slice()) {
+/// The status of words that ask nothing, once their text is told.
+fn refuse(rt: &HostRuntime, fault: &ArgFault) -> Status {
+    let _told = write!(rt.stderr(), "{fault}");
+    match fault {
+        ArgFault::Words(_) => Status::Words,
+        ArgFault::NoMemory => Status::NoMemory,
+    }
+}
+
+/// The status of words that can't be read.
+fn refuse_unread(rt: &HostRuntime, error: &io::Error) -> Status {
+    match error.kind() {
+        io::ErrorKind::OutOfMemory => {
+            let _told = eprintln!(rt; "desk: out of memory");
+            Status::NoMemory
+        }
+        _ => {
+            let _told = eprintln!(rt; "desk: a word of the command line is not UTF-8");
+            Status::Words
+        }
+    }
+}
+
+fn run(rt: &HostRuntime, words: &[String]) -> io::Result<Status> {
+    match Line::of(rt.alloc(), words) {
         Ok(Line::Replay { file, deliveries }) => run_replay(rt, file, deliveries),
-        Err(fault) => {
-            let _told = write!(rt.stderr(), "{fault}");
-            Ok(fault.status())
+        Err(fault) => Ok(refuse(rt, &fault)),
+    }
+}
+
+fn run_words(rt: &HostRuntime) -> io::Result<Status> {
+    match words(rt) {
+        Ok(words) => run(rt, words.as_slice()),
+        Err(error) => Ok(refuse_unread(rt, &error)),
+    }
+}
+
+fn status(rt: &HostRuntime) -> io::Result<Status> {
+    match take_standard_descriptors(rt) {
+        Ok(_held) => run_words(rt),
+        Err(_) => {
+            let _told = eprintln!(rt; "desk: cannot read /dev/null");
+            Ok(Status::Fault)
         }
     }
 }
 
 fn main(rt: HostRuntime) -> ExitCode {
-    match run(&rt) {
-        Ok(status) => ExitCode::from(status),
+    let status = match status(&rt) {
+        Ok(status) => status,
         Err(_) => {
             let _told = eprintln!(rt; "desk: out of memory");
-            ExitCode::from(3)
+            Status::NoMemory
         }
-    }
+    };
+    ExitCode::from(status.code())
 }

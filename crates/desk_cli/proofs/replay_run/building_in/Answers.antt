@@ -1,14 +1,14 @@
 use Rattle.std.proofs.Common.{◌≡◌, ◌∙◌, Some, take, sym, ap}
-use Rattle.desk_cli.specs.BuildingFile.{building_of}
+use Rattle.building_file.specs.BuildingFile.{building_of}
 use Rattle.desk_cli.proofs.ReplayLemmas.{building_of-taken, taken_bytes}
 use Rattle.desk_cli.proofs.replay_run.building_in.Goals as goal
 
-pub returns-in-Ok-read_building : goal.returns-in-Ok-read_building
-returns-in-Ok-read_building g c = λ bytes known.
+pub returns : goal.returns
+returns g c = λ bytes known.
     let known_is : g.B.Read.remaining c.in-Ok.reader ≡ Some bytes = rw c.in-Ok.is at known in
     let inner_is : c.take-start.result.inner ≡ c.in-Ok.reader = rw c.in-Ok.is at c.take-start.ensures.inner in
     let read : c.read_to_end.new.buf.items ≡ take 1_048_577 bytes =
     taken_bytes g.B.Read.remaining c.take-start.result.limit c.take-start.result.inner c.in-Ok.reader bytes c.new-bytes.result.items c.read_to_end.new.buf.items
     c.take-start.ensures.limit inner_is c.new-bytes.ensures.items known_is c.in_default.ensures.bytes in
-    building_of-taken bytes c.in-Ok-read_building.building
-    (ap building_of (sym (c.as_slice.ensures.value ∙ read)) ∙ c.in-Ok-read_building.ensures)
+    building_of-taken bytes _
+    (ap building_of (sym (c.as_slice.ensures.value ∙ read)) ∙ c.in_ok-read_building.ensures)

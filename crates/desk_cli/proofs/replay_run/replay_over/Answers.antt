@@ -1,4 +1,5 @@
 use Rattle.std.proofs.Common.{◌≡◌, ◌∙◌, [], Err, Ok, OnOk, Result, Some, sym, ap}
+use Rattle.std.specs.Io.Buffered.{reader_remaining}
 use Rattle.desk.specs.declared.Building.{Building}
 use Rattle.desk.specs.Held.{tables_held}
 use Rattle.desk.specs.Tables.{tables}
@@ -15,9 +16,9 @@ pub returns-clause-done : goal.returns-clause-done
 returns-clause-done g c =
     let empty : tables_held c.new-desk.result ≡ tables c.new-desk.result.building [] =
     c.new-desk.ensures.empty ∙ ap (λ (b : Building). tables b []) (sym c.new-desk.ensures.building) in
-    let prints = rw c.in-Ok.is at c.in_ok-print_replies-in-Ok.ensures.prints in
+    let prints = c.in_ok-print_replies-in-Ok.ensures.prints in
     of_any c.flush.result _ (λ file_bytes list_bytes file list.
-    let list_is : g.D.Read.remaining c.in-Ok.reader ≡ Some list_bytes = rw c.in-Ok.is at list in
+    let list_is : reader_remaining g.D.Read.remaining c.in-Ok.reader ≡ Some list_bytes = list (Ok c.in-Ok.reader) c.in-Ok.ensures in
     Replays-Keeps file_bytes list_bytes _ _ _
     (Replays-done file_bytes list_bytes c.in_ok-building.building c.new-desk.result.building c.print_replies.new.desk.building _ _ _ _
     (c.in_ok-building.ensures file_bytes file) c.new-desk.ensures.building (prints list_bytes [] list_is empty)
@@ -27,8 +28,8 @@ pub returns-clause-no_more : goal.returns-clause-no_more
 returns-clause-no_more g c = λ file_bytes list_bytes file list.
     let empty : tables_held c.new-desk.result ≡ tables c.new-desk.result.building [] =
     c.new-desk.ensures.empty ∙ ap (λ (b : Building). tables b []) (sym c.new-desk.ensures.building) in
-    let prints = rw c.in-Ok.is at c.in_ok-print_replies-in-Ok.ensures.prints in
-    let list_is : g.D.Read.remaining c.in-Ok.reader ≡ Some list_bytes = rw c.in-Ok.is at list in
+    let prints = c.in_ok-print_replies-in-Ok.ensures.prints in
+    let list_is : reader_remaining g.D.Read.remaining c.in-Ok.reader ≡ Some list_bytes = list (Ok c.in-Ok.reader) c.in-Ok.ensures in
     no_more-points file_bytes list_bytes c.in_ok-building.building c.new-desk.result.building c.print_replies.new.desk.building _ _ _ _ _
     (c.in_ok-building.ensures file_bytes file) c.new-desk.ensures.building (prints list_bytes [] list_is empty)
     c.in_ok-print_replies-in-Ok.ensures.building c.print_points.ensures.no_more c.flush.ensures
@@ -37,8 +38,8 @@ pub returns-in_err-print_points-clause-no_more : goal.returns-in_err-print_point
 returns-in_err-print_points-clause-no_more g c = λ file_bytes list_bytes file list.
     let empty : tables_held c.new-desk.result ≡ tables c.new-desk.result.building [] =
     c.new-desk.ensures.empty ∙ ap (λ (b : Building). tables b []) (sym c.new-desk.ensures.building) in
-    let prints = rw c.in-Ok.is at c.in_ok-print_replies-in-Ok.ensures.prints in
-    let list_is : g.D.Read.remaining c.in-Ok.reader ≡ Some list_bytes = rw c.in-Ok.is at list in
+    let prints = c.in_ok-print_replies-in-Ok.ensures.prints in
+    let list_is : reader_remaining g.D.Read.remaining c.in-Ok.reader ≡ Some list_bytes = list (Ok c.in-Ok.reader) c.in-Ok.ensures in
     no_more-points file_bytes list_bytes c.in_ok-building.building c.new-desk.result.building c.print_replies.new.desk.building _ _ _ _ _
     (c.in_ok-building.ensures file_bytes file) c.new-desk.ensures.building (prints list_bytes [] list_is empty)
     c.in_ok-print_replies-in-Ok.ensures.building c.print_points.ensures.no_more (Keeps-same _)

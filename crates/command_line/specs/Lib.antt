@@ -1,0 +1,2 @@
+pub mod ArgFault
+pub mod Line

@@ -1,0 +1,4 @@
+pub mod DeliveryLine
+pub mod LineAnswer
+pub mod LineFault
+pub mod ReplyText

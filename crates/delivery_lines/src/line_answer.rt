@@ -1,0 +1,34 @@
+//! A line of a list of deliveries, answered.
+
+ghost use Rattle.std.specs.Prelude.{◌≡◌, List};
+ghost use Rattle.desk.specs.Held.{tables_held};
+ghost use Rattle.desk.specs.Tables.{tables};
+ghost use Rattle.desk.specs.declared.Delivery.{Delivery as a_delivery};
+ghost use Rattle.delivery_lines.specs.DeliveryLine.{delivery_of};
+ghost use Rattle.delivery_lines.specs.LineAnswer.{AnswersLine};
+
+use crate::LineFault;
+use crate::delivery_line::delivery_of;
+use crate::reply_text::ReplyText;
+use desk::DeskFault;
+use desk::machine::Desk;
+use std::alloc::Global;
+
+/// Delivers what a line tells, and answers the text of the reply with its line end (LF).
+///
+/// The line is one JSON object without its line end; a CR at its end is white space. A line that
+/// tells no delivery changes nothing. After a want of memory the desk holds its tables from before
+/// the line, or those with the line's delivery.
+pub fn answer_line(alloc: Global, desk: &mut Desk, line: &[u8]) -> Result<Vec<u8>, LineFault>
+    ensures answers { (E : List a_delivery) → tables_held desk.old ≡ tables desk.old.building E
+        → AnswersLine desk.old.building E (delivery_of line.now) result (tables_held desk.new) }
+    ensures building { desk.new.building ≡ desk.old.building }
+{
+    let delivery = delivery_of(alloc, line)?;
+    let reply = match desk.deliver(&delivery) {
+        Ok(reply) => reply,
+        Err(DeskFault::NoMemory) => return Err(LineFault::NoMemory),
+    };
+    let text = format!(in alloc; "{}\n", ReplyText(reply))?;
+    Ok(text.into_bytes())
+}

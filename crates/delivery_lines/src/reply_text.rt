@@ -1,0 +1,72 @@
+//! The text of a reply.
+
+use desk::Reply;
+use points::Answer;
+use std::fmt;
+
+/// A reply as one JSON object, compact, its keys in byte order.
+#[derive(Clone, Copy, Debug, PartialEq, Eq)]
+pub struct ReplyText(pub Reply);
+
+impl fmt::Display for ReplyText {
+    ghost use Rattle.std.specs.Prelude.{Some};
+    ghost use Rattle.delivery_lines.specs.ReplyText.{reply_text};
+
+    ghost output = { λ reply. Some (reply_text reply.0) };
+
+    fn fmt<W: fmt::Write>(&self, f: &mut fmt::Formatter<W>) -> fmt::Result {
+        match self.0 {
+            Reply::NoPanel => f.write_str("{\"answer\":\"no_panel\"}"),
+            Reply::BadNumber => f.write_str("{\"answer\":\"bad_number\"}"),
+            Reply::Differs { number } => {
+                write!(f, "{{\"answer\":\"differs\",\"number\":{number}}}")
+            }
+            Reply::Answered { number, answer } => write!(f, "{}", AnswerText { number, answer }),
+            Reply::Parked { next, number } => {
+                write!(
+                    f,
+                    "{{\"answer\":\"parked\",\"next\":{next},\"number\":{number}}}"
+                )
+            }
+            Reply::Skipped { number } => {
+                write!(f, "{{\"answer\":\"skipped\",\"number\":{number}}}")
+            }
+            Reply::TooFar { next, number } => {
+                write!(
+                    f,
+                    "{{\"answer\":\"too_far\",\"next\":{next},\"number\":{number}}}"
+                )
+            }
+        }
+    }
+}
+
+/// The answer to a command, with the command's number.
+#[derive(Clone, Copy)]
+struct AnswerText {
+    number: i64,
+    answer: Answer,
+}
+
+impl fmt::Display for AnswerText {
+    ghost use Rattle.std.specs.Prelude.{Some};
+    ghost use Rattle.delivery_lines.specs.ReplyText.{answer_text};
+
+    ghost output = { λ told. Some (answer_text told.number told.answer) };
+
+    fn fmt<W: fmt::Write>(&self, f: &mut fmt::Formatter<W>) -> fmt::Result {
+        let number = self.number;
+        match self.answer {
+            Answer::Done { present, priority } => write!(
+                f,
+                "{{\"answer\":\"done\",\"number\":{number},\"present\":{present},\"priority\":{priority}}}"
+            ),
+            Answer::Refused(rule) => {
+                write!(
+                    f,
+                    "{{\"answer\":\"refused\",\"number\":{number},\"rule\":\"{rule}\"}}"
+                )
+            }
+        }
+    }
+}
