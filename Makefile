@@ -21,7 +21,7 @@ build/desk: $(SOURCES) | toolchain
 	@cp $(PROGRAM) build/desk
 
 test: | toolchain
-	@bash scripts/gate
+	@python3 scripts/gate
 
 bench: build/desk
 	@python3 scripts/bench.py

@@ -1,0 +1,193 @@
+"""What the program does at its edges: descriptors that are closed, outputs that fail, pipes, and odd paths.
+
+Each test takes the path of the program and a folder of its own, and raises where it finds something else.
+"""
+import errno
+import json
+import os
+import pathlib
+import socket
+import subprocess
+import time
+
+from tables import WORKED
+
+SECONDS = 5
+COMMAND = '{"number":1,"panel":"P1","point":"R101-SET","priority":8,"value":2150}\n'
+DONE = '{"answer":"done","number":1,"present":2150,"priority":8}\n'
+
+
+def opened_for_writing(pipe):
+    """The pipe, once the program has opened it for reading, waited for so long at most."""
+    end = time.monotonic() + SECONDS
+    while True:
+        try:
+            return os.fdopen(os.open(pipe, os.O_WRONLY | os.O_NONBLOCK), "w")
+        except OSError as error:
+            if error.errno != errno.ENXIO or time.monotonic() > end:
+                raise
+            time.sleep(0.005)
+
+
+def expect(found, wanted):
+    if found != wanted:
+        raise AssertionError(f"found {found!r}, wanted {wanted!r}")
+
+
+def files(folder, deliveries=COMMAND):
+    building, listed = folder / "building.toml", folder / "list.jsonl"
+    building.write_text(WORKED)
+    listed.write_text(deliveries)
+    return building, listed
+
+
+def told_on_a_full_device(program, building, listed):
+    with open("/dev/full", "wb") as full:
+        ran = subprocess.run([program, "replay", building, listed], stdout=full, stderr=subprocess.PIPE, timeout=SECONDS)
+    expect((ran.returncode, ran.stderr), (1, b"desk: cannot write\n"))
+
+
+def a_full_device_is_told(program, folder):
+    told_on_a_full_device(program, *files(folder))
+
+
+def a_full_device_is_told_before_a_bad_line(program, folder):
+    told_on_a_full_device(program, *files(folder, COMMAND + "no delivery\n"))
+
+
+def a_closed_pipe_is_told(program, folder):
+    building, listed = files(folder)
+    reader, writer = os.pipe()
+    os.close(reader)
+    ran = subprocess.run([program, "replay", building, listed], stdout=writer, stderr=subprocess.PIPE, timeout=SECONDS)
+    os.close(writer)
+    expect((ran.returncode, ran.stderr), (1, b"desk: cannot write\n"))
+
+
+def a_building_is_refused_before_the_list_is_opened(program, folder):
+    pipe = folder / "pipe"
+    os.mkfifo(pipe)
+    (folder / "empty.toml").write_text("")
+    for building, told in (("missing.toml", "cannot read missing.toml"), ("empty.toml", "building refused")):
+        words = [program, "replay", building, "pipe"]
+        ran = subprocess.run(words, cwd=folder, capture_output=True, text=True, timeout=SECONDS)
+        expect((ran.returncode, ran.stdout, ran.stderr), (1, "", f"desk: {told}\n"))
+
+
+def each_reply_is_seen_while_the_list_goes_on(program, folder):
+    building, _ = files(folder)
+    pipe = folder / "pipe"
+    os.mkfifo(pipe)
+    with subprocess.Popen([program, "replay", building, pipe], stdout=subprocess.PIPE, text=True) as desk:
+        try:
+            with opened_for_writing(pipe) as sender:
+                for number in (1, 2, 3):
+                    line = {"number": number, "panel": "P1", "point": "LIGHT", "priority": 8, "value": number % 2}
+                    sender.write(json.dumps(line) + "\n")
+                    sender.flush()
+                    present = number % 2
+                    wanted = f'{{"answer":"done","number":{number},"present":{present},"priority":8}}\n'
+                    expect(line_within(desk, SECONDS), wanted)
+            rest, _ = desk.communicate(timeout=SECONDS)
+            expect(rest.splitlines()[1].split(), ["POINT", "LIGHT", "1", "8"])
+        finally:
+            desk.kill()
+
+
+def line_within(desk, seconds):
+    """A line of the output, waited for so long at most."""
+    end = time.monotonic() + seconds
+    os.set_blocking(desk.stdout.fileno(), False)
+    found = b""
+    while not found.endswith(b"\n"):
+        if time.monotonic() > end:
+            raise AssertionError(f"no reply within {seconds} seconds, only {found!r}")
+        try:
+            found += os.read(desk.stdout.fileno(), 4096)
+        except BlockingIOError:
+            time.sleep(0.005)
+    os.set_blocking(desk.stdout.fileno(), True)
+    return found.decode()
+
+
+def closed(descriptors):
+    def close():
+        for descriptor in descriptors:
+            os.close(descriptor)
+
+    return close
+
+
+def a_closed_output_is_an_output_that_fails(program, folder):
+    building, listed = files(folder)
+    words = [program, "replay", building, listed]
+    ran = subprocess.run(words, stderr=subprocess.PIPE, preexec_fn=closed([1]), timeout=SECONDS)
+    expect((ran.returncode, ran.stderr), (1, b"desk: cannot write\n"))
+
+
+def a_closed_input_changes_nothing(program, folder):
+    building, listed = files(folder)
+    words = [program, "replay", building, listed]
+    ran = subprocess.run(words, capture_output=True, text=True, preexec_fn=closed([0]), timeout=SECONDS)
+    expect((ran.returncode, ran.stdout.startswith(DONE), ran.stderr), (0, True, ""))
+
+
+def no_data_file_gets_a_standard_descriptor(program, folder):
+    building, _ = files(folder)
+    pipe = folder / "pipe"
+    os.mkfifo(pipe)
+    for gone in ([0], [1], [2], [0, 1, 2]):
+        desk = subprocess.Popen([program, "replay", building, pipe], stdin=subprocess.DEVNULL,
+                                stdout=subprocess.DEVNULL, stderr=subprocess.DEVNULL, preexec_fn=closed(gone))
+        try:
+            with opened_for_writing(pipe):
+                held = pathlib.Path(f"/proc/{desk.pid}/fd")
+                for descriptor in (0, 1, 2):
+                    expect(os.readlink(held / str(descriptor)), "/dev/null")
+            desk.wait(timeout=SECONDS)
+        finally:
+            desk.kill()
+            desk.wait()
+
+
+def a_fault_is_one_write(program, folder):
+    near, far = socket.socketpair(socket.AF_UNIX, socket.SOCK_SEQPACKET)
+    with near, far:
+        near.settimeout(SECONDS)
+        words = [program, "replay", "missing.toml", "list.jsonl"]
+        ran = subprocess.run(words, cwd=folder, stdout=subprocess.DEVNULL, stderr=far, timeout=SECONDS)
+        expect((ran.returncode, near.recv(4096)), (1, b"desk: cannot read missing.toml\n"))
+
+
+def a_path_stays_one_line(program, folder):
+    words = [program, "replay", "one\ntwo\x1b[31m é.toml", "list.jsonl"]
+    ran = subprocess.run(words, cwd=folder, capture_output=True, text=True, timeout=SECONDS)
+    expect((ran.returncode, ran.stderr), (1, "desk: cannot read one\\ntwo\\u{1b}[31m é.toml\n"))
+
+
+def a_word_that_is_no_text_makes_no_file(program, folder):
+    words = [program, "replay", b"\xff", "list.jsonl"]
+    ran = subprocess.run(words, cwd=folder, capture_output=True, timeout=SECONDS)
+    expect((ran.returncode, os.listdir(folder)), (2, []))
+
+
+def a_line_of_100000_bytes_is_read(program, folder):
+    building, listed = files(folder, " " * 100_000 + COMMAND)
+    ran = subprocess.run([program, "replay", building, listed], capture_output=True, text=True, timeout=SECONDS)
+    expect((ran.returncode, ran.stdout.startswith(DONE), ran.stderr), (0, True, ""))
+
+
+TESTS = [
+    a_full_device_is_told,
+    a_full_device_is_told_before_a_bad_line,
+    a_closed_pipe_is_told,
+    a_building_is_refused_before_the_list_is_opened,
+    each_reply_is_seen_while_the_list_goes_on,
+    a_closed_output_is_an_output_that_fails,
+    a_closed_input_changes_nothing,
+    no_data_file_gets_a_standard_descriptor,
+    a_fault_is_one_write,
+    a_path_stays_one_line,
+    a_word_that_is_no_text_makes_no_file,
+    a_line_of_100000_bytes_is_read,
+]

@@ -1,0 +1,116 @@
+"""Tries the program: the cases, the tables, its edges, and random lists against the plain slow desk.
+
+Usage: try_program.py PROGRAM
+
+A case is a folder of cases/, named for what it shows: building.toml (without one, the worked building),
+deliveries.jsonl, words (a word a line; without it, replay of these two), and what is wanted: stdout, stderr
+(without it, nothing) and status (without it, 0). The last line printed is `N passed, M failed`.
+"""
+import pathlib
+import random
+import shutil
+import subprocess
+import sys
+import tempfile
+
+import compare
+import edges
+import tables
+
+HERE = pathlib.Path(__file__).resolve().parent
+SECONDS = 20
+
+
+def run(program, words, folder):
+    return subprocess.run([program, *words], cwd=folder, capture_output=True, timeout=SECONDS)
+
+
+def difference(ran, status, stdout, stderr):
+    """What differs from what is wanted, or nothing."""
+    found = {"status": ran.returncode, "stdout": ran.stdout, "stderr": ran.stderr}
+    wanted = {"status": status, "stdout": stdout, "stderr": stderr}
+    return "; ".join(f"{key} {found[key]!r}, wanted {wanted[key]!r}" for key in found if found[key] != wanted[key])
+
+
+def wanted(case, name, default):
+    return (case / name).read_bytes() if (case / name).exists() else default
+
+
+def try_case(program, case, room):
+    shutil.copytree(case, room, dirs_exist_ok=True)
+    if not (room / "building.toml").exists():
+        (room / "building.toml").write_text(tables.WORKED)
+    words = wanted(case, "words", b"replay\nbuilding.toml\ndeliveries.jsonl\n").split(b"\n")[:-1]
+    status = int(wanted(case, "status", b"0"))
+    return difference(run(program, words, room), status, wanted(case, "stdout", b""), wanted(case, "stderr", b""))
+
+
+def try_building(program, building, room, is_read):
+    (room / "building.toml").write_bytes(building if isinstance(building, bytes) else building.encode())
+    (room / "none.jsonl").write_text("")
+    ran = run(program, ["replay", "building.toml", "none.jsonl"], room)
+    if is_read:
+        return difference(ran, 0, ran.stdout, b"")
+    return difference(ran, 1, b"", b"desk: building refused\n")
+
+
+def try_line(program, line, room):
+    (room / "building.toml").write_text(tables.WORKED)
+    command = edges.COMMAND.encode()
+    (room / "list.jsonl").write_bytes(command + line + b"\n" + command)
+    ran = run(program, ["replay", "building.toml", "list.jsonl"], room)
+    return difference(ran, 1, edges.DONE.encode(), b"desk: line 2 is not a delivery\n")
+
+
+def try_words(program, words, part, room):
+    ran = run(program, words, room)
+    if part.encode() not in ran.stderr:
+        return f"stderr {ran.stderr!r} has no {part!r}"
+    return difference(ran, 2, b"", ran.stderr)
+
+
+def try_edge(program, test, room):
+    try:
+        test(program, room)
+    except (AssertionError, OSError, subprocess.TimeoutExpired) as error:
+        return str(error)
+    return ""
+
+
+def all_tests(program):
+    """The name of each test, and the call that tries it in a folder of its own."""
+    for case in sorted((HERE / "cases").iterdir()):
+        yield f"case {case.name}", lambda room, case=case: try_case(program, case, room)
+    for name, text in tables.BUILDINGS_READ.items():
+        yield f"building read: {name}", lambda room, text=text: try_building(program, text, room, True)
+    for name, text in tables.BUILDINGS_REFUSED.items():
+        yield f"building refused: {name}", lambda room, text=text: try_building(program, text, room, False)
+    for line in tables.LINES_REFUSED:
+        yield f"line refused: {line!r}", lambda room, line=line: try_line(program, line, room)
+    for words, part in tables.WORDS_REFUSED:
+        yield f"words refused: {words!r}", lambda room, words=words, part=part: try_words(program, words, part, room)
+    for test in edges.TESTS:
+        yield f"edge: {test.__name__.replace('_', ' ')}", lambda room, test=test: try_edge(program, test, room)
+
+
+def main(words):
+    program = pathlib.Path(words[1]).resolve()
+    passed, failed = 0, 0
+    for name, test in all_tests(program):
+        with tempfile.TemporaryDirectory(prefix="desk-test-") as room:
+            wrong = test(pathlib.Path(room))
+        passed, failed = passed + (not wrong), failed + bool(wrong)
+        if wrong:
+            print(f"FAILED {name}: {wrong[:2000]}")
+    seed = random.randrange(10**9)
+    agreed, differing = compare.compare(program, seed)
+    print(f"{agreed} random lists print what the definitions say, {len(differing)} do not (seed {seed})")
+    for text in differing[:3]:
+        print(f"FAILED {text[:4000]}")
+    passed, failed = passed + (not differing), failed + bool(differing)
+    print(f"{passed} passed, {failed} failed")
+    return 1 if failed else 0
+
+
+if __name__ == "__main__":
+    sys.exit(main(sys.argv))
