@@ -8,6 +8,7 @@ deliveries.jsonl, words (a word a line; without it, replay of these two), and wh
 """
 import pathlib
 import random
+import re
 import shutil
 import subprocess
 import sys
@@ -77,6 +78,16 @@ def try_edge(program, test, room):
     return ""
 
 
+def try_first_run_of_the_document(program, room):
+    """The first run that docs/OPERATING.md shows is what a reader gets."""
+    text = (HERE.parent / "docs" / "OPERATING.md").read_text()
+    building, deliveries, shown = re.findall(r"^```\w*\n(.*?)^```$", text, re.S | re.M)[:3]
+    (room / "building.toml").write_text(building)
+    (room / "day.jsonl").write_text(deliveries)
+    command, printed = shown.split("\n", 1)
+    return difference(run(program, command.split()[2:], room), 0, printed.encode(), b"")
+
+
 def all_tests(program):
     """The name of each test, and the call that tries it in a folder of its own."""
     for case in sorted((HERE / "cases").iterdir()):
@@ -89,6 +100,7 @@ def all_tests(program):
         yield f"line refused: {line!r}", lambda room, line=line: try_line(program, line, room)
     for words, part in tables.WORDS_REFUSED:
         yield f"words refused: {words!r}", lambda room, words=words, part=part: try_words(program, words, part, room)
+    yield "the first run of docs/OPERATING.md", lambda room: try_first_run_of_the_document(program, room)
     for test in edges.TESTS:
         yield f"edge: {test.__name__.replace('_', ' ')}", lambda room, test=test: try_edge(program, test, room)
 
