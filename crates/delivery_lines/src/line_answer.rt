@@ -10,7 +10,6 @@ ghost use Rattle.delivery_lines.specs.LineAnswer.{AnswersLine};
 use crate::LineFault;
 use crate::delivery_line::delivery_of;
 use crate::reply_text::ReplyText;
-use desk::DeskFault;
 use desk::machine::Desk;
 use std::alloc::Global;
 
@@ -25,10 +24,7 @@ pub fn answer_line(alloc: Global, desk: &mut Desk, line: &[u8]) -> Result<Vec<u8
     ensures building { desk.new.building ≡ desk.old.building }
 {
     let delivery = delivery_of(alloc, line)?;
-    let reply = match desk.deliver(&delivery) {
-        Ok(reply) => reply,
-        Err(DeskFault::NoMemory) => return Err(LineFault::NoMemory),
-    };
+    let reply = desk.deliver(&delivery)?;
     let text = format!(in alloc; "{}\n", ReplyText(reply))?;
     Ok(text.into_bytes())
 }

@@ -1,7 +1,7 @@
 //! One command that is acted on.
 ghost use Rattle.std.specs.Prelude.{◌≡◌, ◌+◌, ◌^◌, ◌<◌, ◌≤◌, Some, None, false, option_copied, IfOk, OnOk, OnErr};
 ghost use Rattle.points.specs.PriorityArray.{put};
-ghost use Rattle.points.specs.Rights.{names_no_place, point_named, rule_of};
+ghost use Rattle.points.specs.Rights.{names_no_place, rule_of};
 ghost use Rattle.desk.specs.declared.building.Building.{Building as a_building};
 ghost use Rattle.desk.specs.Accepted.{panel_named};
 ghost use Rattle.desk.specs.Applied.{with_applied};
@@ -11,24 +11,15 @@ ghost use Rattle.desk.specs.Machine.{answer_to, commanded, default_of, rule_for}
 use crate::building::Building;
 use crate::maps::Maps;
 use points::{
-    Answer, CommandRow, CommandState, Content, Name, Panel, Point, PriorityArray, Rule, permit,
+    Answer, CommandRow, CommandState, Content, Name, Panel, Point, PriorityArray, Rule, find_point,
+    permit,
 };
 use std::alloc::AllocError;
-
-pub fn find_point<'a>(building: &'a Building, name: &Name) -> Option<&'a Point>
-    ensures { option_copied result ≡ point_named building.now.points name.now }
-{
-    building
-        .points
-        .as_slice()
-        .iter()
-        .find(|point| point.name == *name)
-}
 
 fn relinquish_default(building: &Building, point: &Name) -> i64
     ensures { result ≡ default_of building.now point.now }
 {
-    match find_point(building, point) {
+    match find_point(building.points.as_slice(), point) {
         Some(point) => point.relinquish_default,
         None => 0,
     }

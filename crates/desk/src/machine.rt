@@ -14,13 +14,13 @@ ghost use Rattle.desk.specs.Tables.{tables};
 ghost use Rattle.desk.specs.Unchanged.{unchanged_reply};
 
 use crate::building::Building;
-use crate::command::{apply_command, find_point};
+use crate::command::apply_command;
 use crate::delivery::Delivery;
 use crate::fault::DeskFault;
 use crate::maps::Maps;
 use crate::point_state::PointState;
 use crate::reply::Reply;
-use points::{CommandState, Content, Name, Panel};
+use points::{CommandState, Content, Name, Panel, find_point};
 use std::alloc::{AllocError, Global};
 use window::{LAST_NUMBER, PanelView, Verdict, plan_command};
 
@@ -196,7 +196,7 @@ impl Desk {
         ensures same { tables_held self.new ≡ tables_held self.old }
         ensures building { self.new.building ≡ self.old.building }
     {
-        let Some(point) = find_point(&self.building, name) else {
+        let Some(point) = find_point(self.building.points.as_slice(), name) else {
             return Ok(None);
         };
         let places = self.maps.array(name)?;

@@ -1,5 +1,7 @@
 -- Printing one line after another.
-use Rattle.std.proofs.Common.{◌≡◌, ℕ, suc, ◌+◌, ◌-◌, ◌<◌, ◌≤◌, ◌==◌, ◌&&◌, ◌++◌, Bool, true, false, List, [], ◌∷◌, length, take, drop, get_or, Option, Some, None, IfSome, option_map, option_and_then, cond, lt-ltb, nat_le, refl, sym, ap, ap₂, subst, ◌∙◌, append_assoc, arith}
+use Rattle.std.proofs.Common.{◌≡◌, ℕ, suc, ◌+◌, ◌-◌, ◌<◌, ◌≤◌, ◌==◌, ◌&&◌, ◌++◌, Bool, true, false, List, [], ◌∷◌}
+use Rattle.std.proofs.Common.{length, take, drop, get_or, Option, Some, None, IfSome, option_map, option_and_then}
+use Rattle.std.proofs.Common.{cond, lt-ltb, nat_le, refl, sym, ap, ap₂, subst, ◌∙◌, append_assoc, arith}
 use Rattle.std.proofs.lemmas.Bool.{leb-false, leb-true}
 use Rattle.std.proofs.lemmas.Grind.{flat_map-append}
 use Rattle.std.proofs.lemmas.List.{append-nil, length-drop, length-take-le, take-append-drop, take_all, take_more}
@@ -40,7 +42,8 @@ Appends-nothing None = tt
 Appends-nothing (Some xs) = sym (append-nil xs)
 
 -- a write takes some bytes more of a text
-pub written-more : (text written rest : List ℕ) (n : ℕ) (old mid new : Option (List ℕ)) → n ≤ length rest → text ≡ written ++ rest → Appends old mid written → Appends mid new (take n rest)
+pub written-more : (text written rest : List ℕ) (n : ℕ) (old mid new : Option (List ℕ)) → n ≤ length rest
+    → text ≡ written ++ rest → Appends old mid written → Appends mid new (take n rest)
     → (more : List ℕ) × (text ≡ more ++ take (length rest - n) (drop n rest)) × Appends old new more
 written-more text written rest n old mid new within is before now =
     let left : take (length rest - n) (drop n rest) ≡ drop n rest = take_all (length rest - n) (drop n rest) (omega (arith, length-drop n rest)) in (
@@ -87,7 +90,8 @@ under_cons : (b : Bool) (x : ℕ) (xs ys : List ℕ) → cond b (x ∷ xs) (x �
 under_cons true x xs ys = refl
 under_cons false x xs ys = refl
 
-cut_cons : (x : ℕ) (ws : List ℕ) (k j : ℕ) → k ≡ suc j → cond (get_or (x ∷ ws) k 0 == 10) (take k (x ∷ ws)) (x ∷ ws) ≡ x ∷ cond (get_or ws j 0 == 10) (take j ws) ws
+cut_cons : (x : ℕ) (ws : List ℕ) (k j : ℕ) → k ≡ suc j
+    → cond (get_or (x ∷ ws) k 0 == 10) (take k (x ∷ ws)) (x ∷ ws) ≡ x ∷ cond (get_or ws j 0 == 10) (take j ws) ws
 cut_cons x ws k j e =
     let P : ℕ → Type 0 = λ n. cond (get_or (x ∷ ws) n 0 == 10) (take n (x ∷ ws)) (x ∷ ws) ≡ x ∷ cond (get_or ws j 0 == 10) (take j ws) ws in
     subst P (sym e) (under_cons (get_or ws j 0 == 10) x (take j ws) ws)
@@ -131,7 +135,8 @@ pub record Progress (b : Building) (E : List Delivery) (bytes : List ℕ) (left 
   pub lines_are : lines_of bytes ≡ passed ++ lines_of rest
   pub prints : Prints b E passed old new now
 
-pub Progress-start : (b : Building) (E : List Delivery) (bytes : List ℕ) (left old : Option (List ℕ)) (now : Tables) → left ≡ Some bytes → now ≡ tables b E → Progress b E bytes left old old now
+pub Progress-start : (b : Building) (E : List Delivery) (bytes : List ℕ) (left old : Option (List ℕ)) (now : Tables)
+    → left ≡ Some bytes → now ≡ tables b E → Progress b E bytes left old old now
 Progress-start b E bytes left old now left_is holds = record {
   passed = [];
   rest = bytes;
@@ -140,13 +145,15 @@ Progress-start b E bytes left old now left_is holds = record {
   prints = record { told = []; told_is = refl; printed = Appends-nothing old; holds = holds ∙ ap (tables b) (sym (append-nil E)) };
 }
 
-pub Progress-end : (b : Building) (E : List Delivery) (bytes : List ℕ) (left old new : Option (List ℕ)) (now : Tables) → Progress b E bytes left old new now → IsAtEnd left → Prints b E (lines_of bytes) old new now
+pub Progress-end : (b : Building) (E : List Delivery) (bytes : List ℕ) (left old new : Option (List ℕ)) (now : Tables)
+    → Progress b E bytes left old new now → IsAtEnd left → Prints b E (lines_of bytes) old new now
 Progress-end b E bytes left old new now p end =
     let at_end : p.rest ≡ [] = subst IsAtEnd p.left_is end in
     subst (λ ls. Prints b E ls old new now) (sym (p.lines_are ∙ ap (λ r. p.passed ++ lines_of r) at_end ∙ append-nil p.passed)) p.prints
 
 -- the next line that was read, and those after it
-pub lines_of-left : (b : Building) (E : List Delivery) (bytes line : List ℕ) (left old new : Option (List ℕ)) (now : Tables) → (p : Progress b E bytes left old new now)
+pub lines_of-left : (b : Building) (E : List Delivery) (bytes line : List ℕ) (left old new : Option (List ℕ)) (now : Tables)
+    → (p : Progress b E bytes left old new now)
     → IfSome left (λ xs. line ≡ take_through 10 xs) → 0 < length line → lines_of p.rest ≡ strip_last 10 line ∷ lines_of (drop_through 10 p.rest)
 lines_of-left b E bytes line left old new now p reads some =
     let line_is : line ≡ take_through 10 p.rest = subst (λ o. IfSome o (λ xs. line ≡ take_through 10 xs)) p.left_is reads in
@@ -200,7 +207,8 @@ pub points-then : (b b' : Building) (t t' : Tables) (ps : List Point) (i : ℕ) 
 points-then b b' t t' ps i p name line shown b_is t_is ps_are within name_is line_is shown_is =
     let q : Point = get_or b.points i p in
     let named : name ≡ q.name = name_is ∙ ap (λ (xs : List Point). (get_or xs i p).name) (ps_are ∙ ap (λ (c : Building). c.points) b_is) in
-    let this : shown ≡ line_of_point b t q = shown_is ∙ line_is ∙ ap (λ n. state_at n t' b') named ∙ ap (λ u. state_at q.name u b') t_is ∙ ap (λ c. state_at q.name t c) b_is in
+    let this : shown ≡ line_of_point b t q = shown_is ∙ line_is ∙ ap (λ n. state_at n t' b') named
+    ∙ ap (λ u. state_at q.name u b') t_is ∙ ap (λ c. state_at q.name t c) b_is in
     ap (flat_map (line_of_point b t)) (take_more b.points i p within) ∙ flat_map-append (line_of_point b t) (take i b.points) (q ∷ [])
     ∙ ap (λ l. flat_map (line_of_point b t) (take i b.points) ++ l) (append-nil (line_of_point b t q) ∙ sym this)
 
@@ -220,7 +228,8 @@ building_of-taken bytes b e = elim (nat_le (length bytes) 1_048_577) as (λ t. n
       let bad : None ≡ Some b = sym none ∙ e in cc
 ] refl
 
-pub taken_bytes : {R : Type 0} (remaining : R → Option (List ℕ)) (limit : ℕ) (inner reader : R) (bytes start buf : List ℕ) → limit ≡ 1_048_577 → inner ≡ reader → start ≡ []
+pub taken_bytes : {R : Type 0} (remaining : R → Option (List ℕ)) (limit : ℕ) (inner reader : R) (bytes start buf : List ℕ)
+    → limit ≡ 1_048_577 → inner ≡ reader → start ≡ []
     → remaining reader ≡ Some bytes → IfSome (option_map (take limit) (remaining inner)) (λ xs. buf ≡ start ++ xs) → buf ≡ take 1_048_577 bytes
 taken_bytes remaining limit inner reader bytes start buf limit_is inner_is start_is known read =
     let first = subst (λ r. IfSome (option_map (take limit) (remaining r)) (λ xs. buf ≡ start ++ xs)) inner_is read in

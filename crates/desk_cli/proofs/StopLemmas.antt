@@ -1,5 +1,6 @@
 -- What a run has printed at most, wherever it stops.
-use Rattle.std.proofs.Common.{◌≡◌, ℕ, ◌<◌, ◌++◌, false, Ok, Vec, List, [], ◌∷◌, drop, length, take, Option, None, Some, IfSome, refl, sym, ap, subst, ◌∙◌, inl, inr, ⊎_elim, append_assoc}
+use Rattle.std.proofs.Common.{◌≡◌, ℕ, ◌<◌, ◌++◌, false, Ok, Vec, List, [], ◌∷◌, drop, length, take, Option, None}
+use Rattle.std.proofs.Common.{Some, IfSome, refl, sym, ap, subst, ◌∙◌, inl, inr, ⊎_elim, append_assoc}
 use Rattle.std.proofs.lemmas.Grind.{flat_map-append}
 use Rattle.std.proofs.lemmas.List.{append-nil, take-append-drop}
 use Rattle.std.specs.List.{flat_map}
@@ -40,9 +41,11 @@ pub start-Keeps : (a b c : Option (List ℕ)) (text : List ℕ) → AppendsStart
 start-Keeps a b c text start kept = (start.0, start.1, start.2, Appends-Keeps a b c start.0 start.3 kept)
 
 -- the texts of some items, and of all
-pub start-taken : {A : Type 0} (f : A → List ℕ) (xs : List A) (i : ℕ) (a b : Option (List ℕ)) → AppendsStart a b (flat_map f (take i xs)) → AppendsStart a b (flat_map f xs)
+pub start-taken : {A : Type 0} (f : A → List ℕ) (xs : List A) (i : ℕ) (a b : Option (List ℕ))
+    → AppendsStart a b (flat_map f (take i xs)) → AppendsStart a b (flat_map f xs)
 start-taken f xs i a b start =
-    let all : flat_map f (take i xs) ++ flat_map f (drop i xs) ≡ flat_map f xs = sym (flat_map-append f (take i xs) (drop i xs)) ∙ ap (flat_map f) (take-append-drop i xs) in
+    let all : flat_map f (take i xs) ++ flat_map f (drop i xs) ≡ flat_map f xs = sym (flat_map-append f (take i xs) (drop i xs))
+    ∙ ap (flat_map f) (take-append-drop i xs) in
     subst (λ text. AppendsStart a b text) all (start-longer a b (flat_map f (take i xs)) (flat_map f (drop i xs)) start)
 
 -- ---- the first lines
@@ -50,7 +53,8 @@ start-taken f xs i a b start =
 pub first-none : (b : Building) (E : List Delivery) (lines : List (List ℕ)) (a : Option (List ℕ)) → PrintsStart b E lines a a
 first-none b E lines a = record { first = []; others = lines; told = []; cut = refl; told_is = refl; printed = start-nothing a [] }
 
-pub first-all : (b : Building) (E : List Delivery) (lines : List (List ℕ)) (old new : Option (List ℕ)) (now : Tables) → Prints b E lines old new now → PrintsStart b E lines old new
+pub first-all : (b : Building) (E : List Delivery) (lines : List (List ℕ)) (old new : Option (List ℕ)) (now : Tables)
+    → Prints b E lines old new now → PrintsStart b E lines old new
 first-all b E lines old new now prints = record {
   first = lines;
   others = [];
@@ -66,7 +70,8 @@ first-same b b' E line line' old new b_is line_is part =
     subst (λ c. PrintsStart c E (line' ∷ []) old new) b_is (subst (λ l. PrintsStart b E (l ∷ []) old new) line_is part)
 
 -- some lines, of more
-pub first-of_more : (b : Building) (E : List Delivery) (lines more : List (List ℕ)) (old new : Option (List ℕ)) → PrintsStart b E lines old new → PrintsStart b E (lines ++ more) old new
+pub first-of_more : (b : Building) (E : List Delivery) (lines more : List (List ℕ)) (old new : Option (List ℕ))
+    → PrintsStart b E lines old new → PrintsStart b E (lines ++ more) old new
 first-of_more b E lines more old new part = record {
   first = part.first;
   others = part.others ++ more;
@@ -129,7 +134,8 @@ Progress-stops-at b E bytes line left after old mid new now p reads drops some s
 
 -- ---- the whole run
 
-pub no_more-lines : (file list : List ℕ) (b b' : Building) (old mid new : Option (List ℕ)) → building_of file ≡ Some b → b' ≡ b → PrintsStart b' [] (lines_of list) old mid
+pub no_more-lines : (file list : List ℕ) (b b' : Building) (old mid new : Option (List ℕ)) → building_of file ≡ Some b
+    → b' ≡ b → PrintsStart b' [] (lines_of list) old mid
     → Keeps mid new → PrintsNoMore file list old new
 no_more-lines file list b b' old mid new file_is same part kept = inr (
   b',

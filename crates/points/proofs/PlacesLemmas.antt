@@ -1,11 +1,13 @@
 -- A row of places, seen as a finite map.
-use Rattle.std.proofs.Common.{◌≡◌, ◌≢◌, ℕ, suc, zero, ◌+◌, ◌<◌, Bool, true, false, cond, ◌&&◌, List, [], ◌∷◌, Option, Some, None, length, get_or, set, refl, sym, ap, ◌∙◌, arith, T, ℤ, inl, inr, replicate}
+use Rattle.std.proofs.Common.{◌≡◌, ◌≢◌, ℕ, suc, zero, ◌+◌, ◌<◌, Bool, true, false, cond, ◌&&◌, List, [], ◌∷◌, Option}
+use Rattle.std.proofs.Common.{Some, None, length, get_or, set, refl, sym, ap, ◌∙◌, arith, T, ℤ, inl, inr, replicate}
 use Rattle.std.proofs.lemmas.Bool.Decides.{nat_tests}
 use Rattle.std.proofs.lemmas.List.{get_or-set_same, get_or-set_other, get_or_past}
 use Rattle.std.proofs.lemmas.Bool.{cases_eq, cases_order}
 use Rattle.std.specs.Ordering.{nat_cmp, is_lt, eq_by_cmp}
 use Rattle.std.specs.Cmp.{nat_cmp_total, ranks}
-use Rattle.std.specs.FinMap.{from_sorted, get, entries, empty, same_map, nat_cmp-IsAntisymmetric, get-insert, get-remove, get-empty, get-from_sorted, get-entries, entries_sorted}
+use Rattle.std.specs.FinMap.{from_sorted, get, entries, empty, same_map, nat_cmp-IsAntisymmetric, get-insert}
+use Rattle.std.specs.FinMap.{get-remove, get-empty, get-from_sorted, get-entries, entries_sorted}
 use Rattle.std.specs.FinMap.Entries.{find, is_sorted, below_all}
 use Rattle.points.specs.Numbered.{numbered}
 use Rattle.points.specs.PriorityArray.{HasSixteenPlaces, Places, put, first_of, present_of}

@@ -6,8 +6,5 @@ ghost use Rattle.texts.specs.Texts.{text_of};
 pub fn text_of(bytes: &[u8]) -> Option<&str>
     ensures { option_map (λ s. s.now) result ≡ text_of bytes.now }
 {
-    match std::str::from_utf8(bytes) {
-        Ok(text) => Some(text),
-        Err(_) => None,
-    }
+    std::str::from_utf8(bytes).ok()
 }

@@ -1,4 +1,5 @@
-use Rattle.std.proofs.Common.{◌≡◌, ℕ, true, false, List, Some, None, IsUtf8, refl, sym, ap, ◌∙◌}
+use Rattle.std.proofs.Common.{◌≡◌, ℕ, true, false, List, Some, None, option_map, Result, Ok, Err, MatchResult, Bor, IsUtf8, refl, sym, ap, ◌∙◌}
+use Rattle.std.specs.Result.{result_ok}
 use Rattle.std.proofs.lemmas.Str.{IsUtf8-from_is_utf8, is_utf8-from_IsUtf8}
 use Rattle.std.specs.Str.{is_utf8}
 use Rattle.texts.specs.Steps.{where_holds}
@@ -15,10 +16,12 @@ text_of-other bytes not =
       | false ↦ λ e. refl
     ] refl
 
-pub returns-in-Ok : goal.returns-in-Ok
-returns-in-Ok c =
-    let h = c.in-Ok.ensures.cases in
-    ap Some h.0 ∙ sym (text_of-utf8 c.args.bytes.now h.1)
+-- what the reading answers is the text, and where it refuses there is none
+read_text : {E : Type 0} (Refused : E → Type 0) (bytes : List ℕ) (r : Result (Bor (List ℕ)) E)
+    → MatchResult r (λ s. (s.now ≡ bytes) × IsUtf8 bytes) (λ e. ¬ (IsUtf8 bytes) × Refused e)
+    → option_map (λ s. s.now) (result_ok r) ≡ text_of bytes
+read_text Refused bytes (Ok s) h = ap Some h.0 ∙ sym (text_of-utf8 bytes h.1)
+read_text Refused bytes (Err e) h = sym (text_of-other bytes h.0)
 
-pub returns-in-Err : goal.returns-in-Err
-returns-in-Err c = sym (text_of-other c.args.bytes.now c.in-Err.ensures.cases.0)
+pub returns : goal.returns
+returns c = ap (option_map (λ s. s.now)) c.ok.ensures.value ∙ read_text _ c.args.bytes.now c.from_utf8.result c.from_utf8.ensures.cases
