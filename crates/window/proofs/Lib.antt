@@ -1,0 +1,2 @@
+pub mod DrainLemmas
+pub mod FrontLemmas
