@@ -1,2 +1,4 @@
 pub mod DrainLemmas
 pub mod FrontLemmas
+pub mod PlanLemmas
+pub mod RunLemmas

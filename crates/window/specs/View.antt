@@ -11,9 +11,12 @@ use Rattle.window.specs.Window.{remembered}
 abbrev pub kept_at : Taken → ℕ → Option Content
 kept_at taken number = if nat_lt number (front taken - remembered) then None else content_at taken number
 
+abbrev pub content_of_row : Option CommandRow → Option Content
+content_of_row row = option_map (λ row. row.content) row
+
 -- rows that keep what was accepted of a panel, each content under its number
 abbrev pub Keep : Rows → Taken → Type 0
-Keep rows taken = (number : ℕ) → option_map (λ row. row.content) (rows number) ≡ kept_at taken number
+Keep rows taken = (number : ℕ) → content_of_row (rows number) ≡ kept_at taken number
 
 -- the row of the number that is asked for
 abbrev pub row_asked : Rows → Ask → Option CommandRow
