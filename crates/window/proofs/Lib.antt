@@ -2,3 +2,4 @@ pub mod DrainLemmas
 pub mod FrontLemmas
 pub mod PlanLemmas
 pub mod RunLemmas
+pub mod VerdictLemmas

@@ -281,3 +281,18 @@ pub Plans-from_front : (t : Taken) (ask : Ask) (asked : Option CommandRow) (next
     → Plans t ask asked (record { next = next; apply = apply; park = park; verdict = verdict })
 Plans-from_front t ask asked next apply park verdict same plans =
     subst (λ (n : ℕ). Plans t ask asked (record { next = n; apply = apply; park = park; verdict = verdict })) (sym same) plans
+
+-- a plan that is told by what was drained: the contents before a run, and the run
+pub Plans-drained : (t : Taken) (ask : Ask) (asked : Option CommandRow) (plan : Plan) (upto : ℕ) (contents before : List NumberedContent)
+    (drained run : List NumberedRow) (verdict : Verdict)
+    → plan ≡ record { next = end_of upto drained; apply = contents ++ contents_of drained; park = None; verdict = verdict }
+    → contents ≡ before → drained ≡ run
+    → Plans t ask asked (record { next = end_of upto run; apply = before ++ contents_of run; park = None; verdict = verdict })
+    → Plans t ask asked plan
+Plans-drained t ask asked plan upto contents before drained run verdict is began read plans =
+    Plans-told t ask asked plan _ (is ∙ λ i. record {
+      next = end_of upto (read i);
+      apply = began i ++ contents_of (read i);
+      park = None;
+      verdict = verdict;
+    }) plans
