@@ -1,5 +1,6 @@
 pub mod DrainLemmas
 pub mod FrontLemmas
+pub mod LawLemmas
 pub mod PlanLemmas
 pub mod RunLemmas
 pub mod VerdictLemmas

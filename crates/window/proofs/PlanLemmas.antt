@@ -1,22 +1,22 @@
 -- What a plan has to say.
-use Rattle.std.proofs.Common.{◌≡◌, ◌≢◌, ℕ, suc, zero, ◌+◌, ◌-◌, ◌<◌, ◌≤◌, ◌==◌, ◌++◌, Bool, true, false, cond, not, ◌&&◌, max, List, [], ◌∷◌, Option, Some, None, is_some, refl, sym, ap, ◌∙◌, subst, arith, inl, inr, ⊎_elim, nat_lt, nat_le}
+use Rattle.std.proofs.Common.{◌≡◌, ◌≢◌, ℕ, suc, zero, ◌+◌, ◌-◌, ◌<◌, ◌≤◌, ◌==◌, ◌++◌, Bool, true, false, cond, not, ◌&&◌, max, List, [], ◌∷◌, Option, Some, None, is_some, refl, sym, ap, ◌∙◌, subst, arith, inl, inr, nat_lt, nat_le}
 use Rattle.std.proofs.lemmas.Bool.Decides.{nat_tests}
-use Rattle.std.proofs.lemmas.Bool.{cases_eq, cases_lt, cases_order, cases_Bool, false≢true}
+use Rattle.std.proofs.lemmas.Bool.{cases_order, false≢true}
 use Rattle.points.specs.declared.content.Content.{Content}
 use Rattle.points.specs.declared.command_row.CommandRow.{CommandRow}
 use Rattle.points.specs.declared.numbered_row.NumberedRow.{NumberedRow}
-use Rattle.points.specs.Run.{Rows, IsRun, rows_from}
+use Rattle.points.specs.Run.{Rows, IsRun}
 use Rattle.window.specs.declared.numbered_content.NumberedContent.{NumberedContent}
 use Rattle.window.specs.declared.plan.Plan.{Plan}
 use Rattle.window.specs.declared.verdict.Verdict.{Verdict}
-use Rattle.window.specs.declared.verdict.Verdict.TheVariants.{Applies, Parked, Repeat, Skipped, Differs, TooFar, SkipDone, Forgotten}
+use Rattle.window.specs.declared.verdict.Verdict.TheVariants.{TooFar, SkipDone}
 use Rattle.window.specs.Applied.{applied, and_at, contents_from}
 use Rattle.window.specs.Drain.{contents_of, end_of}
-use Rattle.window.specs.Plan.{Plans, parked_by}
+use Rattle.window.specs.Plan.{Plans}
 use Rattle.window.specs.Taken.{Ask, Command, Skip, Taken, take, content_at, is_key, front, accepts, accepts_skip, with_command}
-use Rattle.window.specs.Verdict.{verdict_of, verdict_by}
-use Rattle.window.specs.View.{Keep, content_of_row}
-use Rattle.window.specs.Window.{window, remembered}
+use Rattle.window.specs.Verdict.{verdict_of}
+use Rattle.window.specs.View.{Keep}
+use Rattle.window.specs.Window.{window}
 use Rattle.window.proofs.FrontLemmas.{IsFront-front, front-is, key_new, key_other, key_stays, take-accepted, take-refused}
 use Rattle.window.proofs.RunLemmas.{end_of-run, contents_of-rows_from, Keep-from_front, is_some-rows}
 
@@ -102,9 +102,9 @@ applied-command t content rows run keep is =
     ∙ (ap (λ more. contents_from more new (front t)) (one_more is.end (front t) reaches)
     ∙ (contents_from-new count new (front t) content (content_new t (front t) content)
     ∙ ap (λ rest. record { number = front t; content = content } ∷ rest)
-      (sym (ap contents_of is.is_between ∙ contents_of-rows_from count rows new (front t + 1) (λ n from.
-        let apart : front t ≢ n = omega arith in
-        Keep-from_front rows t n keep (omega arith) ∙ sym (content_other t (front t) n content apart))))))
+    (sym (ap contents_of is.is_between ∙ contents_of-rows_from count rows new (front t + 1) (λ n from.
+    let apart : front t ≢ n = omega arith in
+    Keep-from_front rows t n keep (omega arith) ∙ sym (content_other t (front t) n content apart))))))
 
 -- a skip
 
@@ -149,7 +149,7 @@ front-skip t u rows run keep above is =
     })
 
 -- what was accepted under a number stays under it
-contents_from-skip : (count : ℕ) (t : Taken) (u n : ℕ) → contents_from count (with_skip t u) n ≡ contents_from count t n
+pub contents_from-skip : (count : ℕ) (t : Taken) (u n : ℕ) → contents_from count (with_skip t u) n ≡ contents_from count t n
 contents_from-skip zero t u n = refl
 contents_from-skip (suc count) t u n = ap (and_at n (content_at t n)) (contents_from-skip count t u (n + 1))
 
@@ -194,7 +194,7 @@ not_past false f n low = refl
 pub Plans-applies : (t : Taken) (n : ℕ) (content : Content) (asked : Option CommandRow) (rows : Rows) (run : List NumberedRow) (verdict : Verdict)
     → Keep rows t → n ≡ front t → IsRun rows (front t + 1) (front t + 1) run → verdict ≡ verdict_of t (Command n content) asked
     → Plans t (Command n content) asked
-      (record { next = end_of (n + 1) run; apply = (record { number = n; content = content } ∷ []) ++ contents_of run; park = None; verdict = verdict })
+    (record { next = end_of (n + 1) run; apply = (record { number = n; content = content } ∷ []) ++ contents_of run; park = None; verdict = verdict })
 Plans-applies t n content asked rows run verdict keep same is said =
     let grown = ap (λ m. take t (Command m content)) same ∙ take-accepted t (front t) content (accepts-front t) in
     record {
@@ -210,7 +210,7 @@ Plans-applies t n content asked rows run verdict keep same is said =
 pub Plans-parked : (t : Taken) (n : ℕ) (content : Content) (asked : Option CommandRow) (verdict : Verdict)
     → accepts t n ≡ true → front t < n → verdict ≡ verdict_of t (Command n content) asked
     → Plans t (Command n content) asked
-      (record { next = front t; apply = []; park = Some (record { number = n; content = content }); verdict = verdict })
+    (record { next = front t; apply = []; park = Some (record { number = n; content = content }); verdict = verdict })
 Plans-parked t n content asked verdict accepted past said =
     let grown = take-accepted t n content accepted in
     let stays = ap front grown ∙ front-parked t n content past in

@@ -1,16 +1,14 @@
 -- What a run of rows tells of what was accepted.
-use Rattle.std.proofs.Common.{◌≡◌, ℕ, suc, zero, ◌+◌, ◌-◌, ◌<◌, ◌≤◌, ◌≢◌, ◌==◌, Bool, true, false, cond, List, [], ◌∷◌, length, map, Option, Some, None, is_some, option_map, refl, sym, ap, ◌∙◌, subst, arith, inl, inr, nat_lt}
+use Rattle.std.proofs.Common.{◌≡◌, ℕ, suc, zero, ◌+◌, ◌-◌, ◌<◌, ◌≤◌, ◌≢◌, true, false, List, length, Option, Some, None, is_some, refl, sym, ap, ◌∙◌, arith, inl, inr, nat_lt}
 use Rattle.std.proofs.lemmas.Bool.Decides.{nat_tests}
 use Rattle.std.proofs.lemmas.Bool.{cases_eq, false≢true}
-use Rattle.points.specs.declared.content.Content.{Content}
 use Rattle.points.specs.declared.command_row.CommandRow.{CommandRow}
 use Rattle.points.specs.declared.numbered_row.NumberedRow.{NumberedRow}
 use Rattle.points.specs.Run.{Rows, IsRun, row_before, rows_from}
-use Rattle.window.specs.declared.numbered_content.NumberedContent.{NumberedContent}
 use Rattle.window.specs.Applied.{and_at, contents_from}
-use Rattle.window.specs.Drain.{content_of, contents_of, next_after, end_of}
+use Rattle.window.specs.Drain.{contents_of, end_of}
 use Rattle.window.specs.Taken.{Taken, content_at, is_key, front}
-use Rattle.window.specs.View.{Keep, content_of_row, kept_at}
+use Rattle.window.specs.View.{Keep, content_of_row}
 use Rattle.window.specs.Window.{remembered}
 use Rattle.window.proofs.DrainLemmas.{next_after-same, next_after-apart}
 
@@ -40,11 +38,11 @@ end_of-rows_from (suc count) rows from next low high unbroken =
           let here : is_some (rows from) ≡ true = unbroken from (omega arith) (omega arith) in
           end_of-row_before-same (rows from) from next rest same here
           ∙ (end_of-rows_from count rows (from + 1) (next + 1) (omega arith) (omega arith)
-              (λ number least below. unbroken number (omega arith) (omega arith)) ∙ past)
+          (λ number least below. unbroken number (omega arith) (omega arith)) ∙ past)
       | inr apart ↦
           end_of-row_before-apart (rows from) from next rest apart
           ∙ (end_of-rows_from count rows (from + 1) next (omega arith) (omega arith)
-              (λ number least below. unbroken number least (omega arith)) ∙ past)
+          (λ number least below. unbroken number least (omega arith)) ∙ past)
     ]
 
 pub end_of-run : (rows : Rows) (from upto : ℕ) (run : List NumberedRow) → from ≤ upto → (is : IsRun rows from upto run)
@@ -54,7 +52,7 @@ end_of-run rows from upto run ordered is =
     let past : from + (is.end - from) ≡ is.end = omega arith in
     ap (end_of upto) is.is_between
     ∙ (end_of-rows_from (is.end - from) rows from upto ordered (omega arith)
-        (λ number least below. is.unbroken number least (omega arith)) ∙ past)
+    (λ number least below. is.unbroken number least (omega arith)) ∙ past)
 
 -- what a run's rows hold
 
@@ -70,7 +68,7 @@ contents_of-rows_from zero rows t from agree = refl
 contents_of-rows_from (suc count) rows t from agree =
     contents_of-row_before (rows from) from (rows_from count rows (from + 1))
     ∙ (ap (λ content. and_at from content (contents_of (rows_from count rows (from + 1)))) (agree from (omega arith))
-      ∙ ap (and_at from (content_at t from)) (contents_of-rows_from count rows t (from + 1) (λ number least. agree number (omega arith))))
+    ∙ ap (and_at from (content_at t from)) (contents_of-rows_from count rows t (from + 1) (λ number least. agree number (omega arith))))
 
 length-row_before : (row : Option CommandRow) (from : ℕ) (rest : List NumberedRow) → length (row_before from row rest) ≤ length rest + 1
 length-row_before None from rest = omega arith

@@ -1,5 +1,5 @@
 -- What a verdict on a command tells of its number, and a view of the run that it needs.
-use Rattle.std.proofs.Common.{◌≡◌, ◌≢◌, ℕ, ◌+◌, ◌-◌, ◌<◌, ◌≤◌, ◌==◌, Bool, true, false, cond, List, Option, Some, None, is_some, refl, sym, ap, ◌∙◌, subst, arith, inl, inr, nat_lt}
+use Rattle.std.proofs.Common.{◌≡◌, ℕ, ◌+◌, ◌-◌, ◌<◌, ◌==◌, Bool, true, false, cond, List, Option, Some, None, is_some, refl, sym, ap, ◌∙◌, subst, arith, inl, inr, nat_lt}
 use Rattle.std.proofs.lemmas.Bool.Decides.{nat_tests}
 use Rattle.std.proofs.lemmas.Bool.{cases_lt, cases_order, cases_Bool}
 use Rattle.points.specs.declared.content.Content.{Content}
@@ -149,5 +149,5 @@ refused-otherwise t n content rows asked keep same not_applies not_parked =
       | inr known ↦
           let by_row : verdict_of t (Command n content) asked ≡ verdict_by asked t n content = rw known refl in
           refused_by t n content asked (shown_key t n rows asked keep same known)
-            (λ is. not_applies (by_row ∙ is)) (λ is. not_parked (by_row ∙ is))
+          (λ is. not_applies (by_row ∙ is)) (λ is. not_parked (by_row ∙ is))
     ]

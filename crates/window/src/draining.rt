@@ -20,10 +20,10 @@ pub fn drained(
 ) -> Result<Plan, AllocError>
     requires { upto ≤ LAST_NUMBER + 1 }
     ensures { IfOk result (λ plan. plan ≡ record {
-        next = end_of upto run.now;
-        apply = contents.items ++ contents_of run.now;
-        park = None;
-        verdict = verdict;
+      next = end_of upto run.now;
+      apply = contents.items ++ contents_of run.now;
+      park = None;
+      verdict = verdict;
     }) }
 {
     let mut next = upto;

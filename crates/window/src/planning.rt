@@ -54,7 +54,12 @@ pub fn plan_skip(alloc: Global, view: &PanelView, upto: u64) -> Result<Plan, All
     if upto <= view.next {
         Ok(unchanged(alloc, view.next, Verdict::SkipDone))
     } else if upto - view.next <= WINDOW {
-        drained(Vec::new(alloc), view.run.as_slice(), upto, Verdict::SkipDone)
+        drained(
+            Vec::new(alloc),
+            view.run.as_slice(),
+            upto,
+            Verdict::SkipDone,
+        )
     } else {
         Ok(unchanged(alloc, view.next, Verdict::TooFar))
     }

@@ -10,7 +10,7 @@ loop-entry-preserved c =
     let at = c.loop-entry.entry-index in
     let entry = c.entry-item.result in
     let pushed : c.push.new.self.items ≡ c.loop-entry.contents.items ++ content_of entry ∷ [] =
-        c.in_ok-push.ensures.items ∙ pushed_content c.loop-entry.contents.items entry c.in_ok-clone.field-0 c.in_ok-clone.ensures.cases in
+    c.in_ok-push.ensures.items ∙ pushed_content c.loop-entry.contents.items entry c.in_ok-clone.field-0 c.in_ok-clone.ensures.cases in
     let within = c.loop-entry-test.true in
     record {
       contents = ap (λ items. items ++ contents_of (drop (at + 1) run)) pushed ∙ contents_step run at entry c.loop-entry.contents.items _ within c.entry-item.is c.loop-entry.invariant.contents;
@@ -29,7 +29,7 @@ pub overflow_add-next : goal.overflow_add-next
 overflow_add-next c = let room = c.push.new.self.small in let long = c.in_ok-push.ensures.len in let within = c.push.new.self.ok.1 in omega arith
 
 pub returns : goal.returns
-returns c = 
+returns c =
     let run = c.args.run.now in
     let at = c.loop-entry.entry-index in
     let past = c.loop-entry-test.false in

@@ -8,18 +8,18 @@ use Rattle.window.proofs.planning.plan_command.Goals as goal
 pub returns-in_ok-push-in-Applies : goal.returns-in_ok-push-in-Applies
 returns-in_ok-push-in-Applies c = IfOk-weaker c.drained.result _ _
     (λ plan is asks shows.
-      let t = taken opening asks in
-      let view = c.args.view.now in
-      let number = c.args.number in
-      let content = c.args.content.now in
-      let said = c.verdict_on-verdict.ensures t shows in
-      let at_front = at_front-applies t number content view.asked (sym said ∙ c.in-Applies.is) in
-      let run = IsRun-command t number content shows.rows view.run at_front shows.run in
-      Plans-drained t (Command number content) view.asked plan (number + 1) _ (record { number = number; content = content } ∷ []) _ view.run _ is
-        (c.in_ok-push-in-Applies.ensures.items ∙ (ap (λ before. before ++ c.in_ok-numbered-in-Applies.field-0 ∷ []) c.new-contents.ensures.items
-          ∙ ap (λ entry. entry ∷ []) c.in_ok-numbered-in-Applies.ensures))
-        c.as_slice.ensures
-        (Plans-applies t number content view.asked shows.rows view.run _ shows.keep at_front run said))
+    let t = taken opening asks in
+    let view = c.args.view.now in
+    let number = c.args.number in
+    let content = c.args.content.now in
+    let said = c.verdict_on-verdict.ensures t shows in
+    let at_front = at_front-applies t number content view.asked (sym said ∙ c.in-Applies.is) in
+    let run = IsRun-command t number content shows.rows view.run at_front shows.run in
+    Plans-drained t (Command number content) view.asked plan (number + 1) _ (record { number = number; content = content } ∷ []) _ view.run _ is
+    (c.in_ok-push-in-Applies.ensures.items ∙ (ap (λ before. before ++ c.in_ok-numbered-in-Applies.field-0 ∷ []) c.new-contents.ensures.items
+    ∙ ap (λ entry. entry ∷ []) c.in_ok-numbered-in-Applies.ensures))
+    c.as_slice.ensures
+    (Plans-applies t number content view.asked shows.rows view.run _ shows.keep at_front run said))
     c.drained.ensures
 
 pub returns-in_ok-numbered-in-Parked : goal.returns-in_ok-numbered-in-Parked
@@ -31,13 +31,13 @@ returns-in_ok-numbered-in-Parked c = λ asks shows.
     let said = c.verdict_on-verdict.ensures t shows in
     let waits = waits-parked t number content shows.rows view.asked shows.keep shows.asked (sym said ∙ c.in-Parked.is) in
     Plans-told t (Command number content) view.asked _ _
-      (λ i. record {
-        next = shows.next i;
-        apply = (c.from_vec.ensures ∙ c.new.ensures.items) i;
-        park = Some (c.in_ok-numbered-in-Parked.ensures i);
-        verdict = c.verdict_on-verdict.result;
-      })
-      (Plans-parked t number content view.asked c.verdict_on-verdict.result waits.accepted waits.past said)
+    (λ i. record {
+      next = shows.next i;
+      apply = (c.from_vec.ensures ∙ c.new.ensures.items) i;
+      park = Some (c.in_ok-numbered-in-Parked.ensures i);
+      verdict = c.verdict_on-verdict.result;
+    })
+    (Plans-parked t number content view.asked c.verdict_on-verdict.result waits.accepted waits.past said)
 
 pub returns-in_default : goal.returns-in_default
 returns-in_default c = λ asks shows.
@@ -47,7 +47,7 @@ returns-in_default c = λ asks shows.
     let content = c.args.content.now in
     let said = c.verdict_on-verdict.ensures t shows in
     let refused = refused-otherwise t number content shows.rows view.asked shows.keep shows.asked
-        (λ e. c.in_default.not-Applies (said ∙ e)) (λ e. c.in_default.not-Parked (said ∙ e)) in
+    (λ e. c.in_default.not-Applies (said ∙ e)) (λ e. c.in_default.not-Parked (said ∙ e)) in
     Plans-told t (Command number content) view.asked c.unchanged.result _ c.unchanged.ensures
-      (Plans-from_front t (Command number content) view.asked view.next _ _ _ shows.next
-        (Plans-refused t number content view.asked c.verdict_on-verdict.result refused said))
+    (Plans-from_front t (Command number content) view.asked view.next _ _ _ shows.next
+    (Plans-refused t number content view.asked c.verdict_on-verdict.result refused said))
