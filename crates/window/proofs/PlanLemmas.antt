@@ -1,5 +1,6 @@
 -- What a plan has to say.
-use Rattle.std.proofs.Common.{◌≡◌, ◌≢◌, ℕ, suc, zero, ◌+◌, ◌-◌, ◌<◌, ◌≤◌, ◌==◌, ◌++◌, Bool, true, false, cond, not, ◌&&◌, max, List, [], ◌∷◌, Option, Some, None, is_some, refl, sym, ap, ◌∙◌, subst, arith, inl, inr, nat_lt, nat_le}
+use Rattle.std.proofs.Common.{◌≡◌, ◌≢◌, ℕ, suc, zero, ◌+◌, ◌-◌, ◌<◌, ◌≤◌, ◌==◌, ◌++◌, Bool, true, false, cond, not, ◌&&◌, max, List, [], ◌∷◌, Option}
+use Rattle.std.proofs.Common.{Some, None, is_some, refl, sym, ap, ◌∙◌, subst, arith, inl, inr, nat_lt, nat_le}
 use Rattle.std.proofs.lemmas.Bool.Decides.{nat_tests}
 use Rattle.std.proofs.lemmas.Bool.{cases_order, false≢true}
 use Rattle.points.specs.declared.content.Content.{Content}
@@ -71,7 +72,8 @@ front-command t content rows run keep is =
       given_up = let below = old.given_up in omega arith;
       missing =
           let apart : front t ≢ is.end = omega arith in
-          key_other t (front t) is.end content apart (sym (is_some-rows rows t is.end (Keep-from_front rows t is.end keep (omega arith))) ∙ ap is_some is.gap);
+          let gap = sym (is_some-rows rows t is.end (Keep-from_front rows t is.end keep (omega arith))) ∙ ap is_some is.gap in
+          key_other t (front t) is.end content apart gap;
       least = λ n from below. elim (cases_order n (front t)) [
         | inl same ↦ subst (λ m. is_key (with_command t (front t) content) m ≡ true) (sym same) (key_new t (front t) content)
         | inr apart ↦ elim apart [
@@ -272,12 +274,14 @@ pub Plans-too_far : (t : Taken) (u : ℕ) (asked : Option CommandRow) → front 
 Plans-too_far t u asked past = Plans-same t u asked TooFar (accepts_skip-past t u past) (too_far t u asked past)
 
 -- a plan that is told by its parts
-pub Plans-told : (t : Taken) (ask : Ask) (asked : Option CommandRow) (plan told : Plan) → plan ≡ told → Plans t ask asked told → Plans t ask asked plan
+pub Plans-told : (t : Taken) (ask : Ask) (asked : Option CommandRow) (plan told : Plan) → plan ≡ told
+    → Plans t ask asked told → Plans t ask asked plan
 Plans-told t ask asked plan told same plans = subst (λ p. Plans t ask asked p) (sym same) plans
 
 -- a plan whose next number is the front
-pub Plans-from_front : (t : Taken) (ask : Ask) (asked : Option CommandRow) (next : ℕ) (apply : List NumberedContent) (park : Option NumberedContent) (verdict : Verdict)
-    → next ≡ front t → Plans t ask asked (record { next = front t; apply = apply; park = park; verdict = verdict })
+pub Plans-from_front : (t : Taken) (ask : Ask) (asked : Option CommandRow) (next : ℕ) (apply : List NumberedContent)
+    (park : Option NumberedContent) (verdict : Verdict) → next ≡ front t
+    → Plans t ask asked (record { next = front t; apply = apply; park = park; verdict = verdict })
     → Plans t ask asked (record { next = next; apply = apply; park = park; verdict = verdict })
 Plans-from_front t ask asked next apply park verdict same plans =
     subst (λ (n : ℕ). Plans t ask asked (record { next = n; apply = apply; park = park; verdict = verdict })) (sym same) plans
