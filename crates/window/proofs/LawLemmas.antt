@@ -10,11 +10,11 @@ use Rattle.window.specs.declared.numbered_content.NumberedContent.{NumberedConte
 use Rattle.window.specs.Applied.{applied, and_at, contents_from}
 use Rattle.window.specs.Laws.{SkipsTo, NoRunPastWindow, is_given_up}
 use Rattle.window.specs.Taken.{Ask, Command, Skip, Taken, take, taken, opening, content_in, content_at, is_key, front, accepts_skip}
-use Rattle.window.specs.View.{Keep, IsNeededRun, run_needed}
+use Rattle.window.specs.View.{Keeps, IsRunNeeded, run_needed}
 use Rattle.window.specs.Window.{window}
 use Rattle.window.proofs.FrontLemmas.{EndsInWindow, ends_in_window, IsFront-front}
 use Rattle.window.proofs.PlanLemmas.{with_skip, take-skip_accepted, IsSkipWithin-accepted, contents_from-skip, window_positive}
-use Rattle.window.proofs.RunLemmas.{Keep-from_front, is_some-rows, length-rows_from}
+use Rattle.window.proofs.RunLemmas.{Keeps-from_front, is_some-rows, length-rows_from}
 
 -- what stands under a number among the contents of numbers in a row
 
@@ -91,39 +91,39 @@ SkipsTo-take t u accepted =
     })
 
 -- a run ends within the window
-pub run_end-window : (t : Taken) (rows : Rows) (from upto : ℕ) (run : List NumberedRow) → EndsInWindow t → Keep rows t
+pub run_end-window : (t : Taken) (rows : Rows) (from upto : ℕ) (run : List NumberedRow) → EndsInWindow t → Keeps rows t
     → upto ≤ front t + window → (is : IsRun rows from upto run) → is.end ≤ front t + window
-run_end-window t rows from upto run ends keep within is =
+run_end-window t rows from upto run ends keeps within is =
     elim (cases_lt (front t + window) is.end) [
       | inl past ↦
           let last = front t + window in
           absurd (both_ways (is_key t last) (ends.none last (omega arith))
-          (sym (is_some-rows rows t last (Keep-from_front rows t last keep (omega arith))) ∙ is.unbroken last within past))
+          (sym (is_some-rows rows t last (Keeps-from_front rows t last keeps (omega arith))) ∙ is.unbroken last within past))
       | inr h ↦ h
     ]
 
-length-run : (t : Taken) (rows : Rows) (from upto : ℕ) (run : List NumberedRow) → EndsInWindow t → Keep rows t
+length-run : (t : Taken) (rows : Rows) (from upto : ℕ) (run : List NumberedRow) → EndsInWindow t → Keeps rows t
     → front t ≤ from → upto ≤ front t + window → IsRun rows from upto run → length run ≤ window
-length-run t rows from upto run ends keep least within is =
-    let high = run_end-window t rows from upto run ends keep within is in
+length-run t rows from upto run ends keeps least within is =
+    let high = run_end-window t rows from upto run ends keeps within is in
     let long = ap length is.is_between in
     omega (arith, long, length-rows_from (is.end - from) rows from)
 
-length-needed : (t : Taken) (rows : Rows) (needed : Bool) (from upto : ℕ) (run : List NumberedRow) → EndsInWindow t → Keep rows t
+length-needed : (t : Taken) (rows : Rows) (needed : Bool) (from upto : ℕ) (run : List NumberedRow) → EndsInWindow t → Keeps rows t
     → front t ≤ from → (needed ≡ true → upto ≤ front t + window)
-    → IsNeededRun rows (cond needed (Some (from, upto)) None) run → length run ≤ window
-length-needed t rows true from upto run ends keep least within is = length-run t rows from upto run ends keep least (within refl) is
-length-needed t rows false from upto run ends keep least within none = let long = ap length none in omega arith
+    → IsRunNeeded rows (cond needed (Some (record { from = from; upto = upto })) None) run → length run ≤ window
+length-needed t rows true from upto run ends keeps least within is = length-run t rows from upto run ends keeps least (within refl) is
+length-needed t rows false from upto run ends keeps least within none = let long = ap length none in omega arith
 
-length-shown : (t : Taken) (ask : Ask) (rows : Rows) (run : List NumberedRow) → EndsInWindow t → Keep rows t
-    → IsNeededRun rows (run_needed t ask) run → length run ≤ window
-length-shown t (Command number content) rows run ends keep needed =
-    length-needed t rows (number == front t) (front t + 1) (front t + 1) run ends keep (omega arith)
+length-shown : (t : Taken) (ask : Ask) (rows : Rows) (run : List NumberedRow) → EndsInWindow t → Keeps rows t
+    → IsRunNeeded rows (run_needed t ask) run → length run ≤ window
+length-shown t (Command number content) rows run ends keeps needed =
+    length-needed t rows (number == front t) (front t + 1) (front t + 1) run ends keeps (omega arith)
     (λ at. omega (arith, window_positive)) needed
-length-shown t (Skip upto) rows run ends keep needed =
-    length-needed t rows (accepts_skip t upto) (front t) upto run ends keep (omega arith)
+length-shown t (Skip upto) rows run ends keeps needed =
+    length-needed t rows (accepts_skip t upto) (front t) upto run ends keeps (omega arith)
     (λ accepted. (IsSkipWithin-accepted t upto accepted).within) needed
 
 pub no_run_past_window : NoRunPastWindow
 no_run_past_window view asks ask shows =
-    length-shown (taken opening asks) ask shows.rows view.run (ends_in_window asks) shows.keep shows.run
+    length-shown (taken opening asks) ask shows.rows view.run (ends_in_window asks) shows.keeps shows.run

@@ -16,10 +16,10 @@ use Rattle.window.specs.Drain.{contents_of, end_of}
 use Rattle.window.specs.Plan.{Plans}
 use Rattle.window.specs.Taken.{Ask, Command, Skip, Taken, take, content_at, is_key, front, accepts, accepts_skip, with_command}
 use Rattle.window.specs.Verdict.{verdict_of}
-use Rattle.window.specs.View.{Keep}
+use Rattle.window.specs.View.{Keeps}
 use Rattle.window.specs.Window.{window}
 use Rattle.window.proofs.FrontLemmas.{IsFront-front, front-is, key_new, key_other, key_stays, take-accepted, take-refused}
-use Rattle.window.proofs.RunLemmas.{end_of-run, contents_of-rows_from, Keep-from_front, is_some-rows}
+use Rattle.window.proofs.RunLemmas.{end_of-run, contents_of-rows_from, Keeps-from_front, is_some-rows}
 
 pub window_positive : 0 < window
 unfolding window
@@ -63,23 +63,23 @@ content_other t m n content apart = let other : (m == n) ≡ false = grind (arit
 -- the command at the front
 
 -- the front moves to the end of the run that follows
-pub front-command : (t : Taken) (content : Content) (rows : Rows) (run : List NumberedRow) → Keep rows t
+pub front-command : (t : Taken) (content : Content) (rows : Rows) (run : List NumberedRow) → Keeps rows t
     → (is : IsRun rows (front t + 1) (front t + 1) run) → front (with_command t (front t) content) ≡ is.end
-front-command t content rows run keep is =
+front-command t content rows run keeps is =
     let old = IsFront-front t in
     let reaches = is.reaches in
     front-is (with_command t (front t) content) is.end (record {
       given_up = let below = old.given_up in omega arith;
       missing =
           let apart : front t ≢ is.end = omega arith in
-          let gap = sym (is_some-rows rows t is.end (Keep-from_front rows t is.end keep (omega arith))) ∙ ap is_some is.gap in
+          let gap = sym (is_some-rows rows t is.end (Keeps-from_front rows t is.end keeps (omega arith))) ∙ ap is_some is.gap in
           key_other t (front t) is.end content apart gap;
       least = λ n from below. elim (cases_order n (front t)) [
         | inl same ↦ subst (λ m. is_key (with_command t (front t) content) m ≡ true) (sym same) (key_new t (front t) content)
         | inr apart ↦ elim apart [
           | inl under ↦ key_stays t (front t) n content (old.least n from under)
           | inr above ↦ key_stays t (front t) n content
-              (sym (is_some-rows rows t n (Keep-from_front rows t n keep (omega arith))) ∙ is.unbroken n (omega arith) below)
+              (sym (is_some-rows rows t n (Keeps-from_front rows t n keeps (omega arith))) ∙ is.unbroken n (omega arith) below)
         ]
       ];
     })
@@ -92,21 +92,21 @@ contents_from-new : (count : ℕ) (t : Taken) (n : ℕ) (content : Content) → 
 contents_from-new count t n content found = rw found refl
 
 -- it is applied, and the run after it
-pub applied-command : (t : Taken) (content : Content) (rows : Rows) (run : List NumberedRow) → Keep rows t
+pub applied-command : (t : Taken) (content : Content) (rows : Rows) (run : List NumberedRow) → Keeps rows t
     → IsRun rows (front t + 1) (front t + 1) run
     → applied t (with_command t (front t) content) ≡ record { number = front t; content = content } ∷ contents_of run
 unfolding applied
-applied-command t content rows run keep is =
+applied-command t content rows run keeps is =
     let new = with_command t (front t) content in
     let reaches = is.reaches in
     let count = is.end - (front t + 1) in
-    ap (λ end. contents_from (end - front t) new (front t)) (front-command t content rows run keep is)
+    ap (λ end. contents_from (end - front t) new (front t)) (front-command t content rows run keeps is)
     ∙ (ap (λ more. contents_from more new (front t)) (one_more is.end (front t) reaches)
     ∙ (contents_from-new count new (front t) content (content_new t (front t) content)
     ∙ ap (λ rest. record { number = front t; content = content } ∷ rest)
     (sym (ap contents_of is.is_between ∙ contents_of-rows_from count rows new (front t + 1) (λ n from.
     let apart : front t ≢ n = omega arith in
-    Keep-from_front rows t n keep (omega arith) ∙ sym (content_other t (front t) n content apart))))))
+    Keeps-from_front rows t n keeps (omega arith) ∙ sym (content_other t (front t) n content apart))))))
 
 -- a skip
 
@@ -138,16 +138,16 @@ pub accepts_skip-past : (t : Taken) (u : ℕ) → front t + window < u → accep
 accepts_skip-past t u past = grind (arith, nat_tests)
 
 -- the front moves to the end of the run over the numbers that it passes
-pub front-skip : (t : Taken) (u : ℕ) (rows : Rows) (run : List NumberedRow) → Keep rows t → front t < u
+pub front-skip : (t : Taken) (u : ℕ) (rows : Rows) (run : List NumberedRow) → Keeps rows t → front t < u
     → (is : IsRun rows (front t) u run) → front (with_skip t u) ≡ is.end
-front-skip t u rows run keep above is =
+front-skip t u rows run keeps above is =
     let old = IsFront-front t in
     let given_up = old.given_up in
     let reaches = is.reaches in
     front-is (with_skip t u) is.end (record {
       given_up = omega arith;
-      missing = sym (is_some-rows rows t is.end (Keep-from_front rows t is.end keep (omega arith))) ∙ ap is_some is.gap;
-      least = λ n from below. sym (is_some-rows rows t n (Keep-from_front rows t n keep (omega arith))) ∙ is.unbroken n (omega arith) below;
+      missing = sym (is_some-rows rows t is.end (Keeps-from_front rows t is.end keeps (omega arith))) ∙ ap is_some is.gap;
+      least = λ n from below. sym (is_some-rows rows t n (Keeps-from_front rows t n keeps (omega arith))) ∙ is.unbroken n (omega arith) below;
     })
 
 -- what was accepted under a number stays under it
@@ -155,13 +155,13 @@ pub contents_from-skip : (count : ℕ) (t : Taken) (u n : ℕ) → contents_from
 contents_from-skip zero t u n = refl
 contents_from-skip (suc count) t u n = ap (and_at n (content_at t n)) (contents_from-skip count t u (n + 1))
 
-pub applied-skip : (t : Taken) (u : ℕ) (rows : Rows) (run : List NumberedRow) → Keep rows t → front t < u
+pub applied-skip : (t : Taken) (u : ℕ) (rows : Rows) (run : List NumberedRow) → Keeps rows t → front t < u
     → IsRun rows (front t) u run → applied t (with_skip t u) ≡ contents_of run
 unfolding applied
-applied-skip t u rows run keep above is =
-    ap (λ end. contents_from (end - front t) (with_skip t u) (front t)) (front-skip t u rows run keep above is)
+applied-skip t u rows run keeps above is =
+    ap (λ end. contents_from (end - front t) (with_skip t u) (front t)) (front-skip t u rows run keeps above is)
     ∙ (contents_from-skip (is.end - front t) t u (front t)
-    ∙ sym (ap contents_of is.is_between ∙ contents_of-rows_from (is.end - front t) rows t (front t) (λ n from. Keep-from_front rows t n keep from)))
+    ∙ sym (ap contents_of is.is_between ∙ contents_of-rows_from (is.end - front t) rows t (front t) (λ n from. Keeps-from_front rows t n keeps from)))
 
 -- a number past the front leaves the front
 pub front-parked : (t : Taken) (n : ℕ) (content : Content) → front t < n → front (with_command t n content) ≡ front t
@@ -194,17 +194,17 @@ not_past true f n low = grind (arith, nat_tests)
 not_past false f n low = refl
 
 pub Plans-applies : (t : Taken) (n : ℕ) (content : Content) (asked : Option CommandRow) (rows : Rows) (run : List NumberedRow) (verdict : Verdict)
-    → Keep rows t → n ≡ front t → IsRun rows (front t + 1) (front t + 1) run → verdict ≡ verdict_of t (Command n content) asked
+    → Keeps rows t → n ≡ front t → IsRun rows (front t + 1) (front t + 1) run → verdict ≡ verdict_of t (Command n content) asked
     → Plans t (Command n content) asked
     (record { next = end_of (n + 1) run; apply = (record { number = n; content = content } ∷ []) ++ contents_of run; park = None; verdict = verdict })
-Plans-applies t n content asked rows run verdict keep same is said =
+Plans-applies t n content asked rows run verdict keeps same is said =
     let grown = ap (λ m. take t (Command m content)) same ∙ take-accepted t (front t) content (accepts-front t) in
     record {
       next = ap (λ m. end_of (m + 1) run) same
           ∙ (end_of-run rows (front t + 1) (front t + 1) run (omega arith) is
-          ∙ sym (ap front grown ∙ front-command t content rows run keep is));
+          ∙ sym (ap front grown ∙ front-command t content rows run keeps is));
       apply = ap (λ (m : ℕ). record { number = m; content = content } ∷ contents_of run) same
-          ∙ sym (ap (applied t) grown ∙ applied-command t content rows run keep is);
+          ∙ sym (ap (applied t) grown ∙ applied-command t content rows run keeps is);
       park = sym (parked_when (accepts t n) (nat_lt (front t) n) _ (not_past (accepts t n) (front t) n (omega arith)));
       verdict = said;
     }
@@ -243,13 +243,13 @@ too_far : (t : Taken) (u : ℕ) (asked : Option CommandRow) → front t + window
 too_far t u asked past = let far : nat_lt (front t + window) u ≡ true = grind (arith, nat_tests) in rw far refl
 
 pub Plans-skips : (t : Taken) (u : ℕ) (asked : Option CommandRow) (rows : Rows) (run : List NumberedRow)
-    → Keep rows t → front t < u → u ≤ front t + window → IsRun rows (front t) u run
+    → Keeps rows t → front t < u → u ≤ front t + window → IsRun rows (front t) u run
     → Plans t (Skip u) asked (record { next = end_of u run; apply = contents_of run; park = None; verdict = SkipDone })
-Plans-skips t u asked rows run keep above within is =
+Plans-skips t u asked rows run keeps above within is =
     let grown = take-skip_accepted t u (accepts_skip-within t u above within) in
     record {
-      next = end_of-run rows (front t) u run (omega arith) is ∙ sym (ap front grown ∙ front-skip t u rows run keep above is);
-      apply = sym (ap (applied t) grown ∙ applied-skip t u rows run keep above is);
+      next = end_of-run rows (front t) u run (omega arith) is ∙ sym (ap front grown ∙ front-skip t u rows run keeps above is);
+      apply = sym (ap (applied t) grown ∙ applied-skip t u rows run keeps above is);
       park = refl;
       verdict = skip_done t u asked within;
     }
@@ -300,3 +300,9 @@ Plans-drained t ask asked plan upto contents before drained run verdict is began
       park = None;
       verdict = verdict;
     }) plans
+
+-- one content pushed behind none
+pub first_pushed : (before contents : List NumberedContent) (entry told : NumberedContent) → contents ≡ before ++ entry ∷ [] → before ≡ []
+    → entry ≡ told → contents ≡ told ∷ []
+first_pushed before contents entry told pushed none same =
+    pushed ∙ (ap (λ first. first ++ entry ∷ []) none ∙ ap (λ (e : NumberedContent). e ∷ []) same)

@@ -9,7 +9,7 @@ use Rattle.points.specs.Run.{Rows, IsRun, row_before, rows_from}
 use Rattle.window.specs.Applied.{and_at, contents_from}
 use Rattle.window.specs.Drain.{contents_of, end_of}
 use Rattle.window.specs.Taken.{Taken, content_at, is_key, front}
-use Rattle.window.specs.View.{Keep, content_of_row}
+use Rattle.window.specs.View.{Keeps, content_of_row}
 use Rattle.window.specs.Window.{remembered}
 use Rattle.window.proofs.DrainLemmas.{next_after-same, next_after-apart}
 
@@ -82,12 +82,12 @@ length-rows_from (suc count) rows from =
 
 -- rows that keep what was accepted
 
-pub Keep-remembered : (rows : Rows) (t : Taken) (n : ℕ) → Keep rows t → nat_lt n (front t - remembered) ≡ false
+pub Keeps-remembered : (rows : Rows) (t : Taken) (n : ℕ) → Keeps rows t → nat_lt n (front t - remembered) ≡ false
     → content_of_row (rows n) ≡ content_at t n
-Keep-remembered rows t n keep known = keep n ∙ rw known refl
+Keeps-remembered rows t n keeps known = keeps n ∙ rw known refl
 
-pub Keep-from_front : (rows : Rows) (t : Taken) (n : ℕ) → Keep rows t → front t ≤ n → content_of_row (rows n) ≡ content_at t n
-Keep-from_front rows t n keep from = Keep-remembered rows t n keep (grind (arith, nat_tests))
+pub Keeps-from_front : (rows : Rows) (t : Taken) (n : ℕ) → Keeps rows t → front t ≤ n → content_of_row (rows n) ≡ content_at t n
+Keeps-from_front rows t n keeps from = Keeps-remembered rows t n keeps (grind (arith, nat_tests))
 
 is_some-content_of_row : (row : Option CommandRow) → is_some (content_of_row row) ≡ is_some row
 is_some-content_of_row None = refl

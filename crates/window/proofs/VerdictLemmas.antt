@@ -12,23 +12,23 @@ use Rattle.window.specs.declared.verdict.Verdict.{Verdict}
 use Rattle.window.specs.declared.verdict.Verdict.TheVariants.{Applies, Parked, Repeat, Skipped, Differs, TooFar, Forgotten}
 use Rattle.window.specs.Taken.{Command, Skip, Taken, is_key, front, accepts, accepts_skip}
 use Rattle.window.specs.Verdict.{verdict_of, verdict_by}
-use Rattle.window.specs.View.{Keep, IsNeededRun, run_needed}
+use Rattle.window.specs.View.{Keeps, IsRunNeeded, run_needed}
 use Rattle.window.specs.Window.{window, remembered}
 use Rattle.window.proofs.PlanLemmas.{accepts-missing, accepts-key, accepts-below, accepts-past}
-use Rattle.window.proofs.RunLemmas.{Keep-remembered, is_some-rows}
+use Rattle.window.proofs.RunLemmas.{Keeps-remembered, is_some-rows}
 
 -- the run behind a command at the front, and over the numbers of a skip
 
 pub IsRun-command : (t : Taken) (n : ℕ) (content : Content) (rows : Rows) (run : List NumberedRow) → n ≡ front t
-    → IsNeededRun rows (run_needed t (Command n content)) run → IsRun rows (front t + 1) (front t + 1) run
+    → IsRunNeeded rows (run_needed t (Command n content)) run → IsRun rows (front t + 1) (front t + 1) run
 IsRun-command t n content rows run same needed =
     let at : (n == front t) ≡ true = grind (arith, nat_tests) in
-    subst (λ (b : Bool). IsNeededRun rows (cond b (Some (front t + 1, front t + 1)) None) run) at needed
+    subst (λ (b : Bool). IsRunNeeded rows (cond b (Some (record { from = front t + 1; upto = front t + 1 })) None) run) at needed
 
 pub IsRun-skip : (t : Taken) (u : ℕ) (rows : Rows) (run : List NumberedRow) → accepts_skip t u ≡ true
-    → IsNeededRun rows (run_needed t (Skip u)) run → IsRun rows (front t) u run
+    → IsRunNeeded rows (run_needed t (Skip u)) run → IsRun rows (front t) u run
 IsRun-skip t u rows run accepted needed =
-    subst (λ (b : Bool). IsNeededRun rows (cond b (Some (front t, u)) None) run) accepted needed
+    subst (λ (b : Bool). IsRunNeeded rows (cond b (Some (record { from = front t; upto = u })) None) run) accepted needed
 
 -- a verdict but `Forgotten` is on a number that is remembered
 pub record IsRemembered (t : Taken) (n : ℕ) (content : Content) (asked : Option CommandRow) (verdict : Verdict) : Type 0 where
@@ -101,16 +101,16 @@ waits_by t n content None shown is =
     record { accepted = accepts-missing t n (sym shown) (let past = parts.0 in omega arith) parts.1; past = parts.0 }
 waits_by t n content (Some row) shown is = absurd (no_parked (content_eq row.content content) row is)
 
-shown_key : (t : Taken) (n : ℕ) (rows : Rows) (asked : Option CommandRow) → Keep rows t → asked ≡ rows n
+shown_key : (t : Taken) (n : ℕ) (rows : Rows) (asked : Option CommandRow) → Keeps rows t → asked ≡ rows n
     → nat_lt n (front t - remembered) ≡ false → is_some asked ≡ is_key t n
-shown_key t n rows asked keep same known = ap is_some same ∙ is_some-rows rows t n (Keep-remembered rows t n keep known)
+shown_key t n rows asked keeps same known = ap is_some same ∙ is_some-rows rows t n (Keeps-remembered rows t n keeps known)
 
-pub waits-parked : (t : Taken) (n : ℕ) (content : Content) (rows : Rows) (asked : Option CommandRow) → Keep rows t → asked ≡ rows n
+pub waits-parked : (t : Taken) (n : ℕ) (content : Content) (rows : Rows) (asked : Option CommandRow) → Keeps rows t → asked ≡ rows n
     → verdict_of t (Command n content) asked ≡ Parked → Waits t n
-waits-parked t n content rows asked keep same is =
+waits-parked t n content rows asked keeps same is =
     let forgets : Forgotten ≡ Parked → ⊥ = λ e. cc in
     let found = IsRemembered-verdict t n content asked Parked forgets is in
-    waits_by t n content asked (shown_key t n rows asked keep same found.known) found.by_row
+    waits_by t n content asked (shown_key t n rows asked keeps same found.known) found.by_row
 
 -- another verdict is on a number that is not accepted
 
@@ -142,13 +142,13 @@ refused_by t n content None shown not_applies not_parked =
     ]
 refused_by t n content (Some row) shown not_applies not_parked = accepts-key t n (sym shown)
 
-pub refused-otherwise : (t : Taken) (n : ℕ) (content : Content) (rows : Rows) (asked : Option CommandRow) → Keep rows t → asked ≡ rows n
+pub refused-otherwise : (t : Taken) (n : ℕ) (content : Content) (rows : Rows) (asked : Option CommandRow) → Keeps rows t → asked ≡ rows n
     → (verdict_of t (Command n content) asked ≡ Applies → ⊥) → (verdict_of t (Command n content) asked ≡ Parked → ⊥) → accepts t n ≡ false
-refused-otherwise t n content rows asked keep same not_applies not_parked =
+refused-otherwise t n content rows asked keeps same not_applies not_parked =
     elim (cases_Bool (nat_lt n (front t - remembered))) [
       | inl forgotten ↦ accepts-below t n (grind (arith, nat_tests))
       | inr known ↦
           let by_row : verdict_of t (Command n content) asked ≡ verdict_by asked t n content = rw known refl in
-          refused_by t n content asked (shown_key t n rows asked keep same known)
+          refused_by t n content asked (shown_key t n rows asked keeps same known)
           (λ is. not_applies (by_row ∙ is)) (λ is. not_parked (by_row ∙ is))
     ]

@@ -6,31 +6,33 @@ use Rattle.window.specs.Taken.{Ask, Command, Skip, Taken, taken, take, opening, 
 use Rattle.window.specs.View.{Shows}
 use Rattle.window.specs.Window.{window}
 
--- f is the least number that is at least `upto` and no key
-pub record IsFront (t : Taken) (f : ℕ) : Type 0 where
-  pub given_up : t.upto ≤ f
-  pub missing : is_key t f ≡ false
-  pub least : (n : ℕ) → t.upto ≤ n → n < f → is_key t n ≡ true
+-- it is the least number that is at least `upto` and no key
+pub record IsFront (earlier : Taken) (least_missing : ℕ) : Type 0 where
+  pub given_up : earlier.upto ≤ least_missing
+  pub missing : is_key earlier least_missing ≡ false
+  pub least : (number : ℕ) → earlier.upto ≤ number → number < least_missing → is_key earlier number ≡ true
 
 -- the front is the least missing number
 abbrev pub FrontIsLeastMissing : Type 0
-FrontIsLeastMissing = (t : Taken) → IsFront t (front t)
+FrontIsLeastMissing = (earlier : Taken) → IsFront earlier (front earlier)
 
 -- the front never falls
 abbrev pub FrontNeverFalls : Type 0
-FrontNeverFalls = (t : Taken) (ask : Ask) → front t ≤ front (take t ask)
+FrontNeverFalls = (earlier : Taken) (ask : Ask) → front earlier ≤ front (take earlier ask)
 
 -- a command that is not accepted leaves what was accepted, and so the front
 abbrev pub RefusedChangesNothing : Type 0
-RefusedChangesNothing = (t : Taken) (n : ℕ) (content : Content) → accepts t n ≡ false → take t (Command n content) ≡ t
+RefusedChangesNothing = (earlier : Taken) (number : ℕ) (content : Content) → accepts earlier number ≡ false
+    → take earlier (Command number content) ≡ earlier
 
 -- after any asks, no key lies at or past the front plus the window
 abbrev pub NoKeyPastWindow : Type 0
-NoKeyPastWindow = (asks : List Ask) (n : ℕ) → let t = taken opening asks in front t + window ≤ n → is_key t n ≡ false
+NoKeyPastWindow = (asks : List Ask) (number : ℕ) → let earlier = taken opening asks in
+    front earlier + window ≤ number → is_key earlier number ≡ false
 
 -- a number is given up where the front has passed it and nothing was accepted under it
 abbrev pub is_given_up : Taken → ℕ → Bool
-is_given_up taken number = nat_lt number (front taken) && not (is_key taken number)
+is_given_up earlier number = nat_lt number (front earlier) && not (is_key earlier number)
 
 -- a skip up to `upto` leads from `before` to `after`
 pub record SkipsTo (before after : Taken) (upto : ℕ) : Type 0 where
@@ -48,4 +50,5 @@ SkipAppliesParkedAndGivesUpMissing =
 
 -- no view has more rows in its run than the window has numbers
 abbrev pub NoRunPastWindow : Type 0
-NoRunPastWindow = (view : PanelView) (asks : List Ask) (ask : Ask) → Shows view (taken opening asks) ask → length view.run ≤ window
+NoRunPastWindow = (view : PanelView) (asks : List Ask) (ask : Ask) → Shows view (taken opening asks) ask
+    → length view.run ≤ window

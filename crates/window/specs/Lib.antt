@@ -2,6 +2,7 @@ pub mod Applied
 pub mod Drain
 pub mod Laws
 pub mod Plan
+pub mod RunNeeded
 pub mod Taken
 pub mod Verdict
 pub mod View

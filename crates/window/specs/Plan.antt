@@ -8,14 +8,14 @@ use Rattle.window.specs.Verdict.{verdict_of}
 
 -- a command that is accepted past the front is parked
 abbrev pub parked_by : Taken → Ask → Option NumberedContent
-parked_by taken (Command number content) =
-    if accepts taken number && nat_lt (front taken) number then Some (record { number = number; content = content }) else None
-parked_by taken (Skip upto) = None
+parked_by earlier (Command number content) =
+    if accepts earlier number && nat_lt (front earlier) number then Some (record { number = number; content = content }) else None
+parked_by earlier (Skip upto) = None
 
 -- a plan says what one ask more does: the front that it leaves, the contents that are applied, the command that
 -- is parked, and the verdict
-pub record Plans (taken : Taken) (ask : Ask) (asked : Option CommandRow) (plan : Plan) : Type 0 where
-  pub next : plan.next ≡ front (take taken ask)
-  pub apply : plan.apply ≡ applied taken (take taken ask)
-  pub park : plan.park ≡ parked_by taken ask
-  pub verdict : plan.verdict ≡ verdict_of taken ask asked
+pub record Plans (earlier : Taken) (ask : Ask) (asked : Option CommandRow) (plan : Plan) : Type 0 where
+  pub next : plan.next ≡ front (take earlier ask)
+  pub apply : plan.apply ≡ applied earlier (take earlier ask)
+  pub park : plan.park ≡ parked_by earlier ask
+  pub verdict : plan.verdict ≡ verdict_of earlier ask asked

@@ -18,6 +18,7 @@ pub use numbered_content::NumberedContent;
 pub use panel_view::PanelView;
 pub use plan::Plan;
 pub use planning::{plan_command, plan_skip};
+pub use run_needed::{RunNeeded, run_for_command, run_for_skip};
 pub use verdict::Verdict;
 
 /// How many numbers a panel may use from its next one on: the next one itself, and the 63 after it.
@@ -35,4 +36,5 @@ mod numbered_content;
 mod panel_view;
 mod plan;
 mod planning;
+mod run_needed;
 mod verdict;

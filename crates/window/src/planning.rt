@@ -24,8 +24,9 @@ pub fn plan_command(
     content: &Content,
 ) -> Result<Plan, AllocError>
     requires { number ≤ LAST_NUMBER }
-    ensures { IfOk result (λ plan. (asks : List Ask) → Shows view.now (taken opening asks) (Command number content.now)
-        → Plans (taken opening asks) (Command number content.now) view.now.asked plan) }
+    ensures { IfOk result (λ plan. (asks : List Ask) →
+        let earlier = taken opening asks in let ask = Command number content.now in
+        Shows view.now earlier ask → Plans earlier ask view.now.asked plan) }
 {
     let verdict = verdict_on(view, number, content);
     match verdict {
@@ -48,8 +49,9 @@ pub fn plan_command(
 /// view shows what was accepted of it, the plan has what the definitions give for one ask more.
 pub fn plan_skip(alloc: Global, view: &PanelView, upto: u64) -> Result<Plan, AllocError>
     requires { upto ≤ LAST_NUMBER + 1 }
-    ensures { IfOk result (λ plan. (asks : List Ask) → Shows view.now (taken opening asks) (Skip upto)
-        → Plans (taken opening asks) (Skip upto) view.now.asked plan) }
+    ensures { IfOk result (λ plan. (asks : List Ask) →
+        let earlier = taken opening asks in let ask = Skip upto in
+        Shows view.now earlier ask → Plans earlier ask view.now.asked plan) }
 {
     if upto <= view.next {
         Ok(unchanged(alloc, view.next, Verdict::SkipDone))
@@ -67,8 +69,8 @@ pub fn plan_skip(alloc: Global, view: &PanelView, upto: u64) -> Result<Plan, All
 
 #[tactic(auto, unfolding(crate::specs::Window::window, crate::specs::Window::remembered))]
 fn verdict_on(view: &PanelView, number: u64, content: &Content) -> Verdict
-    ensures { (t : Taken) → Shows view.now t (Command number content.now)
-        → result ≡ verdict_of t (Command number content.now) view.now.asked }
+    ensures { (earlier : Taken) → let ask = Command number content.now in
+        Shows view.now earlier ask → result ≡ verdict_of earlier ask view.now.asked }
 {
     if number < view.next.saturating_sub(REMEMBERED) {
         return Verdict::Forgotten;

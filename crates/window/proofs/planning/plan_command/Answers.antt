@@ -1,7 +1,7 @@
 use Rattle.std.proofs.Common.{◌∙◌, ◌+◌, [], ◌∷◌, ◌++◌, sym, ap, Some}
 use Rattle.std.proofs.lemmas.Result.{IfOk-weaker}
 use Rattle.window.specs.Taken.{Command, opening, taken}
-use Rattle.window.proofs.PlanLemmas.{Plans-drained, Plans-told, Plans-from_front, Plans-applies, Plans-parked, Plans-refused}
+use Rattle.window.proofs.PlanLemmas.{first_pushed, Plans-drained, Plans-told, Plans-from_front, Plans-applies, Plans-parked, Plans-refused}
 use Rattle.window.proofs.VerdictLemmas.{IsRun-command, at_front-applies, waits-parked, refused-otherwise}
 use Rattle.window.proofs.planning.plan_command.Goals as goal
 
@@ -16,10 +16,10 @@ returns-in_ok-push-in-Applies c = IfOk-weaker c.drained.result _ _
     let at_front = at_front-applies t number content view.asked (sym said ∙ c.in-Applies.is) in
     let run = IsRun-command t number content shows.rows view.run at_front shows.run in
     Plans-drained t (Command number content) view.asked plan (number + 1) _ (record { number = number; content = content } ∷ []) _ view.run _ is
-    (c.in_ok-push-in-Applies.ensures.items ∙ (ap (λ before. before ++ c.in_ok-numbered-in-Applies.field-0 ∷ []) c.new-contents.ensures.items
-    ∙ ap (λ entry. entry ∷ []) c.in_ok-numbered-in-Applies.ensures))
+    (first_pushed c.new-contents.result.items _ c.in_ok-numbered-in-Applies.field-0 _
+    c.in_ok-push-in-Applies.ensures.items c.new-contents.ensures.items c.in_ok-numbered-in-Applies.ensures)
     c.as_slice.ensures
-    (Plans-applies t number content view.asked shows.rows view.run _ shows.keep at_front run said))
+    (Plans-applies t number content view.asked shows.rows view.run _ shows.keeps at_front run said))
     c.drained.ensures
 
 pub returns-in_ok-numbered-in-Parked : goal.returns-in_ok-numbered-in-Parked
@@ -29,7 +29,7 @@ returns-in_ok-numbered-in-Parked c = λ asks shows.
     let number = c.args.number in
     let content = c.args.content.now in
     let said = c.verdict_on-verdict.ensures t shows in
-    let waits = waits-parked t number content shows.rows view.asked shows.keep shows.asked (sym said ∙ c.in-Parked.is) in
+    let waits = waits-parked t number content shows.rows view.asked shows.keeps shows.asked (sym said ∙ c.in-Parked.is) in
     Plans-told t (Command number content) view.asked _ _
     (λ i. record {
       next = shows.next i;
@@ -46,7 +46,7 @@ returns-in_default c = λ asks shows.
     let number = c.args.number in
     let content = c.args.content.now in
     let said = c.verdict_on-verdict.ensures t shows in
-    let refused = refused-otherwise t number content shows.rows view.asked shows.keep shows.asked
+    let refused = refused-otherwise t number content shows.rows view.asked shows.keeps shows.asked
     (λ e. c.in_default.not-Applies (said ∙ e)) (λ e. c.in_default.not-Parked (said ∙ e)) in
     Plans-told t (Command number content) view.asked c.unchanged.result _ c.unchanged.ensures
     (Plans-from_front t (Command number content) view.asked view.next _ _ _ shows.next

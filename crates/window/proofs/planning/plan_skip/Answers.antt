@@ -24,7 +24,7 @@ returns-then-upto-view-le-WINDOW c = IfOk-weaker c.drained.result _ _
     let front = shows.next in
     let run = IsRun-skip t c.args.upto shows.rows view.run (accepts_skip-within t c.args.upto (omega arith) (omega arith)) shows.run in
     Plans-drained t (Skip c.args.upto) view.asked plan c.args.upto _ [] _ view.run SkipDone is c.new.ensures.items c.as_slice.ensures
-    (Plans-skips t c.args.upto view.asked shows.rows view.run shows.keep (omega arith) (omega arith) run))
+    (Plans-skips t c.args.upto view.asked shows.rows view.run shows.keeps (omega arith) (omega arith) run))
     c.drained.ensures
 
 pub returns-else-upto-view-le-WINDOW : goal.returns-else-upto-view-le-WINDOW
