@@ -12,16 +12,16 @@ fn are_applied(
     from: u64,
     upto: u64,
 ) -> Result<bool, Fail> {
-    let mut rest = contents.iter();
+    let mut place: usize = 0;
     for number in from..upto {
         if let Some(value) = later.value_at(number) {
-            match rest.next() {
-                Some(entry) if is_of(entry, number, value)? => {}
+            match contents.get(place) {
+                Some(entry) if is_of(entry, number, value)? => place = place.saturating_add(1),
                 _ => return Ok(false),
             }
         }
     }
-    Ok(rest.next().is_none())
+    Ok(place == contents.len())
 }
 
 /// Whether the content is the one to park: that of a number that is accepted past the front.
