@@ -1,4 +1,4 @@
-use Rattle.std.proofs.Common.{◌∙◌, ◌+◌, [], ◌∷◌, ◌++◌, sym, ap, Some}
+use Rattle.std.proofs.Common.{◌∙◌, ◌+◌, [], ◌∷◌, sym, Some}
 use Rattle.std.proofs.lemmas.Result.{IfOk-weaker}
 use Rattle.window.specs.Taken.{Command, opening, taken}
 use Rattle.window.proofs.PlanLemmas.{first_pushed, Plans-drained, Plans-told, Plans-from_front, Plans-applies, Plans-parked, Plans-refused}
