@@ -1,60 +1,26 @@
 -- What a skip does, and how long a run is.
-use Rattle.std.proofs.Common.{◌≡◌, ◌≢◌, ℕ, suc, zero, ◌+◌, ◌-◌, ◌<◌, ◌≤◌, ◌==◌, Bool, true, false, cond, not, ◌&&◌, List, length, Option, Some, None}
+use Rattle.std.proofs.Common.{◌≡◌, ℕ, ◌+◌, ◌-◌, ◌<◌, ◌≤◌, ◌==◌, Bool, true, false, cond, not, ◌&&◌, List, length, Some, None}
 use Rattle.std.proofs.Common.{refl, sym, ap, ◌∙◌, subst, arith, inl, inr, nat_lt}
 use Rattle.std.proofs.lemmas.Bool.Decides.{nat_tests}
-use Rattle.std.proofs.lemmas.Bool.{both_ways, cases_eq, cases_lt}
-use Rattle.points.specs.declared.content.Content.{Content}
+use Rattle.std.proofs.lemmas.Bool.{both_ways, cases_lt}
 use Rattle.points.specs.declared.numbered_row.NumberedRow.{NumberedRow}
 use Rattle.points.specs.Run.{Rows, IsRun}
-use Rattle.window.specs.declared.numbered_content.NumberedContent.{NumberedContent}
-use Rattle.window.specs.Applied.{applied, and_at, contents_from}
+use Rattle.window.specs.Applied.{applied}
 use Rattle.window.specs.Laws.{SkipsTo, NoRunPastWindow, is_given_up}
 use Rattle.window.specs.Taken.{Ask, Command, Skip, Taken, take, taken, opening, content_in, content_at, is_key, front, accepts_skip}
 use Rattle.window.specs.View.{Keeps, IsRunNeeded, run_needed}
 use Rattle.window.specs.Window.{window}
+use Rattle.window.proofs.AppliedLemmas.{content_in-applied}
 use Rattle.window.proofs.FrontLemmas.{EndsInWindow, ends_in_window, IsFront-front}
-use Rattle.window.proofs.PlanLemmas.{with_skip, take-skip_accepted, IsSkipWithin-accepted, contents_from-skip, window_positive}
+use Rattle.window.proofs.PlanLemmas.{with_skip, take-skip_accepted, IsSkipWithin-accepted, window_positive}
 use Rattle.window.proofs.RunLemmas.{Keeps-from_front, is_some-rows, length-rows_from}
 
--- what stands under a number among the contents of numbers in a row
-
-content_in-and_at-same : (number : ℕ) (content : Option Content) (rest : List NumberedContent) → content_in rest number ≡ None
-    → content_in (and_at number content rest) number ≡ content
-content_in-and_at-same number None rest none = none
-content_in-and_at-same number (Some content) rest none = let same : (number == number) ≡ true = grind (arith, nat_tests) in rw same refl
-
-content_in-and_at-apart : (from number : ℕ) (content : Option Content) (rest : List NumberedContent) → from ≢ number
-    → content_in (and_at from content rest) number ≡ content_in rest number
-content_in-and_at-apart from number None rest apart = refl
-content_in-and_at-apart from number (Some content) rest apart = let other : (from == number) ≡ false = grind (arith, nat_tests) in rw other refl
-
-content_in-contents_from-below : (count : ℕ) (t : Taken) (from number : ℕ) → number < from → content_in (contents_from count t from) number ≡ None
-content_in-contents_from-below zero t from number below = refl
-content_in-contents_from-below (suc count) t from number below =
-    let apart : from ≢ number = omega arith in
-    content_in-and_at-apart from number (content_at t from) (contents_from count t (from + 1)) apart
-    ∙ content_in-contents_from-below count t (from + 1) number (omega arith)
-
-content_in-contents_from : (count : ℕ) (t : Taken) (from number : ℕ) → from ≤ number → number < from + count
-    → content_in (contents_from count t from) number ≡ content_at t number
-content_in-contents_from zero t from number least below = absurd (omega arith)
-content_in-contents_from (suc count) t from number least below =
-    let rest = contents_from count t (from + 1) in
-    elim (cases_eq from number) [
-      | inl same ↦
-          let none : content_in rest from ≡ None = content_in-contents_from-below count t (from + 1) from (omega arith) in
-          subst (λ n. content_in (and_at from (content_at t from) rest) n ≡ content_at t n) same
-          (content_in-and_at-same from (content_at t from) rest none)
-      | inr apart ↦ content_in-and_at-apart from number (content_at t from) rest apart
-          ∙ content_in-contents_from count t (from + 1) number (omega arith) (omega arith)
-    ]
+-- a skip
 
 applies-skip : (t : Taken) (u number : ℕ) → u ≤ front (with_skip t u) → front t ≤ number → number < u
     → content_in (applied t (with_skip t u)) number ≡ content_at t number
-unfolding applied
 applies-skip t u number reaches least below =
-    ap (λ contents. content_in contents number) (contents_from-skip (front (with_skip t u) - front t) t u (front t))
-    ∙ content_in-contents_from (front (with_skip t u) - front t) t (front t) number least (omega arith)
+    content_in-applied t (with_skip t u) number least (omega arith)
 
 and_false : (b : Bool) → (b && false) ≡ false
 and_false true = refl

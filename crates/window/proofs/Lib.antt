@@ -1,3 +1,4 @@
+pub mod AppliedLemmas
 pub mod DrainLemmas
 pub mod FrontLemmas
 pub mod LawLemmas

@@ -54,7 +54,7 @@ refused_past false f n w past = grind (arith, nat_tests)
 pub accepts-past : (t : Taken) (n : ℕ) → front t + window ≤ n → accepts t n ≡ false
 accepts-past t n past = refused_past (is_key t n) (front t) n window past
 
-content_new : (t : Taken) (n : ℕ) (content : Content) → content_at (with_command t n content) n ≡ Some content
+pub content_new : (t : Taken) (n : ℕ) (content : Content) → content_at (with_command t n content) n ≡ Some content
 content_new t n content = let same : (n == n) ≡ true = grind (arith, nat_tests) in rw same refl
 
 pub content_other : (t : Taken) (m n : ℕ) (content : Content) → m ≢ n → content_at (with_command t m content) n ≡ content_at t n
