@@ -1,13 +1,16 @@
 //! What does a panel's number do, given all that the panel asked before?
 //!
-//! A panel numbers its commands from 1 on, and they may come late, twice, out of turn or never. A caller
-//! keeps of each panel the `next` number (the least one that is neither acted on nor given up) and the rows
+//! A panel numbers its commands from 1 on, and they may come late, twice, out of turn or never. Of each
+//! panel a caller keeps the `next` number (the least one that is neither acted on nor given up) and the rows
 //! of what was accepted. For a command or a skip it makes a `PanelView` of them: `next`, the row of the
-//! number asked for, and the run of rows that can follow. From the view `plan_command` and `plan_skip` make
-//! a `Plan`, which the caller carries out: the contents to act on in order, the one to park, the new `next`,
-//! and the verdict. That the plan is right for every list of asks is the contract of both, by the
-//! definitions of `specs/Taken.antt` (what was accepted) and `specs/Applied.antt` (what is acted on). The
-//! laws of `laws.rt` say what these definitions are good for. The numbering is this profile's own.
+//! number asked for, and the run of rows that `run_for_command` or `run_for_skip` names. From the view
+//! `plan_command` or `plan_skip` makes a `Plan`, which the caller carries out: the contents to act on, in
+//! order, the one to park, the new `next`, and the verdict.
+//!
+//! That a plan is right for every list of asks is the contract of both: `specs/View.antt` says what a view
+//! shows, `specs/Plan.antt` what a plan says, by the definitions of what was accepted (`specs/Taken.antt`)
+//! and of what is acted on (`specs/Applied.antt`). The laws are what these definitions are good for. The
+//! numbering is this profile's own.
 #![tactic(auto)]
 
 pub use laws::{
