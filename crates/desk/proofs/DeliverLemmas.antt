@@ -10,12 +10,12 @@ use Rattle.points.specs.declared.command_row.CommandRow.{CommandRow}
 use Rattle.points.specs.declared.command_row.CommandState.TheVariants.{Parked, Answered}
 use Rattle.points.specs.declared.content.Content.{Content}
 use Rattle.points.specs.PriorityArray.{Places}
-use Rattle.window.specs.Taken as asks
-use Rattle.window.specs.Plan.{verdict_of}
-use Rattle.window.specs.declared.verdict.Verdict.{Verdict}
-use Rattle.window.specs.declared.verdict.Verdict.TheVariants as verdict
-use Rattle.window.proofs.FrontLemmas.{front-take}
-use Rattle.window.proofs.PlanLemmas.{AtFront-applies, refused-elsewhere}
+use Rattle.window_of_one.specs.Taken as asks
+use Rattle.window_of_one.specs.Plan.{verdict_of}
+use Rattle.window_of_one.specs.declared.verdict.Verdict.{Verdict}
+use Rattle.window_of_one.specs.declared.verdict.Verdict.TheVariants as verdict
+use Rattle.window_of_one.proofs.FrontLemmas.{front-take}
+use Rattle.window_of_one.proofs.PlanLemmas.{AtFront-applies, refused-elsewhere}
 use Rattle.desk.specs.declared.building.Building.{Building}
 use Rattle.desk.specs.declared.delivery.Delivery.{Delivery}
 use Rattle.desk.specs.declared.delivery.Delivery.TheVariants.{Command}

@@ -3,7 +3,7 @@ use Rattle.std.proofs.Common.{◌≡◌, List, [], ◌∷◌, ◌++◌, refl, sy
 use Rattle.std.specs.List.{flat_map}
 use Rattle.std.proofs.lemmas.Grind.{flat_map-append}
 use Rattle.std.proofs.lemmas.List.{append-nil}
-use Rattle.window.specs.Taken as asks
+use Rattle.window_of_one.specs.Taken as asks
 use Rattle.desk.specs.declared.building.Building.{Building}
 use Rattle.desk.specs.declared.delivery.Delivery.{Delivery}
 use Rattle.desk.specs.Accepted.{Text, asks_of, taken_by}

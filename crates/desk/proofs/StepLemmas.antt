@@ -11,15 +11,15 @@ use Rattle.points.specs.declared.command_row.CommandState.TheVariants.{Parked, A
 use Rattle.points.specs.declared.content.Content.{Content}
 use Rattle.points.specs.declared.panel.Panel.{Panel}
 use Rattle.points.specs.ContentEq.{content_eq}
-use Rattle.window.specs.declared.TheConstants.{LAST_NUMBER}
-use Rattle.window.specs.Taken as asks
-use Rattle.window.specs.Applied.{applied}
-use Rattle.window.specs.Plan.{verdict_of}
-use Rattle.window.specs.Window.{window}
-use Rattle.window.specs.declared.verdict.Verdict.{Verdict}
-use Rattle.window.specs.declared.verdict.Verdict.TheVariants as verdict
-use Rattle.window.proofs.FrontLemmas.{EndsInWindow, ends_in_window, IsFront-front, take-refused, take-accepted}
-use Rattle.window.proofs.PlanLemmas.{accepts-front, applied-same, applied-front, front-with_command}
+use Rattle.window_of_one.specs.declared.TheConstants.{LAST_NUMBER}
+use Rattle.window_of_one.specs.Taken as asks
+use Rattle.window_of_one.specs.Applied.{applied}
+use Rattle.window_of_one.specs.Plan.{verdict_of}
+use Rattle.window_of_one.specs.Window.{window}
+use Rattle.window_of_one.specs.declared.verdict.Verdict.{Verdict}
+use Rattle.window_of_one.specs.declared.verdict.Verdict.TheVariants as verdict
+use Rattle.window_of_one.proofs.FrontLemmas.{EndsInWindow, ends_in_window, IsFront-front, take-refused, take-accepted}
+use Rattle.window_of_one.proofs.PlanLemmas.{accepts-front, applied-same, applied-front, front-with_command}
 use Rattle.desk.specs.declared.building.Building.{Building}
 use Rattle.desk.specs.declared.delivery.Delivery.{Delivery}
 use Rattle.desk.specs.declared.delivery.Delivery.TheVariants.{Command}

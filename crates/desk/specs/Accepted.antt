@@ -3,8 +3,8 @@ use Rattle.std.specs.List.{flat_map}
 use Rattle.std.specs.Str.{bytes_eq}
 use Rattle.points.specs.declared.content.Content.{Content}
 use Rattle.points.specs.declared.panel.Panel.{Panel}
-use Rattle.window.specs.declared.TheConstants.{LAST_NUMBER}
-use Rattle.window.specs.Taken as asks
+use Rattle.window_of_one.specs.declared.TheConstants.{LAST_NUMBER}
+use Rattle.window_of_one.specs.Taken as asks
 use Rattle.desk.specs.declared.building.Building.{Building}
 use Rattle.desk.specs.declared.delivery.Delivery.{Delivery}
 use Rattle.desk.specs.declared.delivery.Delivery.TheVariants.{Command}

@@ -1,5 +1,5 @@
 use Rattle.std.specs.Prelude.{List, [], ◌∷◌, ◌++◌, map}
-use Rattle.window.specs.Applied.{applied}
+use Rattle.window_of_one.specs.Applied.{applied}
 use Rattle.desk.specs.declared.building.Building.{Building}
 use Rattle.desk.specs.declared.delivery.Delivery.{Delivery}
 use Rattle.desk.specs.Accepted.{panel_of, taken_by}

@@ -2,8 +2,8 @@ use Rattle.std.specs.Prelude.{ℕ, ◌+◌, nat_lt, ◌==◌, if◌then◌else�
 use Rattle.points.specs.declared.content.Content.{Content}
 use Rattle.points.specs.declared.panel.Panel.{Panel}
 use Rattle.points.specs.ContentEq.{content_eq}
-use Rattle.window.specs.Taken.{front, content_at}
-use Rattle.window.specs.Window.{window}
+use Rattle.window_of_one.specs.Taken.{front, content_at}
+use Rattle.window_of_one.specs.Window.{window}
 use Rattle.desk.specs.declared.building.Building.{Building}
 use Rattle.desk.specs.declared.delivery.Delivery.{Delivery}
 use Rattle.desk.specs.declared.delivery.Delivery.TheVariants.{Command}

@@ -4,7 +4,7 @@ use Rattle.points.specs.declared.command_row.CommandRow.{CommandRow}
 use Rattle.points.specs.declared.command_row.CommandState.TheVariants.{Parked, Answered}
 use Rattle.points.specs.declared.content.Content.{Content}
 use Rattle.points.specs.PriorityArray.{Places}
-use Rattle.window.specs.Taken.{front, content_at}
+use Rattle.window_of_one.specs.Taken.{front, content_at}
 use Rattle.desk.specs.declared.building.Building.{Building}
 use Rattle.desk.specs.declared.delivery.Delivery.{Delivery}
 use Rattle.desk.specs.Accepted.{Text, taken_by}

@@ -1,7 +1,7 @@
 use Rattle.std.specs.Prelude.{ℕ, ℤ, Option, Some, None}
 use Rattle.points.specs.declared.command_row.CommandState.TheVariants as state
-use Rattle.window.specs.declared.verdict.Verdict.{Verdict}
-use Rattle.window.specs.declared.verdict.Verdict.TheVariants as verdict
+use Rattle.window_of_one.specs.declared.verdict.Verdict.{Verdict}
+use Rattle.window_of_one.specs.declared.verdict.Verdict.TheVariants as verdict
 use Rattle.desk.specs.declared.reply.Reply.{Reply}
 use Rattle.desk.specs.declared.reply.Reply.TheVariants as reply
 

@@ -1,8 +1,8 @@
 //! The desk over ordered maps in memory, for commands alone.
 ghost use Rattle.std.specs.Prelude.{◌≡◌, ℕ, List, [], ◌≤◌, Some, pos, option_copied, IfOk, IfSome};
 ghost use Rattle.points.specs.Rights.{point_named};
-ghost use Rattle.window.specs.declared.TheConstants.{LAST_NUMBER};
-ghost use Rattle.window.specs.Plan.{Shows};
+ghost use Rattle.window_of_one.specs.declared.TheConstants.{LAST_NUMBER};
+ghost use Rattle.window_of_one.specs.Plan.{Shows};
 ghost use Rattle.desk.specs.declared.building.Building.{Building as a_building};
 ghost use Rattle.desk.specs.declared.delivery.Delivery.{Delivery as a_delivery};
 ghost use Rattle.desk.specs.declared.delivery.Delivery.TheVariants as delivery_of;
@@ -22,7 +22,7 @@ use crate::point_state::PointState;
 use crate::reply::Reply;
 use points::{CommandState, Content, Name, Panel, find_point};
 use std::alloc::{AllocError, Global};
-use window::{LAST_NUMBER, PanelView, Verdict, plan_command};
+use window_of_one::{LAST_NUMBER, PanelView, Verdict, plan_command};
 
 /// A desk that keeps its tables in memory.
 #[derive(Drop)]

@@ -1,2 +1,3 @@
 pub mod PlacesLemmas
 pub mod ContentLemmas
+pub mod RunLemmas

@@ -6,3 +6,4 @@ pub mod Numbered
 pub mod PriorityArray
 pub mod Rights
 pub mod RuleCode
+pub mod Run

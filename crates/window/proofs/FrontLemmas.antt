@@ -1,11 +1,13 @@
 -- The front is the least missing number, and it never falls.
-use Rattle.std.proofs.Common.{◌≡◌, ◌≢◌, ℕ, suc, zero, ◌+◌, ◌<◌, ◌≤◌, ◌==◌, Bool, true, false, cond, not, ◌&&◌, max, List, [], ◌∷◌, Some, is_some, length, refl, sym, subst, arith, inl, inr, ⊎_elim, nat_lt, nat_le}
+use Rattle.std.proofs.Common.{◌≡◌, ◌≢◌, ℕ, suc, zero, ◌+◌, ◌<◌, ◌≤◌, ◌==◌, Bool, true, false, cond, not, ◌&&◌, max, List, [], ◌∷◌, Some, is_some}
+use Rattle.std.proofs.Common.{length, refl, sym, subst, arith, inl, inr, ⊎_elim, nat_lt, nat_le}
 use Rattle.std.proofs.lemmas.Bool.Decides.{nat_tests}
 use Rattle.std.proofs.lemmas.Bool.{both_ways, cases_eq, cases_lt, cases_order, cases_Bool, false≢true}
 use Rattle.points.specs.declared.content.Content.{Content}
-use Rattle.window.specs.declared.plan.NumberedContent.{NumberedContent}
-use Rattle.window.specs.Taken.{Ask, Command, Skip, Taken, taken, take, opening, content_in, content_at, is_key, missing_from, front, accepts, accepts_skip, with_command}
-use Rattle.window.specs.Front.{IsFront}
+use Rattle.window.specs.declared.numbered_content.NumberedContent.{NumberedContent}
+use Rattle.window.specs.Taken.{Ask, Command, Skip, Taken, taken, take, opening, content_in, content_at, is_key, missing_from, front, accepts}
+use Rattle.window.specs.Taken.{accepts_skip, with_command}
+use Rattle.window.specs.Laws.{IsFront}
 use Rattle.window.specs.Window.{window}
 
 -- how many entries stand at or above n
@@ -31,13 +33,15 @@ unfolding count_from
 count_from-next [] n = omega arith
 count_from-next (entry ∷ entries) n = omega (arith, at_most n entry.number, count_from-next entries n)
 
-key_below : (entry : NumberedContent) (entries : List NumberedContent) (n : ℕ) → entry.number ≢ n → is_some (content_in (entry ∷ entries) n) ≡ true → is_some (content_in entries n) ≡ true
+key_below : (entry : NumberedContent) (entries : List NumberedContent) (n : ℕ) → entry.number ≢ n
+    → is_some (content_in (entry ∷ entries) n) ≡ true → is_some (content_in entries n) ≡ true
 key_below entry entries n apart key = elim (cases_Bool (entry.number == n)) [
   | inl same ↦ absurd (apart (eqb_true entry.number n same))
   | inr other ↦ rw other at key
 ]
 
-count_from-key : (entries : List NumberedContent) (n : ℕ) → is_some (content_in entries n) ≡ true → count_from entries (n + 1) + 1 ≤ count_from entries n
+count_from-key : (entries : List NumberedContent) (n : ℕ) → is_some (content_in entries n) ≡ true
+    → count_from entries (n + 1) + 1 ≤ count_from entries n
 unfolding count_from
 count_from-key [] n key = absurd (false≢true key)
 count_from-key (entry ∷ entries) n key =
@@ -52,15 +56,19 @@ count_from-length [] n = omega arith
 count_from-length (entry ∷ entries) n = omega (arith, at_most_one (nat_le n entry.number), count_from-length entries n)
 
 -- with enough turns, what is found is missing
-missing_from-missing : (k : ℕ) (entries : List NumberedContent) (n : ℕ) → count_from entries n ≤ k → is_some (content_in entries (missing_from k entries n)) ≡ false
-missing_from-missing zero entries n h = ⊎_elim (λ key. absurd (omega (arith, count_from-key entries n key))) (λ other. other) (cases_Bool (is_some (content_in entries n)))
+missing_from-missing : (k : ℕ) (entries : List NumberedContent) (n : ℕ) → count_from entries n ≤ k
+    → is_some (content_in entries (missing_from k entries n)) ≡ false
+missing_from-missing zero entries n h =
+    ⊎_elim (λ key. absurd (omega (arith, count_from-key entries n key))) (λ other. other)
+    (cases_Bool (is_some (content_in entries n)))
 missing_from-missing (suc k) entries n h =
     elim (cases_Bool (is_some (content_in entries n))) [
       | inl key ↦ rw key (missing_from-missing k entries (n + 1) (omega (arith, count_from-key entries n key)))
       | inr other ↦ rw other other
     ]
 
-missing_from-least : (k : ℕ) (entries : List NumberedContent) (n j : ℕ) → n ≤ j → j < missing_from k entries n → is_some (content_in entries j) ≡ true
+missing_from-least : (k : ℕ) (entries : List NumberedContent) (n j : ℕ) → n ≤ j → j < missing_from k entries n
+    → is_some (content_in entries j) ≡ true
 missing_from-least zero entries n j from below = absurd (omega arith)
 missing_from-least (suc k) entries n j from below =
     elim (cases_Bool (is_some (content_in entries n))) [
@@ -169,7 +177,11 @@ pub record EndsInWindow (t : Taken) : Type 0 where
 
 key_kept : (t : Taken) (u n : ℕ) → is_key t n ≡ false → is_key (take t (Skip u)) n ≡ false
 unfolding take
-key_kept t u n none = elim (accepts_skip t u) as (λ b. is_key (cond b (record { accepted = t.accepted; upto = max t.upto u }) t) n ≡ false) [ true ↦ none | false ↦ none ]
+key_kept t u n none =
+    elim (accepts_skip t u) as (λ b. is_key (cond b (record { accepted = t.accepted; upto = max t.upto u }) t) n ≡ false) [
+      | true ↦ none
+      | false ↦ none
+    ]
 
 EndsInWindow-opening : EndsInWindow opening
 EndsInWindow-opening = record { none = λ n h. refl }

@@ -1,6 +1,6 @@
 use Rattle.std.specs.Prelude.{ℕ, zero, suc, ◌+◌, ◌-◌, List, [], ◌∷◌, Option, Some, None}
 use Rattle.points.specs.declared.content.Content.{Content}
-use Rattle.window.specs.declared.plan.NumberedContent.{NumberedContent}
+use Rattle.window.specs.declared.numbered_content.NumberedContent.{NumberedContent}
 use Rattle.window.specs.Taken.{Taken, content_at, front}
 
 -- a content under its number, before others

@@ -1,5 +1,9 @@
 pub mod Applied
-pub mod Front
+pub mod Drain
+pub mod Laws
 pub mod Plan
+pub mod RunNeeded
 pub mod Taken
+pub mod Verdict
+pub mod View
 pub mod Window

@@ -1,35 +1,21 @@
-use Rattle.std.specs.Prelude.{◌≡◌, ℕ, ◌+◌, ◌&&◌, nat_lt, ◌==◌, if◌then◌else◌, Option, Some, None, option_map}
-use Rattle.points.specs.declared.content.Content.{Content}
+use Rattle.std.specs.Prelude.{◌≡◌, ◌&&◌, nat_lt, if◌then◌else◌, Option, Some, None}
 use Rattle.points.specs.declared.command_row.CommandRow.{CommandRow}
-use Rattle.points.specs.ContentEq.{content_eq}
-use Rattle.window.specs.declared.plan.NumberedContent.{NumberedContent}
+use Rattle.window.specs.declared.numbered_content.NumberedContent.{NumberedContent}
 use Rattle.window.specs.declared.plan.Plan.{Plan}
-use Rattle.window.specs.declared.panel_view.PanelView.{PanelView}
-use Rattle.window.specs.declared.verdict.Verdict.{Verdict}
-use Rattle.window.specs.declared.verdict.Verdict.TheVariants.{Applies, Parked, Repeat, Skipped, Differs, TooFar}
 use Rattle.window.specs.Applied.{applied}
-use Rattle.window.specs.Taken.{Command, Taken, take, content_at, front, accepts}
-use Rattle.window.specs.Window.{window}
-
--- a view shows what was accepted of its panel: the front, and the row of the number asked for
-pub record Shows (view : PanelView) (t : Taken) (n : ℕ) : Type 0 where
-  pub next : view.next ≡ front t
-  pub asked : option_map (λ row. row.content) view.asked ≡ content_at t n
-
--- the verdict on a number with a content under it already, or with none
-abbrev pub verdict_of : Taken → ℕ → Content → Option CommandRow → Verdict
-verdict_of t n content (Some row) = if content_eq row.content content then Repeat row.state else Differs
-verdict_of t n content None =
-    if nat_lt n (front t) then Skipped
-    else (if n == front t then Applies else (if nat_lt n (front t + window) then Parked else TooFar))
+use Rattle.window.specs.Taken.{Ask, Command, Skip, Taken, take, front, accepts}
+use Rattle.window.specs.Verdict.{verdict_of}
 
 -- a command that is accepted past the front is parked
-abbrev pub parked_by : Taken → ℕ → Content → Option NumberedContent
-parked_by t n content = if accepts t n && nat_lt (front t) n then Some (record { number = n; content = content }) else None
+abbrev pub parked_by : Taken → Ask → Option NumberedContent
+parked_by earlier (Command number content) =
+    if accepts earlier number && nat_lt (front earlier) number then Some (record { number = number; content = content }) else None
+parked_by earlier (Skip upto) = None
 
--- what a plan says of a command
-pub record Plans (t : Taken) (n : ℕ) (content : Content) (asked : Option CommandRow) (plan : Plan) : Type 0 where
-  pub next : plan.next ≡ front (take t (Command n content))
-  pub apply : plan.apply ≡ applied t (take t (Command n content))
-  pub park : plan.park ≡ parked_by t n content
-  pub verdict : plan.verdict ≡ verdict_of t n content asked
+-- a plan says what one ask more does: the front that it leaves, the contents that are applied, the command that
+-- is parked, and the verdict
+pub record Plans (earlier : Taken) (ask : Ask) (asked : Option CommandRow) (plan : Plan) : Type 0 where
+  pub next : plan.next ≡ front (take earlier ask)
+  pub apply : plan.apply ≡ applied earlier (take earlier ask)
+  pub park : plan.park ≡ parked_by earlier ask
+  pub verdict : plan.verdict ≡ verdict_of earlier ask asked

@@ -1,6 +1,7 @@
-use Rattle.std.specs.Prelude.{ℕ, zero, suc, ◌+◌, Bool, not, ◌&&◌, nat_lt, nat_le, ◌==◌, if◌then◌else◌, max, List, [], ◌∷◌, length, Option, Some, None, is_some}
+use Rattle.std.specs.Prelude.{ℕ, zero, suc, ◌+◌, Bool, not, ◌&&◌, nat_lt, nat_le, ◌==◌, if◌then◌else◌, max, List, [], ◌∷◌, length, Option, Some, None}
+use Rattle.std.specs.Prelude.{is_some}
 use Rattle.points.specs.declared.content.Content.{Content}
-use Rattle.window.specs.declared.plan.NumberedContent.{NumberedContent}
+use Rattle.window.specs.declared.numbered_content.NumberedContent.{NumberedContent}
 use Rattle.window.specs.Window.{window}
 
 -- what a panel asks: that its command of a number is acted on, or that its missing numbers below `upto` are

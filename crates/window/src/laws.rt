@@ -1,5 +1,5 @@
 //! Laws of the numbering, each a contract of a function that does nothing.
-ghost use Rattle.window.specs.Front.{FrontIsLeastMissing, FrontNeverFalls, NoKeyPastWindow, RefusedChangesNothing};
+ghost use Rattle.window.specs.Laws.{FrontIsLeastMissing, FrontNeverFalls, NoKeyPastWindow, NoRunPastWindow, RefusedChangesNothing, SkipAppliesParkedAndGivesUpMissing};
 
 /// The front is the least number, at or above what was given up, that was not accepted.
 pub fn front_is_least_missing()
@@ -19,4 +19,14 @@ pub fn refused_changes_nothing()
 /// No command is accepted at or past the front plus the window.
 pub fn no_key_past_window()
     ensures { NoKeyPastWindow }
+{}
+
+/// A skip applies what was parked below it, and gives up exactly the missing numbers below it.
+pub fn skip_applies_parked_and_gives_up_missing()
+    ensures { SkipAppliesParkedAndGivesUpMissing }
+{}
+
+/// No view has more rows in its run than the window has numbers.
+pub fn no_run_past_window()
+    ensures { NoRunPastWindow }
 {}

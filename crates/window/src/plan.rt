@@ -1,13 +1,7 @@
-//! What is to be done for a number.
+//! What is to be done for a command or a skip.
+use crate::numbered_content::NumberedContent;
 use crate::verdict::Verdict;
-use points::{Content, Listing};
-
-/// A command's content under its number.
-#[derive(Debug, Drop)]
-pub struct NumberedContent {
-    pub number: u64,
-    pub content: Content,
-}
+use points::Listing;
 
 /// What is to be done for one command or skip.
 #[derive(Debug, Drop)]

@@ -1,49 +1,19 @@
-//! Plans for the numbers of a panel.
-ghost use Rattle.std.specs.Prelude.{◌≡◌, ◌≤◌, List, [], ◌∷◌, IfOk};
-ghost use Rattle.window.specs.Plan.{Plans, Shows, verdict_of};
-ghost use Rattle.window.specs.Taken.{Ask, Taken, opening, taken};
+//! Plans for the commands and skips of a panel.
+ghost use Rattle.std.specs.Prelude.{◌≡◌, ◌+◌, ◌≤◌, ℕ, List, [], ◌∷◌, Some, None, IfOk};
+ghost use Rattle.window.specs.Plan.{Plans};
+ghost use Rattle.window.specs.Taken.{Ask, Command, Skip, Taken, opening, taken};
+ghost use Rattle.window.specs.Verdict.{verdict_of};
+ghost use Rattle.window.specs.View.{Shows};
 ghost use Rattle.window.specs.declared.TheConstants.{LAST_NUMBER};
 
+use crate::draining::drained;
+use crate::numbered_content::NumberedContent;
 use crate::panel_view::PanelView;
-use crate::plan::{NumberedContent, Plan};
+use crate::plan::Plan;
 use crate::verdict::Verdict;
-use crate::{LAST_NUMBER, WINDOW};
+use crate::{LAST_NUMBER, REMEMBERED, WINDOW};
 use points::{Content, Listing};
 use std::alloc::{AllocError, Global};
-
-#[tactic(auto, unfolding(crate::specs::Window::window))]
-fn verdict_on(view: &PanelView, number: u64, content: &Content) -> Verdict
-    ensures { (t : Taken) → Shows view.now t number → result ≡ verdict_of t number content.now view.now.asked }
-{
-    if let Some(row) = &view.asked {
-        if row.content.is_same_as(content) {
-            return Verdict::Repeat(row.state);
-        }
-        return Verdict::Differs;
-    }
-    if number < view.next {
-        Verdict::Skipped
-    } else if number == view.next {
-        Verdict::Applies
-    } else {
-        Verdict::TooFar
-    }
-}
-
-fn one(
-    alloc: Global,
-    number: u64,
-    content: &Content,
-) -> Result<Listing<NumberedContent>, AllocError>
-    ensures { IfOk result (λ list. list ≡ record { number = number; content = content.now } ∷ []) }
-{
-    let mut contents = Vec::new(alloc);
-    contents.push(NumberedContent {
-        number,
-        content: content.clone()?,
-    })?;
-    Ok(Listing::from_vec(contents))
-}
 
 /// The plan for a command with a number from 1 to 1,000,000,000,000: whatever the panel asked before, if
 /// the view shows what was accepted of it, the plan has what the definitions give for one ask more.
@@ -54,22 +24,91 @@ pub fn plan_command(
     content: &Content,
 ) -> Result<Plan, AllocError>
     requires { number ≤ LAST_NUMBER }
-    ensures { IfOk result (λ plan. (asks : List Ask) → Shows view.now (taken opening asks) number
-        → Plans (taken opening asks) number content.now view.now.asked plan) }
+    ensures { IfOk result (λ plan. (asks : List Ask) →
+        let earlier = taken opening asks in let ask = Command number content.now in
+        Shows view.now earlier ask → Plans earlier ask view.now.asked plan) }
 {
     let verdict = verdict_on(view, number, content);
     match verdict {
-        Verdict::Applies => Ok(Plan {
-            next: number + 1,
-            apply: one(alloc, number, content)?,
-            park: None,
-            verdict,
-        }),
-        _ => Ok(Plan {
+        Verdict::Applies => {
+            let mut contents = Vec::new(alloc);
+            contents.push(numbered(number, content)?)?;
+            drained(contents, view.run.as_slice(), number + 1, verdict)
+        }
+        Verdict::Parked => Ok(Plan {
             next: view.next,
             apply: Listing::from_vec(Vec::new(alloc)),
-            park: None,
+            park: Some(numbered(number, content)?),
             verdict,
         }),
+        _ => Ok(unchanged(alloc, view.next, verdict)),
+    }
+}
+
+/// The plan for a skip with an `upto` from 1 to 1,000,000,000,001: whatever the panel asked before, if the
+/// view shows what was accepted of it, the plan has what the definitions give for one ask more.
+pub fn plan_skip(alloc: Global, view: &PanelView, upto: u64) -> Result<Plan, AllocError>
+    requires { upto ≤ LAST_NUMBER + 1 }
+    ensures { IfOk result (λ plan. (asks : List Ask) →
+        let earlier = taken opening asks in let ask = Skip upto in
+        Shows view.now earlier ask → Plans earlier ask view.now.asked plan) }
+{
+    if upto <= view.next {
+        Ok(unchanged(alloc, view.next, Verdict::SkipDone))
+    } else if upto - view.next <= WINDOW {
+        drained(
+            Vec::new(alloc),
+            view.run.as_slice(),
+            upto,
+            Verdict::SkipDone,
+        )
+    } else {
+        Ok(unchanged(alloc, view.next, Verdict::TooFar))
+    }
+}
+
+#[tactic(auto, unfolding(crate::specs::Window::window, crate::specs::Window::remembered))]
+fn verdict_on(view: &PanelView, number: u64, content: &Content) -> Verdict
+    ensures { (earlier : Taken) → let ask = Command number content.now in
+        Shows view.now earlier ask → result ≡ verdict_of earlier ask view.now.asked }
+{
+    if number < view.next.saturating_sub(REMEMBERED) {
+        return Verdict::Forgotten;
+    }
+    if let Some(row) = &view.asked {
+        if row.content.is_same_as(content) {
+            return Verdict::Repeat(row.state);
+        }
+        return Verdict::Differs;
+    }
+    if number < view.next {
+        Verdict::Skipped
+    } else if number == view.next {
+        Verdict::Applies
+    } else if number - view.next < WINDOW {
+        Verdict::Parked
+    } else {
+        Verdict::TooFar
+    }
+}
+
+fn numbered(number: u64, content: &Content) -> Result<NumberedContent, AllocError>
+    ensures { IfOk result (λ entry. entry ≡ record { number = number; content = content.now }) }
+{
+    Ok(NumberedContent {
+        number,
+        content: content.clone()?,
+    })
+}
+
+// The plan that changes nothing.
+fn unchanged(alloc: Global, next: u64, verdict: Verdict) -> Plan
+    ensures { result ≡ record { next = next; apply = []; park = None; verdict = verdict } }
+{
+    Plan {
+        next,
+        apply: Listing::from_vec(Vec::new(alloc)),
+        park: None,
+        verdict,
     }
 }

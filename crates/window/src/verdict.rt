@@ -1,7 +1,7 @@
-//! What becomes of a number.
+//! What becomes of a command or a skip.
 use points::CommandState;
 
-/// What becomes of a command's number, or of a skip.
+/// What becomes of a command, or of a skip.
 #[derive(Clone, Copy, Debug, PartialEq, Eq)]
 pub enum Verdict {
     /// It is acted on now.
@@ -18,4 +18,6 @@ pub enum Verdict {
     TooFar,
     /// A skip: the numbers below it are acted on or given up.
     SkipDone,
+    /// It lies so far below the next number that it isn't remembered what became of it.
+    Forgotten,
 }

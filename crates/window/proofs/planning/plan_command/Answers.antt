@@ -1,28 +1,53 @@
-use Rattle.std.proofs.Common.{◌≡◌, ◌∙◌, sym, ap, is_some, Option, Some, None, option_map}
-use Rattle.points.specs.declared.content.Content.{Content}
-use Rattle.points.specs.declared.command_row.CommandRow.{CommandRow}
-use Rattle.window.specs.Taken.{taken, opening}
-use Rattle.window.proofs.FrontLemmas.{ends_in_window}
-use Rattle.window.proofs.PlanLemmas.{Plans-front, Plans-refused, AtFront-applies, refused-elsewhere}
+use Rattle.std.proofs.Common.{◌∙◌, ◌+◌, [], ◌∷◌, sym, Some}
+use Rattle.std.proofs.lemmas.Result.{IfOk-weaker}
+use Rattle.window.specs.Taken.{Command, opening, taken}
+use Rattle.window.proofs.PlanLemmas.{first_pushed, Plans-drained, Plans-told, Plans-from_front, Plans-applies, Plans-parked, Plans-refused}
+use Rattle.window.proofs.VerdictLemmas.{IsRun-command, at_front-applies, waits-parked, refused-otherwise}
 use Rattle.window.proofs.planning.plan_command.Goals as goal
 
-shown_key : (asked : Option CommandRow) (held : Option Content) → option_map (λ row. row.content) asked ≡ held → is_some asked ≡ is_some held
-shown_key None held e = ap is_some e
-shown_key (Some row) held e = ap is_some e
-
-pub returns-in_ok-one-in-Applies : goal.returns-in_ok-one-in-Applies
-returns-in_ok-one-in-Applies c = λ asks shows.
+pub returns-in_ok-push-in-Applies : goal.returns-in_ok-push-in-Applies
+returns-in_ok-push-in-Applies c = IfOk-weaker c.drained.result _ _
+    (λ plan is asks shows.
     let t = taken opening asks in
-    let is = c.verdict_on-verdict.ensures t shows in
-    let at_front = AtFront-applies t c.args.number c.args.content.now c.args.view.now.asked (sym is ∙ c.in-Applies.is) in
-    let plans = Plans-front t c.args.number c.args.content.now (ends_in_window asks) at_front.same in
-    record { next = plans.next; apply = c.in_ok-one-in-Applies.ensures ∙ plans.apply; park = plans.park; verdict = is }
+    let view = c.args.view.now in
+    let number = c.args.number in
+    let content = c.args.content.now in
+    let said = c.verdict_on-verdict.ensures t shows in
+    let at_front = at_front-applies t number content view.asked (sym said ∙ c.in-Applies.is) in
+    let run = IsRun-command t number content shows.rows view.run at_front shows.run in
+    Plans-drained t (Command number content) view.asked plan (number + 1) _ (record { number = number; content = content } ∷ []) _ view.run _ is
+    (first_pushed c.new-contents.result.items _ c.in_ok-numbered-in-Applies.field-0 _
+    c.in_ok-push-in-Applies.ensures.items c.new-contents.ensures.items c.in_ok-numbered-in-Applies.ensures)
+    c.as_slice.ensures
+    (Plans-applies t number content view.asked shows.rows view.run _ shows.keeps at_front run said))
+    c.drained.ensures
+
+pub returns-in_ok-numbered-in-Parked : goal.returns-in_ok-numbered-in-Parked
+returns-in_ok-numbered-in-Parked c = λ asks shows.
+    let t = taken opening asks in
+    let view = c.args.view.now in
+    let number = c.args.number in
+    let content = c.args.content.now in
+    let said = c.verdict_on-verdict.ensures t shows in
+    let waits = waits-parked t number content shows.rows view.asked shows.keeps shows.asked (sym said ∙ c.in-Parked.is) in
+    Plans-told t (Command number content) view.asked _ _
+    (λ i. record {
+      next = shows.next i;
+      apply = (c.from_vec.ensures ∙ c.new.ensures.items) i;
+      park = Some (c.in_ok-numbered-in-Parked.ensures i);
+      verdict = c.verdict_on-verdict.result;
+    })
+    (Plans-parked t number content view.asked c.verdict_on-verdict.result waits.accepted waits.past said)
 
 pub returns-in_default : goal.returns-in_default
 returns-in_default c = λ asks shows.
     let t = taken opening asks in
-    let is = c.verdict_on-verdict.ensures t shows in
-    let shown = shown_key c.args.view.now.asked _ shows.asked in
-    let refused = refused-elsewhere t c.args.number c.args.content.now c.args.view.now.asked shown (λ e. c.in_default.not-Applies (is ∙ e)) in
-    let plans = Plans-refused t c.args.number c.args.content.now c.args.view.now.asked _ refused is in
-    record { next = shows.next ∙ plans.next; apply = (c.from_vec.ensures ∙ c.new.ensures.items) ∙ plans.apply; park = plans.park; verdict = is }
+    let view = c.args.view.now in
+    let number = c.args.number in
+    let content = c.args.content.now in
+    let said = c.verdict_on-verdict.ensures t shows in
+    let refused = refused-otherwise t number content shows.rows view.asked shows.keeps shows.asked
+    (λ e. c.in_default.not-Applies (said ∙ e)) (λ e. c.in_default.not-Parked (said ∙ e)) in
+    Plans-told t (Command number content) view.asked c.unchanged.result _ c.unchanged.ensures
+    (Plans-from_front t (Command number content) view.asked view.next _ _ _ shows.next
+    (Plans-refused t number content view.asked c.verdict_on-verdict.result refused said))

@@ -4,7 +4,7 @@ use Rattle.desk.specs.declared.building.Building.{Building}
 use Rattle.desk.specs.Accepted.{Text}
 use Rattle.desk.specs.Events.{machine}
 use Rattle.desk.specs.Tables.{tables}
-use Rattle.window.specs.Taken.{front}
+use Rattle.window_of_one.specs.Taken.{front}
 use Rattle.desk.proofs.machine.Desk.new.Goals as goal
 
 no_places : (b : Building) (q : Text) → (tables b []).places q ≡ empty

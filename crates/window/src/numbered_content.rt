@@ -1,0 +1,9 @@
+//! A command's content under its number.
+use points::Content;
+
+/// A command's content under its number.
+#[derive(Debug, Drop)]
+pub struct NumberedContent {
+    pub number: u64,
+    pub content: Content,
+}

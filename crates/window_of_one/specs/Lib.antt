@@ -1,0 +1,5 @@
+pub mod Applied
+pub mod Front
+pub mod Plan
+pub mod Taken
+pub mod Window
