@@ -15,8 +15,6 @@ mod notation;
 mod pattern;
 mod range;
 pub mod spelling;
-#[cfg(test)]
-mod tests;
 mod week_n_day;
 mod weekdays;
 mod weeks;

@@ -20,6 +20,4 @@ mod exception;
 mod laws;
 mod schedule;
 mod segments;
-#[cfg(test)]
-mod tests;
 mod time;

@@ -1,5 +1,5 @@
 //! Worked examples, and the segments against the definition computed by a plain slow program.
-use crate::{CalId, Calendar, DayList, Exception, Period, Schedule, Time, TimeValue};
+use sched::{CalId, Calendar, DayList, Exception, Period, Schedule, Time, TimeValue};
 use dates::{Day, Entry, Range};
 use listing::Listing;
 use std::alloc::{AllocError, Global};
