@@ -2,4 +2,8 @@
 #![tactic(auto)]
 
 #[cfg(test)]
-mod tests;
+mod definition;
+#[cfg(test)]
+mod fixtures;
+#[cfg(test)]
+mod worked;
