@@ -9,14 +9,11 @@ use Rattle.std.proofs.lemmas.Slice.Eq.{bytes_eq-Decides}
 use Rattle.jiff.specs.Words.{IsBetween}
 use Rattle.jiff_core.specs.declared.civil.date.Date.{Date}
 use Rattle.jiff_core.proofs.SignedLemmas.{signed_arith}
-use Rattle.dates.specs.declared.years.Years.{Years}
-use Rattle.dates.specs.declared.years.Years.TheVariants as year
+use Rattle.jiff_core.specs.declared.civil.weekday.Weekday.{Weekday}
 use Rattle.dates.specs.declared.months.Months.{Months}
 use Rattle.dates.specs.declared.months.Months.TheVariants as month
 use Rattle.dates.specs.declared.month_days.MonthDays.{MonthDays}
 use Rattle.dates.specs.declared.month_days.MonthDays.TheVariants as month_day
-use Rattle.dates.specs.declared.weekdays.Weekdays.{Weekdays}
-use Rattle.dates.specs.declared.weekdays.Weekdays.TheVariants as weekday
 use Rattle.dates.specs.declared.date_fields.DateFields.{DateFields}
 use Rattle.dates.specs.declared.pattern.Pattern.{Pattern}
 use Rattle.dates.specs.declared.range.Range.{Range}
@@ -30,7 +27,7 @@ use Rattle.dates.specs.DayOf.{day_of, day_with, passed, is_between-true, first-t
 use Rattle.dates.specs.FieldAt.{years_at, months_at, month_days_at, weekday_at, weekdays_at, weeks_at}
 use Rattle.dates.specs.IsDay.{is_day}
 use Rattle.dates.specs.IsEntry.{AreYears, AreMonths, AreMonthDays, IsPattern, IsRange, IsWeekNDay}
-use Rattle.dates.specs.OneDay.{one_year, one_month, one_month_day, one_day}
+use Rattle.dates.specs.OneDay.{one_month, one_month_day, one_day}
 use Rattle.dates.specs.RangeEnd.{IsRangeEnd}
 use Rattle.dates.specs.Reading.{date_fields_at, date_part, weekday_part, pattern_at, full_date_at, range_end_at, range_at, week_n_day_at, dates_at, reading}
 use Rattle.dates.specs.Spelling.{spelling, weekday_suffix, date_fields_text, pattern_text, day_text, range_end_text, range_text, week_n_day_text}
@@ -97,12 +94,12 @@ date_fields_at-ok text f e =
     subst P same (parts_at-some (codes "-") text parts.0 parts.1 ∙ three_same (codes "-") parts.0 _ _ _ y.0 m.0 d.0, (y.1, m.1, d.1))
 
 -- a pattern's text, by its first `/`
-pattern_parts : (text : Text) (cut : Option (Text × Text)) (w : Weekdays) → cut_at (codes "/") text ≡ cut → option_map_or (λ cut. option_map weekday.One (weekday_at cut.1)) cut (Some weekday.Any) ≡ Some w → text ≡ option_map_or (λ cut. cut.0) cut text ++ weekday_suffix w
+pattern_parts : (text : Text) (cut : Option (Text × Text)) (w : Option Weekday) → cut_at (codes "/") text ≡ cut → option_map_or (λ cut. option_map Some (weekday_at cut.1)) cut (Some None) ≡ Some w → text ≡ option_map_or (λ cut. cut.0) cut text ++ weekday_suffix w
 pattern_parts text None w is e =
-    let same : weekday.Any ≡ w = cc in
+    let same : None ≡ w = cc in
     sym (append-nil text) ∙ ap (λ w. text ++ weekday_suffix w) same
 pattern_parts text (Some cut) w is e =
-    let one = map-some weekday.One (weekday_at cut.1) w e in
+    let one = map-some Some (weekday_at cut.1) w e in
     let name = weekday_at-some cut.1 one.0 one.1 in
     cut_at-some (codes "/") text cut.0 cut.1 is ∙ ap (λ t. cut.0 ++ (codes "/" ++ t)) name
     ∙ ap (λ w. cut.0 ++ weekday_suffix w) one.2
@@ -118,10 +115,6 @@ pattern_at-ok text p e =
     let same : made ≡ p = cc in
     let P : Pattern → Type 0 = λ p. (text ≡ pattern_text p) × IsPattern p in
     subst P same (whole ∙ ap (λ t. t ++ weekday_suffix weekdays.0) fields.0, fields.1)
-
-one_year-some : (y : Years) (n : ℕ) → one_year y ≡ Some n → y ≡ year.One n
-one_year-some year.Any n e = let bad : ⊥ = cc in absurd bad
-one_year-some (year.One k) n e = let same : k ≡ n = cc in ap year.One same
 
 one_month-some : (m : Months) (n : ℕ) → one_month m ≡ Some n → m ≡ month.One n
 one_month-some month.Any n e = let bad : ⊥ = cc in absurd bad
@@ -159,11 +152,11 @@ full_date_at-ok text day e = by_test (is_some (cut_at (codes "/") text)) e
     by_test false e =
         let date = then-ok (date_fields_at text) (λ date. one_day date.years date.months date.days) day e in
         let fields = date_fields_at-ok text date.0 date.1 in
-        let y = field-ok (one_year date.0.years) fault.HalfSpecified _ day date.2 in
+        let y = field-ok date.0.years fault.HalfSpecified _ day date.2 in
         let m = field-ok (one_month date.0.months) fault.HalfSpecified _ day y.2 in
         let d = field-ok (one_month_day date.0.days) fault.HalfSpecified _ day m.2 in
         let parts = day_of-is y.0 m.0 d.0 day (ok_or-ok _ fault.Day day d.2) in
-        let years = one_year-some date.0.years y.0 y.1 ∙ ap year.One parts.0 in
+        let years = y.1 ∙ ap Some parts.0 in
         let months = one_month-some date.0.months m.0 m.1 ∙ ap month.One parts.1 in
         let days = one_month_day-some date.0.days d.0 d.1 ∙ ap month_day.One parts.2 in
         (fields.0 ∙ rw (years, months, days) refl, parts.3)

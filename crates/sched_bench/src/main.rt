@@ -2,7 +2,7 @@
 //! effect. With no word it measures nothing, and prints one line that never varies.
 #![tactic(auto)]
 
-use dates::{Day, Entry, MonthDays, Months, Pattern, Range, Weekdays, Years};
+use dates::{Day, Entry, MonthDays, Months, Pattern, Range};
 use listing::Listing;
 use sched::{DayList, Exception, Period, Schedule, Time, TimeValue};
 use std::alloc::{AllocError, Global};
@@ -44,10 +44,10 @@ fn exceptions(alloc: Global, period: Period) -> Result<Listing<Exception>, Alloc
 
 fn schedule(alloc: Global) -> Result<Schedule, AllocError> {
     let every_day = Entry::Pattern(Pattern {
-        years: Years::Any,
+        years: None,
         months: Months::Any,
         days: MonthDays::Any,
-        weekdays: Weekdays::Any,
+        weekdays: None,
     });
     Ok(Schedule {
         effective_period: Range {
