@@ -1,6 +1,6 @@
 -- `==` on entries says whether they are the same.
 use Rattle.std.proofs.Common.{◌≡◌, ◌↔◌, ℕ, Bool, true, Option, Some, None, refl, ap, subst, rules}
-use Rattle.std.specs.Cmp.{unsigned_Decides}
+use Rattle.std.specs.Cmp.{unsigned_Decides, first_so, second_so}
 use Rattle.std.specs.Option.{option_eq}
 use Rattle.std.specs.Ordering.{int_eq}
 use Rattle.std.proofs.lemmas.Bool.{false≢true}
@@ -32,7 +32,6 @@ use Rattle.dates.specs.declared.entry.Entry.{Entry}
 use Rattle.dates.specs.declared.entry.Entry.TheVariants as entry
 use Rattle.dates.specs.contracts.entry.EntryPartialEq.TheImpl as entry_eq
 use Rattle.dates.specs.contracts.entry.EntryEq.TheImpl.Laws as entry_laws
-use Rattle.dates.specs.DayOf.{first-true, second-true}
 
 abbrev years_eq : Option ℕ → Option ℕ → Bool
 years_eq a b = option_eq year_eq.ghosts.eq a b
@@ -78,12 +77,12 @@ same_weeks _ _ e = absurd (false≢true e)
 
 same_pattern : (a b : Pattern) → pattern_eq.ghosts.eq a b ≡ true → a ≡ b
 same_pattern a b e =
-    let years = same_years a.years b.years (first-true (years_eq a.years b.years) _ e) in
-    let later = second-true (years_eq a.years b.years) _ e in
-    let months = same_months a.months b.months (first-true (months_eq.ghosts.eq a.months b.months) _ later) in
-    let rest = second-true (months_eq.ghosts.eq a.months b.months) _ later in
-    let days = same_month_days a.days b.days (first-true (month_days_eq.ghosts.eq a.days b.days) _ rest) in
-    let weekdays = same_weekdays a.weekdays b.weekdays (second-true (month_days_eq.ghosts.eq a.days b.days) _ rest) in
+    let years = same_years a.years b.years (first_so (years_eq a.years b.years) _ e) in
+    let later = second_so (years_eq a.years b.years) _ e in
+    let months = same_months a.months b.months (first_so (months_eq.ghosts.eq a.months b.months) _ later) in
+    let rest = second_so (months_eq.ghosts.eq a.months b.months) _ later in
+    let days = same_month_days a.days b.days (first_so (month_days_eq.ghosts.eq a.days b.days) _ rest) in
+    let weekdays = same_weekdays a.weekdays b.weekdays (second_so (month_days_eq.ghosts.eq a.days b.days) _ rest) in
     λ i. record { years = years i; months = months i; days = days i; weekdays = weekdays i }
 
 abbrev day_eq : Date → Date → Bool
@@ -97,16 +96,16 @@ same_end (Some a) None e = absurd (false≢true e)
 
 same_range : (a b : Range) → range_eq.ghosts.eq a b ≡ true → a ≡ b
 same_range a b e =
-    let start = same_end a.start b.start (first-true (option_eq day_eq a.start b.start) _ e) in
-    let end = same_end a.end b.end (second-true (option_eq day_eq a.start b.start) _ e) in
+    let start = same_end a.start b.start (first_so (option_eq day_eq a.start b.start) _ e) in
+    let end = same_end a.end b.end (second_so (option_eq day_eq a.start b.start) _ e) in
     λ i. record { start = start i; end = end i }
 
 same_week_n_day : (a b : WeekNDay) → week_n_day_eq.ghosts.eq a b ≡ true → a ≡ b
 same_week_n_day a b e =
-    let months = same_months a.months b.months (first-true (months_eq.ghosts.eq a.months b.months) _ e) in
-    let later = second-true (months_eq.ghosts.eq a.months b.months) _ e in
-    let weeks = same_weeks a.weeks b.weeks (first-true (weeks_eq a.weeks b.weeks) _ later) in
-    let weekdays = same_weekdays a.weekdays b.weekdays (second-true (weeks_eq a.weeks b.weeks) _ later) in
+    let months = same_months a.months b.months (first_so (months_eq.ghosts.eq a.months b.months) _ e) in
+    let later = second_so (months_eq.ghosts.eq a.months b.months) _ e in
+    let weeks = same_weeks a.weeks b.weeks (first_so (weeks_eq a.weeks b.weeks) _ later) in
+    let weekdays = same_weekdays a.weekdays b.weekdays (second_so (weeks_eq a.weeks b.weeks) _ later) in
     λ i. record { months = months i; weeks = weeks i; weekdays = weekdays i }
 
 same_entry : (a b : Entry) → entry_eq.ghosts.eq a b ≡ true → a ≡ b

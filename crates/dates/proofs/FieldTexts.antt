@@ -32,7 +32,8 @@ map-some f None y e = let bad : ⊥ = cc in absurd bad
 map-some f (Some x) y e = let same : f x ≡ y = cc in (x, refl, same)
 
 -- a test of the text, and what follows where it fails
-pub choice : {A : Type 0} (P : A → Type 0) (text word : Text) (v y : A) (rest : Option A) → cond (bytes_eq text word) (Some v) rest ≡ Some y → (text ≡ word → P v) → (rest ≡ Some y → P y) → P y
+pub choice : {A : Type 0} (P : A → Type 0) (text word : Text) (v y : A) (rest : Option A)
+    → cond (bytes_eq text word) (Some v) rest ≡ Some y → (text ≡ word → P v) → (rest ≡ Some y → P y) → P y
 choice {A = A} P text word v y rest e yes_so no_so = by_test (bytes_eq text word) refl e
   where
     by_test : (test : Bool) → bytes_eq text word ≡ test → cond test (Some v) rest ≡ Some y → P y

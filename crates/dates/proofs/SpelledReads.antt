@@ -142,7 +142,8 @@ unfolding parts_at
 parts_at-text c x y z hx hy hz =
     rw (cut_at-lacking c [] x (y ++ (c ∷ z)) hx, cut_at-lacking c [] y z hy, cut_at-absent c [] z hz) refl
 
-pub date_fields_at-text : (y : Option ℕ) (m : Months) (d : MonthDays) → AreYears y → AreMonths m → AreMonthDays d → date_fields_at (date_fields_text y m d) ≡ Ok (record { years = y; months = m; days = d })
+pub date_fields_at-text : (y : Option ℕ) (m : Months) (d : MonthDays) → AreYears y → AreMonths m → AreMonthDays d
+    → date_fields_at (date_fields_text y m d) ≡ Ok (record { years = y; months = m; days = d })
 unfolding date_fields_at
 date_fields_at-text y m d hy hm hd =
     rw (
@@ -152,7 +153,8 @@ date_fields_at-text y m d hy hm hd =
       month_days_at-text d hd,
     ) refl
 
-pattern_at-fields : (y : Option ℕ) (m : Months) (d : MonthDays) (w : Option Weekday) → AreYears y → AreMonths m → AreMonthDays d → pattern_at (date_fields_text y m d ++ weekday_suffix w) ≡ Ok (record { years = y; months = m; days = d; weekdays = w })
+pattern_at-fields : (y : Option ℕ) (m : Months) (d : MonthDays) (w : Option Weekday) → AreYears y → AreMonths m → AreMonthDays d
+    → pattern_at (date_fields_text y m d ++ weekday_suffix w) ≡ Ok (record { years = y; months = m; days = d; weekdays = w })
 unfolding pattern_at date_part weekday_part
 pattern_at-fields y m d None hy hm hd =
     let text = date_fields_text y m d in
@@ -203,7 +205,8 @@ lacks_dot-end None = refl
 lacks_dot-end (Some day) =
     lacks-date_fields 46 dot (omega arith) (Some (unsigned_abs day.year)) (month.One day.month) (month_day.One day.day)
 
-week_n_day_at-fields : (m : Months) (k : Option Week) (w : Option Weekday) → AreMonths m → week_n_day_at (months_text m ++ (58 ∷ (weeks_text k ++ (58 ∷ weekdays_text w)))) ≡ Ok (record { months = m; weeks = k; weekdays = w })
+week_n_day_at-fields : (m : Months) (k : Option Week) (w : Option Weekday) → AreMonths m
+    → week_n_day_at (months_text m ++ (58 ∷ (weeks_text k ++ (58 ∷ weekdays_text w)))) ≡ Ok (record { months = m; weeks = k; weekdays = w })
 unfolding week_n_day_at
 week_n_day_at-fields m k w h =
     rw (
