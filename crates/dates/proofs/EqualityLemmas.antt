@@ -1,33 +1,27 @@
 -- `==` on entries says whether they are the same.
-use Rattle.std.proofs.Common.{◌≡◌, ◌↔◌, Bool, true, Option, Some, None, refl, ap, subst, rules}
-use Rattle.std.specs.Cmp.{unsigned_Decides}
+use Rattle.std.proofs.Common.{◌≡◌, ◌↔◌, ℕ, Bool, true, Option, Some, None, refl, ap, subst, rules}
+use Rattle.std.specs.Cmp.{unsigned_Decides, first_so, second_so}
 use Rattle.std.specs.Option.{option_eq}
 use Rattle.std.specs.Ordering.{int_eq}
 use Rattle.std.proofs.lemmas.Bool.{false≢true}
 use Rattle.std.proofs.lemmas.Bool.Decides.{Decides-int_eq}
 use Rattle.jiff_core.specs.declared.civil.date.Date.{Date}
+use Rattle.jiff_core.specs.declared.civil.weekday.Weekday.{Weekday}
 use Rattle.jiff.specs.Words.{epoch_day}
 use Rattle.jiff.proofs.Family.{same_date}
 use Rattle.jiff_core.specs.contracts.civil.weekday.Weekday as weekday_type
 use denote.Enum.Bare.{same_true}
-use Rattle.dates.specs.declared.years.Years.{Years}
-use Rattle.dates.specs.declared.years.Years.TheVariants as year
-use Rattle.dates.specs.contracts.years.YearsPartialEq.TheImpl as years_eq
+use Rattle.dates.specs.contracts.year.YearPartialEq.TheImpl as year_eq
 use Rattle.dates.specs.declared.months.Months.{Months}
 use Rattle.dates.specs.declared.months.Months.TheVariants as month
 use Rattle.dates.specs.contracts.months.MonthsPartialEq.TheImpl as months_eq
 use Rattle.dates.specs.declared.month_days.MonthDays.{MonthDays}
 use Rattle.dates.specs.declared.month_days.MonthDays.TheVariants as month_day
 use Rattle.dates.specs.contracts.month_days.MonthDaysPartialEq.TheImpl as month_days_eq
-use Rattle.dates.specs.declared.weekdays.Weekdays.{Weekdays}
-use Rattle.dates.specs.declared.weekdays.Weekdays.TheVariants as weekday
-use Rattle.dates.specs.contracts.weekdays.WeekdaysPartialEq.TheImpl as weekdays_eq
-use Rattle.dates.specs.declared.weeks.Week.{Week}
-use Rattle.dates.specs.contracts.weeks.Week as week_type
-use Rattle.dates.specs.declared.weeks.Weeks.{Weeks}
-use Rattle.dates.specs.declared.weeks.Weeks.TheVariants as week
-use Rattle.dates.specs.contracts.weeks.WeekPartialEq.TheImpl as week_eq
-use Rattle.dates.specs.contracts.weeks.WeeksPartialEq.TheImpl as weeks_eq
+use Rattle.jiff_core.specs.contracts.civil.weekday.WeekdayPartialEq.TheImpl as weekday_eq
+use Rattle.dates.specs.declared.week.Week.{Week}
+use Rattle.dates.specs.contracts.week.Week as week_type
+use Rattle.dates.specs.contracts.week.WeekPartialEq.TheImpl as week_eq
 use Rattle.dates.specs.declared.pattern.Pattern.{Pattern}
 use Rattle.dates.specs.contracts.pattern.PatternPartialEq.TheImpl as pattern_eq
 use Rattle.dates.specs.declared.range.Range.{Range}
@@ -38,11 +32,19 @@ use Rattle.dates.specs.declared.entry.Entry.{Entry}
 use Rattle.dates.specs.declared.entry.Entry.TheVariants as entry
 use Rattle.dates.specs.contracts.entry.EntryPartialEq.TheImpl as entry_eq
 use Rattle.dates.specs.contracts.entry.EntryEq.TheImpl.Laws as entry_laws
-use Rattle.dates.specs.DayOf.{first-true, second-true}
 
-same_years : (a b : Years) → years_eq.ghosts.eq a b ≡ true → a ≡ b
-same_years year.Any year.Any e = refl
-same_years (year.One m) (year.One n) e = ap year.One ((unsigned_Decides m n).0 e)
+abbrev years_eq : Option ℕ → Option ℕ → Bool
+years_eq a b = option_eq year_eq.ghosts.eq a b
+
+abbrev weekdays_eq : Option Weekday → Option Weekday → Bool
+weekdays_eq a b = option_eq weekday_eq.ghosts.eq a b
+
+abbrev weeks_eq : Option Week → Option Week → Bool
+weeks_eq a b = option_eq week_eq.ghosts.eq a b
+
+same_years : (a b : Option ℕ) → years_eq a b ≡ true → a ≡ b
+same_years None None e = refl
+same_years (Some m) (Some n) e = ap Some ((unsigned_Decides m n).0 e)
 same_years _ _ e = absurd (false≢true e)
 
 same_months : (a b : Months) → months_eq.ghosts.eq a b ≡ true → a ≡ b
@@ -60,27 +62,27 @@ same_month_days month_day.Even month_day.Even e = refl
 same_month_days (month_day.One m) (month_day.One n) e = ap month_day.One ((unsigned_Decides m n).0 e)
 same_month_days _ _ e = absurd (false≢true e)
 
-same_weekdays : (a b : Weekdays) → weekdays_eq.ghosts.eq a b ≡ true → a ≡ b
-same_weekdays weekday.Any weekday.Any e = refl
-same_weekdays (weekday.One v) (weekday.One w) e = ap weekday.One (same_true weekday_type.the_type (search rules) v w e)
+same_weekdays : (a b : Option Weekday) → weekdays_eq a b ≡ true → a ≡ b
+same_weekdays None None e = refl
+same_weekdays (Some v) (Some w) e = ap Some (same_true weekday_type.the_type (search rules) v w e)
 same_weekdays _ _ e = absurd (false≢true e)
 
 same_week : (a b : Week) → week_eq.ghosts.eq a b ≡ true → a ≡ b
 same_week a b e = same_true week_type.the_type (search rules) a b e
 
-same_weeks : (a b : Weeks) → weeks_eq.ghosts.eq a b ≡ true → a ≡ b
-same_weeks week.Any week.Any e = refl
-same_weeks (week.One v) (week.One w) e = ap week.One (same_week v w e)
+same_weeks : (a b : Option Week) → weeks_eq a b ≡ true → a ≡ b
+same_weeks None None e = refl
+same_weeks (Some v) (Some w) e = ap Some (same_week v w e)
 same_weeks _ _ e = absurd (false≢true e)
 
 same_pattern : (a b : Pattern) → pattern_eq.ghosts.eq a b ≡ true → a ≡ b
 same_pattern a b e =
-    let years = same_years a.years b.years (first-true (years_eq.ghosts.eq a.years b.years) _ e) in
-    let later = second-true (years_eq.ghosts.eq a.years b.years) _ e in
-    let months = same_months a.months b.months (first-true (months_eq.ghosts.eq a.months b.months) _ later) in
-    let rest = second-true (months_eq.ghosts.eq a.months b.months) _ later in
-    let days = same_month_days a.days b.days (first-true (month_days_eq.ghosts.eq a.days b.days) _ rest) in
-    let weekdays = same_weekdays a.weekdays b.weekdays (second-true (month_days_eq.ghosts.eq a.days b.days) _ rest) in
+    let years = same_years a.years b.years (first_so (years_eq a.years b.years) _ e) in
+    let later = second_so (years_eq a.years b.years) _ e in
+    let months = same_months a.months b.months (first_so (months_eq.ghosts.eq a.months b.months) _ later) in
+    let rest = second_so (months_eq.ghosts.eq a.months b.months) _ later in
+    let days = same_month_days a.days b.days (first_so (month_days_eq.ghosts.eq a.days b.days) _ rest) in
+    let weekdays = same_weekdays a.weekdays b.weekdays (second_so (month_days_eq.ghosts.eq a.days b.days) _ rest) in
     λ i. record { years = years i; months = months i; days = days i; weekdays = weekdays i }
 
 abbrev day_eq : Date → Date → Bool
@@ -94,16 +96,16 @@ same_end (Some a) None e = absurd (false≢true e)
 
 same_range : (a b : Range) → range_eq.ghosts.eq a b ≡ true → a ≡ b
 same_range a b e =
-    let start = same_end a.start b.start (first-true (option_eq day_eq a.start b.start) _ e) in
-    let end = same_end a.end b.end (second-true (option_eq day_eq a.start b.start) _ e) in
+    let start = same_end a.start b.start (first_so (option_eq day_eq a.start b.start) _ e) in
+    let end = same_end a.end b.end (second_so (option_eq day_eq a.start b.start) _ e) in
     λ i. record { start = start i; end = end i }
 
 same_week_n_day : (a b : WeekNDay) → week_n_day_eq.ghosts.eq a b ≡ true → a ≡ b
 same_week_n_day a b e =
-    let months = same_months a.months b.months (first-true (months_eq.ghosts.eq a.months b.months) _ e) in
-    let later = second-true (months_eq.ghosts.eq a.months b.months) _ e in
-    let weeks = same_weeks a.weeks b.weeks (first-true (weeks_eq.ghosts.eq a.weeks b.weeks) _ later) in
-    let weekdays = same_weekdays a.weekdays b.weekdays (second-true (weeks_eq.ghosts.eq a.weeks b.weeks) _ later) in
+    let months = same_months a.months b.months (first_so (months_eq.ghosts.eq a.months b.months) _ e) in
+    let later = second_so (months_eq.ghosts.eq a.months b.months) _ e in
+    let weeks = same_weeks a.weeks b.weeks (first_so (weeks_eq a.weeks b.weeks) _ later) in
+    let weekdays = same_weekdays a.weekdays b.weekdays (second_so (weeks_eq a.weeks b.weeks) _ later) in
     λ i. record { months = months i; weeks = weeks i; weekdays = weekdays i }
 
 same_entry : (a b : Entry) → entry_eq.ghosts.eq a b ≡ true → a ≡ b

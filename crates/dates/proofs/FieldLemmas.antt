@@ -1,22 +1,17 @@
 -- The text of a field reads as that field, and what reads as a field is its text.
-use Rattle.std.proofs.Common.{◌≡◌, ◌≢◌, ℕ, ◌+◌, ◌*◌, ◌/◌, ◌%◌, ◌<◌, Bool, true, false, length, codes, Some, refl, ap, arith}
+use Rattle.std.proofs.Common.{◌≡◌, ◌≢◌, ℕ, ◌+◌, ◌*◌, ◌/◌, ◌%◌, ◌<◌, Bool, true, false, length, codes, Option, Some, None, refl, ap, arith}
 use Rattle.std.specs.Int.{IsInRange}
 use Rattle.std.specs.Str.{bytes_eq}
 use Rattle.std.proofs.lemmas.Bool.Decides.{nat_tests}
 use Rattle.std.proofs.lemmas.Slice.Eq.{bytes_eq-Decides}
 use Rattle.jiff_core.specs.declared.civil.weekday.Weekday.{Weekday}
 use Rattle.jiff_core.specs.declared.civil.weekday.Weekday.TheVariants.{Monday, Tuesday, Wednesday, Thursday, Friday, Saturday, Sunday}
-use Rattle.dates.specs.declared.years.Years.{Years}
-use Rattle.dates.specs.declared.years.Years.TheVariants as year
 use Rattle.dates.specs.declared.months.Months.{Months}
 use Rattle.dates.specs.declared.months.Months.TheVariants as month
 use Rattle.dates.specs.declared.month_days.MonthDays.{MonthDays}
 use Rattle.dates.specs.declared.month_days.MonthDays.TheVariants as month_day
-use Rattle.dates.specs.declared.weekdays.Weekdays.{Weekdays}
-use Rattle.dates.specs.declared.weekdays.Weekdays.TheVariants as weekday
-use Rattle.dates.specs.declared.weeks.Week.TheVariants.{First, Second, Third, Fourth, Fifth, Last, SecondLast, ThirdLast, FourthLast}
-use Rattle.dates.specs.declared.weeks.Weeks.{Weeks}
-use Rattle.dates.specs.declared.weeks.Weeks.TheVariants as week
+use Rattle.dates.specs.declared.week.Week.{Week}
+use Rattle.dates.specs.declared.week.Week.TheVariants.{First, Second, Third, Fourth, Fifth, Last, SecondLast, ThirdLast, FourthLast}
 use Rattle.dates.specs.Between.{between}
 use Rattle.dates.specs.CutAt.{Text}
 use Rattle.dates.specs.FieldAt.{digit_at, two_digits, four_digits, years_at, months_at, month_days_at, weekday_at, weekdays_at, week_at, weeks_at}
@@ -58,10 +53,10 @@ bytes_eq-length xs ys apart = by_test (bytes_eq xs ys) refl
     by_test true e = absurd (apart (ap length ((bytes_eq-Decides xs ys).0 e)))
     by_test false e = e
 
-pub years_at-text : (y : Years) → AreYears y → years_at (years_text y) ≡ Some y
+pub years_at-text : (y : Option ℕ) → AreYears y → years_at (years_text y) ≡ Some y
 unfolding years_at
-years_at-text year.Any h = refl
-years_at-text (year.One n) h =
+years_at-text None h = refl
+years_at-text (Some n) h =
     rw (bytes_eq-length (four_digit_text n) (codes "*") (omega arith), four_digits-text n (omega arith), between-some 1900 2154 n h) refl
 
 pub months_at-text : (m : Months) → AreMonths m → months_at (months_text m) ≡ Some m
@@ -104,26 +99,26 @@ weekday_at-text Friday = refl
 weekday_at-text Saturday = refl
 weekday_at-text Sunday = refl
 
-pub weekdays_at-text : (w : Weekdays) → weekdays_at (weekdays_text w) ≡ Some w
+pub weekdays_at-text : (w : Option Weekday) → weekdays_at (weekdays_text w) ≡ Some w
 unfolding weekdays_at weekday_at
-weekdays_at-text weekday.Any = refl
-weekdays_at-text (weekday.One Monday) = refl
-weekdays_at-text (weekday.One Tuesday) = refl
-weekdays_at-text (weekday.One Wednesday) = refl
-weekdays_at-text (weekday.One Thursday) = refl
-weekdays_at-text (weekday.One Friday) = refl
-weekdays_at-text (weekday.One Saturday) = refl
-weekdays_at-text (weekday.One Sunday) = refl
+weekdays_at-text None = refl
+weekdays_at-text (Some Monday) = refl
+weekdays_at-text (Some Tuesday) = refl
+weekdays_at-text (Some Wednesday) = refl
+weekdays_at-text (Some Thursday) = refl
+weekdays_at-text (Some Friday) = refl
+weekdays_at-text (Some Saturday) = refl
+weekdays_at-text (Some Sunday) = refl
 
-pub weeks_at-text : (w : Weeks) → weeks_at (weeks_text w) ≡ Some w
+pub weeks_at-text : (w : Option Week) → weeks_at (weeks_text w) ≡ Some w
 unfolding weeks_at week_at
-weeks_at-text week.Any = refl
-weeks_at-text (week.One First) = refl
-weeks_at-text (week.One Second) = refl
-weeks_at-text (week.One Third) = refl
-weeks_at-text (week.One Fourth) = refl
-weeks_at-text (week.One Fifth) = refl
-weeks_at-text (week.One Last) = refl
-weeks_at-text (week.One SecondLast) = refl
-weeks_at-text (week.One ThirdLast) = refl
-weeks_at-text (week.One FourthLast) = refl
+weeks_at-text None = refl
+weeks_at-text (Some First) = refl
+weeks_at-text (Some Second) = refl
+weeks_at-text (Some Third) = refl
+weeks_at-text (Some Fourth) = refl
+weeks_at-text (Some Fifth) = refl
+weeks_at-text (Some Last) = refl
+weeks_at-text (Some SecondLast) = refl
+weeks_at-text (Some ThirdLast) = refl
+weeks_at-text (Some FourthLast) = refl

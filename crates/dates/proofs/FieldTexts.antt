@@ -7,18 +7,12 @@ use Rattle.std.proofs.lemmas.Bool.Decides.{nat_tests}
 use Rattle.std.proofs.lemmas.Slice.Eq.{bytes_eq-Decides}
 use Rattle.jiff_core.specs.declared.civil.weekday.Weekday.{Weekday}
 use Rattle.jiff_core.specs.declared.civil.weekday.Weekday.TheVariants.{Monday, Tuesday, Wednesday, Thursday, Friday, Saturday, Sunday}
-use Rattle.dates.specs.declared.years.Years.{Years}
-use Rattle.dates.specs.declared.years.Years.TheVariants as year
 use Rattle.dates.specs.declared.months.Months.{Months}
 use Rattle.dates.specs.declared.months.Months.TheVariants as month
 use Rattle.dates.specs.declared.month_days.MonthDays.{MonthDays}
 use Rattle.dates.specs.declared.month_days.MonthDays.TheVariants as month_day
-use Rattle.dates.specs.declared.weekdays.Weekdays.{Weekdays}
-use Rattle.dates.specs.declared.weekdays.Weekdays.TheVariants as weekday
-use Rattle.dates.specs.declared.weeks.Week.{Week}
-use Rattle.dates.specs.declared.weeks.Week.TheVariants.{First, Second, Third, Fourth, Fifth, Last, SecondLast, ThirdLast, FourthLast}
-use Rattle.dates.specs.declared.weeks.Weeks.{Weeks}
-use Rattle.dates.specs.declared.weeks.Weeks.TheVariants as week
+use Rattle.dates.specs.declared.week.Week.{Week}
+use Rattle.dates.specs.declared.week.Week.TheVariants.{First, Second, Third, Fourth, Fifth, Last, SecondLast, ThirdLast, FourthLast}
 use Rattle.dates.specs.Between.{is_between, between}
 use Rattle.dates.specs.CutAt.{Text}
 use Rattle.dates.specs.DayOf.{is_between-true}
@@ -38,7 +32,8 @@ map-some f None y e = let bad : ⊥ = cc in absurd bad
 map-some f (Some x) y e = let same : f x ≡ y = cc in (x, refl, same)
 
 -- a test of the text, and what follows where it fails
-pub choice : {A : Type 0} (P : A → Type 0) (text word : Text) (v y : A) (rest : Option A) → cond (bytes_eq text word) (Some v) rest ≡ Some y → (text ≡ word → P v) → (rest ≡ Some y → P y) → P y
+pub choice : {A : Type 0} (P : A → Type 0) (text word : Text) (v y : A) (rest : Option A)
+    → cond (bytes_eq text word) (Some v) rest ≡ Some y → (text ≡ word → P v) → (rest ≡ Some y → P y) → P y
 choice {A = A} P text word v y rest e yes_so no_so = by_test (bytes_eq text word) refl e
   where
     by_test : (test : Bool) → bytes_eq text word ≡ test → cond test (Some v) rest ≡ Some y → P y
@@ -116,12 +111,12 @@ four_digits-some (a ∷ b ∷ c ∷ d ∷ x ∷ rest) n e =
 
 -- ---- from a text to its field
 
-pub years_at-some : (text : Text) (y : Years) → years_at text ≡ Some y → (text ≡ years_text y) × AreYears y
+pub years_at-some : (text : Text) (y : Option ℕ) → years_at text ≡ Some y → (text ≡ years_text y) × AreYears y
 unfolding years_at
 years_at-some text y e =
-    let P : Years → Type 0 = λ y. (text ≡ years_text y) × AreYears y in
-    choice P text (codes "*") year.Any y _ e (λ is. (is, tt))
-    (λ e. let one = map-some year.One _ y e in
+    let P : Option ℕ → Type 0 = λ y. (text ≡ years_text y) × AreYears y in
+    choice P text (codes "*") None y _ e (λ is. (is, tt))
+    (λ e. let one = map-some Some _ y e in
     let digits = and_then-some (between 1900 2154) (four_digits text) one.0 one.1 in
     let range = between-in 1900 2154 digits.0 one.0 digits.2 in
     let is = four_digits-some text digits.0 digits.1 in
@@ -167,12 +162,12 @@ weekday_at-some text w e =
     (λ e. choice P text (codes "sun") Sunday w _ e (λ is. is)
     (λ e. let bad : ⊥ = cc in absurd bad)))))))
 
-pub weekdays_at-some : (text : Text) (w : Weekdays) → weekdays_at text ≡ Some w → text ≡ weekdays_text w
+pub weekdays_at-some : (text : Text) (w : Option Weekday) → weekdays_at text ≡ Some w → text ≡ weekdays_text w
 unfolding weekdays_at
 weekdays_at-some text w e =
-    let P : Weekdays → Type 0 = λ w. text ≡ weekdays_text w in
-    choice P text (codes "*") weekday.Any w _ e (λ is. is)
-    (λ e. let one = map-some weekday.One (weekday_at text) w e in
+    let P : Option Weekday → Type 0 = λ w. text ≡ weekdays_text w in
+    choice P text (codes "*") None w _ e (λ is. is)
+    (λ e. let one = map-some Some (weekday_at text) w e in
     subst P one.2 (weekday_at-some text one.0 one.1))
 
 week_at-some : (text : Text) (w : Week) → week_at text ≡ Some w → text ≡ week_text w
@@ -190,9 +185,9 @@ week_at-some text w e =
     (λ e. choice P text (codes "9") FourthLast w _ e (λ is. is)
     (λ e. let bad : ⊥ = cc in absurd bad)))))))))
 
-pub weeks_at-some : (text : Text) (w : Weeks) → weeks_at text ≡ Some w → text ≡ weeks_text w
+pub weeks_at-some : (text : Text) (w : Option Week) → weeks_at text ≡ Some w → text ≡ weeks_text w
 unfolding weeks_at
 weeks_at-some text w e =
-    let P : Weeks → Type 0 = λ w. text ≡ weeks_text w in
-    choice P text (codes "*") week.Any w _ e (λ is. is)
-    (λ e. let one = map-some week.One (week_at text) w e in subst P one.2 (week_at-some text one.0 one.1))
+    let P : Option Week → Type 0 = λ w. text ≡ weeks_text w in
+    choice P text (codes "*") None w _ e (λ is. is)
+    (λ e. let one = map-some Some (week_at text) w e in subst P one.2 (week_at-some text one.0 one.1))

@@ -1,5 +1,6 @@
 -- What reads as an entry is the spelling of that entry.
 use Rattle.std.proofs.Common.{◌≡◌, ℕ, Bool, true, false, cond, ◌++◌, length, drop, nat_eq, codes, Option, Some, None, option_map, is_some, pos, unsigned_abs, refl, sym, ap, ap₂, ◌∙◌, subst, arith}
+use Rattle.std.specs.Cmp.{first_so}
 use Rattle.std.specs.Prelude.{Result, Ok, Err}
 use Rattle.std.specs.Option.{ok_or, option_map_or}
 use Rattle.std.specs.List.{starts_with}
@@ -9,14 +10,11 @@ use Rattle.std.proofs.lemmas.Slice.Eq.{bytes_eq-Decides}
 use Rattle.jiff.specs.Words.{IsBetween}
 use Rattle.jiff_core.specs.declared.civil.date.Date.{Date}
 use Rattle.jiff_core.proofs.SignedLemmas.{signed_arith}
-use Rattle.dates.specs.declared.years.Years.{Years}
-use Rattle.dates.specs.declared.years.Years.TheVariants as year
+use Rattle.jiff_core.specs.declared.civil.weekday.Weekday.{Weekday}
 use Rattle.dates.specs.declared.months.Months.{Months}
 use Rattle.dates.specs.declared.months.Months.TheVariants as month
 use Rattle.dates.specs.declared.month_days.MonthDays.{MonthDays}
 use Rattle.dates.specs.declared.month_days.MonthDays.TheVariants as month_day
-use Rattle.dates.specs.declared.weekdays.Weekdays.{Weekdays}
-use Rattle.dates.specs.declared.weekdays.Weekdays.TheVariants as weekday
 use Rattle.dates.specs.declared.date_fields.DateFields.{DateFields}
 use Rattle.dates.specs.declared.pattern.Pattern.{Pattern}
 use Rattle.dates.specs.declared.range.Range.{Range}
@@ -26,11 +24,11 @@ use Rattle.dates.specs.declared.entry.Entry.TheVariants as entry
 use Rattle.dates.specs.declared.entry_fault.EntryFault.{EntryFault}
 use Rattle.dates.specs.declared.entry_fault.EntryFault.TheVariants as fault
 use Rattle.dates.specs.CutAt.{Text, cut_at, without_prefix, parts_at}
-use Rattle.dates.specs.DayOf.{day_of, day_with, passed, is_between-true, first-true}
+use Rattle.dates.specs.DayOf.{day_of, day_with, passed, is_between-true}
 use Rattle.dates.specs.FieldAt.{years_at, months_at, month_days_at, weekday_at, weekdays_at, weeks_at}
 use Rattle.dates.specs.IsDay.{is_day}
 use Rattle.dates.specs.IsEntry.{AreYears, AreMonths, AreMonthDays, IsPattern, IsRange, IsWeekNDay}
-use Rattle.dates.specs.OneDay.{one_year, one_month, one_month_day, one_day}
+use Rattle.dates.specs.OneDay.{one_month, one_month_day, one_day}
 use Rattle.dates.specs.RangeEnd.{IsRangeEnd}
 use Rattle.dates.specs.Reading.{date_fields_at, date_part, weekday_part, pattern_at, full_date_at, range_end_at, range_at, week_n_day_at, dates_at, reading}
 use Rattle.dates.specs.Spelling.{spelling, weekday_suffix, date_fields_text, pattern_text, day_text, range_end_text, range_text, week_n_day_text}
@@ -50,7 +48,8 @@ ok_or-ok None fault x e = let bad : ⊥ = cc in absurd bad
 ok_or-ok (Some y) fault x e = let same : y ≡ x = cc in ap Some same
 
 -- a step of a field
-field-ok : {A B : Type 0} (o : Option A) (fault : EntryFault) (f : A → Result B EntryFault) (y : B) → (ok_or o fault >>= f) ≡ Ok y → (x : A) × (o ≡ Some x) × (f x ≡ Ok y)
+field-ok : {A B : Type 0} (o : Option A) (fault : EntryFault) (f : A → Result B EntryFault) (y : B) → (ok_or o fault >>= f) ≡ Ok y
+    → (x : A) × (o ≡ Some x) × (f x ≡ Ok y)
 field-ok o fault f y e =
     let step = then-ok (ok_or o fault) f y e in
     (step.0, ok_or-ok o fault step.0 step.1, step.2)
@@ -60,7 +59,8 @@ field-ok o fault f y e =
 abbrev three_of : Text → Text × Text × Text → Text
 three_of mark p = p.0 ++ (mark ++ (p.1 ++ (mark ++ p.2)))
 
-last_part : (mark : Text) (test : Bool) (p q : Text × Text × Text) → cond {A = Option (Text × Text × Text)} test None (Some p) ≡ Some q → three_of mark p ≡ three_of mark q
+last_part : (mark : Text) (test : Bool) (p q : Text × Text × Text)
+    → cond {A = Option (Text × Text × Text)} test None (Some p) ≡ Some q → three_of mark p ≡ three_of mark q
 last_part mark true p q e = let bad : ⊥ = cc in absurd bad
 last_part mark false p q e = let same : p ≡ q = cc in ap (three_of mark) same
 
@@ -97,12 +97,14 @@ date_fields_at-ok text f e =
     subst P same (parts_at-some (codes "-") text parts.0 parts.1 ∙ three_same (codes "-") parts.0 _ _ _ y.0 m.0 d.0, (y.1, m.1, d.1))
 
 -- a pattern's text, by its first `/`
-pattern_parts : (text : Text) (cut : Option (Text × Text)) (w : Weekdays) → cut_at (codes "/") text ≡ cut → option_map_or (λ cut. option_map weekday.One (weekday_at cut.1)) cut (Some weekday.Any) ≡ Some w → text ≡ option_map_or (λ cut. cut.0) cut text ++ weekday_suffix w
+pattern_parts : (text : Text) (cut : Option (Text × Text)) (w : Option Weekday) → cut_at (codes "/") text ≡ cut
+    → option_map_or (λ cut. option_map Some (weekday_at cut.1)) cut (Some None) ≡ Some w
+    → text ≡ option_map_or (λ cut. cut.0) cut text ++ weekday_suffix w
 pattern_parts text None w is e =
-    let same : weekday.Any ≡ w = cc in
+    let same : None ≡ w = cc in
     sym (append-nil text) ∙ ap (λ w. text ++ weekday_suffix w) same
 pattern_parts text (Some cut) w is e =
-    let one = map-some weekday.One (weekday_at cut.1) w e in
+    let one = map-some Some (weekday_at cut.1) w e in
     let name = weekday_at-some cut.1 one.0 one.1 in
     cut_at-some (codes "/") text cut.0 cut.1 is ∙ ap (λ t. cut.0 ++ (codes "/" ++ t)) name
     ∙ ap (λ w. cut.0 ++ weekday_suffix w) one.2
@@ -118,10 +120,6 @@ pattern_at-ok text p e =
     let same : made ≡ p = cc in
     let P : Pattern → Type 0 = λ p. (text ≡ pattern_text p) × IsPattern p in
     subst P same (whole ∙ ap (λ t. t ++ weekday_suffix weekdays.0) fields.0, fields.1)
-
-one_year-some : (y : Years) (n : ℕ) → one_year y ≡ Some n → y ≡ year.One n
-one_year-some year.Any n e = let bad : ⊥ = cc in absurd bad
-one_year-some (year.One k) n e = let same : k ≡ n = cc in ap year.One same
 
 one_month-some : (m : Months) (n : ℕ) → one_month m ≡ Some n → m ≡ month.One n
 one_month-some month.Any n e = let bad : ⊥ = cc in absurd bad
@@ -145,7 +143,7 @@ day_of-is : (y m d : ℕ) (day : Date) → day_of y m d ≡ Some day → HasPart
 unfolding day_of
 day_of-is y m d day e =
     let made = map-some (day_with y m d) (passed (is_day y m d)) day e in
-    let range = is_between-true 1900 2154 y (first-true _ _ made.0) in
+    let range = is_between-true 1900 2154 y (first_so _ _ made.0) in
     let year : IsBetween (pos 1900) (pos 2154) (pos y) = (omega (arith, signed_arith), omega (arith, signed_arith)) in
     let parts : HasParts y m d (day_with y m d made.0) = (refl, refl, refl, year) in
     subst (HasParts y m d) made.2 parts
@@ -154,16 +152,18 @@ full_date_at-ok : (text : Text) (day : Date) → full_date_at text ≡ Ok day �
 unfolding full_date_at one_day
 full_date_at-ok text day e = by_test (is_some (cut_at (codes "/") text)) e
   where
-    by_test : (test : Bool) → cond {A = Result Date EntryFault} test (Err fault.Shape) (date_fields_at text >>= λ date. one_day date.years date.months date.days) ≡ Ok day → (text ≡ day_text day) × IsBetween (pos 1900) (pos 2154) day.year
+    by_test : (test : Bool)
+        → cond {A = Result Date EntryFault} test (Err fault.Shape) (date_fields_at text >>= λ date. one_day date.years date.months date.days) ≡ Ok day
+        → (text ≡ day_text day) × IsBetween (pos 1900) (pos 2154) day.year
     by_test true e = let bad : ⊥ = cc in absurd bad
     by_test false e =
         let date = then-ok (date_fields_at text) (λ date. one_day date.years date.months date.days) day e in
         let fields = date_fields_at-ok text date.0 date.1 in
-        let y = field-ok (one_year date.0.years) fault.HalfSpecified _ day date.2 in
+        let y = field-ok date.0.years fault.HalfSpecified _ day date.2 in
         let m = field-ok (one_month date.0.months) fault.HalfSpecified _ day y.2 in
         let d = field-ok (one_month_day date.0.days) fault.HalfSpecified _ day m.2 in
         let parts = day_of-is y.0 m.0 d.0 day (ok_or-ok _ fault.Day day d.2) in
-        let years = one_year-some date.0.years y.0 y.1 ∙ ap year.One parts.0 in
+        let years = y.1 ∙ ap Some parts.0 in
         let months = one_month-some date.0.months m.0 m.1 ∙ ap month.One parts.1 in
         let days = one_month_day-some date.0.days d.0 d.1 ∙ ap month_day.One parts.2 in
         (fields.0 ∙ rw (years, months, days) refl, parts.3)
@@ -172,7 +172,9 @@ range_end_at-ok : (text : Text) (end : Option Date) → range_end_at text ≡ Ok
 unfolding range_end_at
 range_end_at-ok text end e = by_test (bytes_eq text (codes "*")) refl e
   where
-    by_test : (test : Bool) → bytes_eq text (codes "*") ≡ test → cond {A = Result (Option Date) EntryFault} test (Ok None) (full_date_at text >>= λ date. Ok (Some date)) ≡ Ok end → (text ≡ range_end_text end) × IsRangeEnd end
+    by_test : (test : Bool) → bytes_eq text (codes "*") ≡ test
+        → cond {A = Result (Option Date) EntryFault} test (Ok None) (full_date_at text >>= λ date. Ok (Some date)) ≡ Ok end
+        → (text ≡ range_end_text end) × IsRangeEnd end
     by_test true is e =
         let same : None ≡ end = cc in
         let P : Option Date → Type 0 = λ end. (text ≡ range_end_text end) × IsRangeEnd end in
@@ -214,7 +216,8 @@ without_prefix-some : (mark text rest : Text) → without_prefix mark text ≡ S
 unfolding without_prefix
 without_prefix-some mark text rest e = by_test (starts_with nat_eq text mark) refl e
   where
-    by_test : (test : Bool) → starts_with nat_eq text mark ≡ test → cond {A = Option Text} test (Some (drop (length mark) text)) None ≡ Some rest → text ≡ mark ++ rest
+    by_test : (test : Bool) → starts_with nat_eq text mark ≡ test
+        → cond {A = Option Text} test (Some (drop (length mark) text)) None ≡ Some rest → text ≡ mark ++ rest
     by_test true is e =
         let same : drop (length mark) text ≡ rest = cc in
         append-starts_with text mark is ∙ ap (λ t. mark ++ t) same
@@ -224,7 +227,9 @@ dates_at-ok : (text : Text) (e : Entry) → dates_at text ≡ Ok e → Spells te
 unfolding dates_at spelling
 dates_at-ok text e h = by_cut (cut_at (codes "..") text) refl h
   where
-    by_cut : (cut : Option (Text × Text)) → cut_at (codes "..") text ≡ cut → option_map_or (λ ends. range_at ends.0 ends.1 >>= λ r. Ok (entry.Range r)) cut (pattern_at text >>= λ p. Ok (entry.Pattern p)) ≡ Ok e → Spells text e
+    by_cut : (cut : Option (Text × Text)) → cut_at (codes "..") text ≡ cut
+        → option_map_or (λ ends. range_at ends.0 ends.1 >>= λ r. Ok (entry.Range r)) cut (pattern_at text >>= λ p. Ok (entry.Pattern p)) ≡ Ok e
+        → Spells text e
     by_cut None is h =
         let p = then-ok (pattern_at text) (λ p. Ok (entry.Pattern p)) e h in
         let same : entry.Pattern p.0 ≡ e = cc in
@@ -241,7 +246,8 @@ pub reading-ok : (text : Text) (e : Entry) → reading text ≡ Ok e → Spells 
 unfolding reading spelling
 reading-ok text e h = by_prefix (without_prefix (codes "wnd:") text) refl h
   where
-    by_prefix : (parts : Option Text) → without_prefix (codes "wnd:") text ≡ parts → option_map_or (λ parts. week_n_day_at parts >>= λ w. Ok (entry.WeekNDay w)) parts (dates_at text) ≡ Ok e → Spells text e
+    by_prefix : (parts : Option Text) → without_prefix (codes "wnd:") text ≡ parts
+        → option_map_or (λ parts. week_n_day_at parts >>= λ w. Ok (entry.WeekNDay w)) parts (dates_at text) ≡ Ok e → Spells text e
     by_prefix None is h = dates_at-ok text e h
     by_prefix (Some parts) is h =
         let w = then-ok (week_n_day_at parts) (λ w. Ok (entry.WeekNDay w)) e h in

@@ -6,20 +6,16 @@ use Rattle.std.proofs.lemmas.List.{append-nil}
 use Rattle.std.proofs.lemmas.Bool.Decides.{nat_tests}
 use Rattle.jiff.specs.Words.{IsBetween}
 use Rattle.jiff_core.specs.declared.civil.date.Date.{Date}
+use Rattle.jiff_core.specs.declared.civil.weekday.Weekday.{Weekday}
 use Rattle.jiff_core.specs.declared.civil.weekday.Weekday.TheVariants.{Monday, Tuesday, Wednesday, Thursday, Friday, Saturday, Sunday}
 use Rattle.jiff_core.proofs.CalendarLemmas.{days_in_month_bounds}
 use Rattle.jiff_core.proofs.SignedLemmas.{signed_arith}
-use Rattle.dates.specs.declared.years.Years.{Years}
-use Rattle.dates.specs.declared.years.Years.TheVariants as year
 use Rattle.dates.specs.declared.months.Months.{Months}
 use Rattle.dates.specs.declared.months.Months.TheVariants as month
 use Rattle.dates.specs.declared.month_days.MonthDays.{MonthDays}
 use Rattle.dates.specs.declared.month_days.MonthDays.TheVariants as month_day
-use Rattle.dates.specs.declared.weekdays.Weekdays.{Weekdays}
-use Rattle.dates.specs.declared.weekdays.Weekdays.TheVariants as weekday
-use Rattle.dates.specs.declared.weeks.Week.TheVariants.{First, Second, Third, Fourth, Fifth, Last, SecondLast, ThirdLast, FourthLast}
-use Rattle.dates.specs.declared.weeks.Weeks.{Weeks}
-use Rattle.dates.specs.declared.weeks.Weeks.TheVariants as week
+use Rattle.dates.specs.declared.week.Week.{Week}
+use Rattle.dates.specs.declared.week.Week.TheVariants.{First, Second, Third, Fourth, Fifth, Last, SecondLast, ThirdLast, FourthLast}
 use Rattle.dates.specs.declared.pattern.Pattern.{Pattern}
 use Rattle.dates.specs.declared.entry.Entry.{Entry}
 use Rattle.dates.specs.declared.entry.Entry.TheVariants as entry
@@ -54,9 +50,9 @@ lacks-two c n tens units = rw (other_byte c (48 + n / 10) tens, other_byte c (48
 abbrev IsMark : ℕ → Type 0
 IsMark c = (c < 48) × (c ≢ 42)
 
-lacks-years : (c : ℕ) → IsMark c → (y : Years) → lacks c (years_text y) ≡ true
-lacks-years c mark year.Any = lacks-one c 42 mark.1
-lacks-years c mark (year.One n) =
+lacks-years : (c : ℕ) → IsMark c → (y : Option ℕ) → lacks c (years_text y) ≡ true
+lacks-years c mark None = lacks-one c 42 mark.1
+lacks-years c mark (Some n) =
     lacks-append c (two_digit_text (n / 100)) (two_digit_text (n % 100)) (lacks-two c (n / 100) (omega arith) (omega arith))
     (lacks-two c (n % 100) (omega arith) (omega arith))
 
@@ -85,7 +81,7 @@ lacks-month_days c mark month_day.Odd = lacks-odd c mark
 lacks-month_days c mark month_day.Even = lacks-even c mark
 lacks-month_days c mark (month_day.One n) = lacks-two c n (omega arith) (omega arith)
 
-lacks-date_fields : (c : ℕ) → IsMark c → c ≢ 45 → (y : Years) (m : Months) (d : MonthDays) → lacks c (date_fields_text y m d) ≡ true
+lacks-date_fields : (c : ℕ) → IsMark c → c ≢ 45 → (y : Option ℕ) (m : Months) (d : MonthDays) → lacks c (date_fields_text y m d) ≡ true
 lacks-date_fields c mark dash y m d =
     let days = lacks-more c 45 (month_days_text d) dash (lacks-month_days c mark d) in
     let months = lacks-append c (months_text m) (45 ∷ month_days_text d) (lacks-months c mark m) days in
@@ -101,15 +97,15 @@ dot = (omega arith, λ e. absurd (omega arith))
 dash : IsMark 45
 dash = (omega arith, λ e. absurd (omega arith))
 
-lacks_dot-suffix : (w : Weekdays) → lacks 46 (weekday_suffix w) ≡ true
-lacks_dot-suffix weekday.Any = refl
-lacks_dot-suffix (weekday.One Monday) = refl
-lacks_dot-suffix (weekday.One Tuesday) = refl
-lacks_dot-suffix (weekday.One Wednesday) = refl
-lacks_dot-suffix (weekday.One Thursday) = refl
-lacks_dot-suffix (weekday.One Friday) = refl
-lacks_dot-suffix (weekday.One Saturday) = refl
-lacks_dot-suffix (weekday.One Sunday) = refl
+lacks_dot-suffix : (w : Option Weekday) → lacks 46 (weekday_suffix w) ≡ true
+lacks_dot-suffix None = refl
+lacks_dot-suffix (Some Monday) = refl
+lacks_dot-suffix (Some Tuesday) = refl
+lacks_dot-suffix (Some Wednesday) = refl
+lacks_dot-suffix (Some Thursday) = refl
+lacks_dot-suffix (Some Friday) = refl
+lacks_dot-suffix (Some Saturday) = refl
+lacks_dot-suffix (Some Sunday) = refl
 
 lacks_colon-months : (m : Months) → AreMonths m → lacks 58 (months_text m) ≡ true
 lacks_colon-months month.Any h = refl
@@ -117,27 +113,27 @@ lacks_colon-months month.Odd h = refl
 lacks_colon-months month.Even h = refl
 lacks_colon-months (month.One n) h = lacks-two 58 n (omega arith) (omega arith)
 
-lacks_colon-weeks : (w : Weeks) → lacks 58 (weeks_text w) ≡ true
-lacks_colon-weeks week.Any = refl
-lacks_colon-weeks (week.One First) = refl
-lacks_colon-weeks (week.One Second) = refl
-lacks_colon-weeks (week.One Third) = refl
-lacks_colon-weeks (week.One Fourth) = refl
-lacks_colon-weeks (week.One Fifth) = refl
-lacks_colon-weeks (week.One Last) = refl
-lacks_colon-weeks (week.One SecondLast) = refl
-lacks_colon-weeks (week.One ThirdLast) = refl
-lacks_colon-weeks (week.One FourthLast) = refl
+lacks_colon-weeks : (w : Option Week) → lacks 58 (weeks_text w) ≡ true
+lacks_colon-weeks None = refl
+lacks_colon-weeks (Some First) = refl
+lacks_colon-weeks (Some Second) = refl
+lacks_colon-weeks (Some Third) = refl
+lacks_colon-weeks (Some Fourth) = refl
+lacks_colon-weeks (Some Fifth) = refl
+lacks_colon-weeks (Some Last) = refl
+lacks_colon-weeks (Some SecondLast) = refl
+lacks_colon-weeks (Some ThirdLast) = refl
+lacks_colon-weeks (Some FourthLast) = refl
 
-lacks_colon-weekdays : (w : Weekdays) → lacks 58 (weekdays_text w) ≡ true
-lacks_colon-weekdays weekday.Any = refl
-lacks_colon-weekdays (weekday.One Monday) = refl
-lacks_colon-weekdays (weekday.One Tuesday) = refl
-lacks_colon-weekdays (weekday.One Wednesday) = refl
-lacks_colon-weekdays (weekday.One Thursday) = refl
-lacks_colon-weekdays (weekday.One Friday) = refl
-lacks_colon-weekdays (weekday.One Saturday) = refl
-lacks_colon-weekdays (weekday.One Sunday) = refl
+lacks_colon-weekdays : (w : Option Weekday) → lacks 58 (weekdays_text w) ≡ true
+lacks_colon-weekdays None = refl
+lacks_colon-weekdays (Some Monday) = refl
+lacks_colon-weekdays (Some Tuesday) = refl
+lacks_colon-weekdays (Some Wednesday) = refl
+lacks_colon-weekdays (Some Thursday) = refl
+lacks_colon-weekdays (Some Friday) = refl
+lacks_colon-weekdays (Some Saturday) = refl
+lacks_colon-weekdays (Some Sunday) = refl
 
 -- ---- the forms
 
@@ -146,7 +142,8 @@ unfolding parts_at
 parts_at-text c x y z hx hy hz =
     rw (cut_at-lacking c [] x (y ++ (c ∷ z)) hx, cut_at-lacking c [] y z hy, cut_at-absent c [] z hz) refl
 
-pub date_fields_at-text : (y : Years) (m : Months) (d : MonthDays) → AreYears y → AreMonths m → AreMonthDays d → date_fields_at (date_fields_text y m d) ≡ Ok (record { years = y; months = m; days = d })
+pub date_fields_at-text : (y : Option ℕ) (m : Months) (d : MonthDays) → AreYears y → AreMonths m → AreMonthDays d
+    → date_fields_at (date_fields_text y m d) ≡ Ok (record { years = y; months = m; days = d })
 unfolding date_fields_at
 date_fields_at-text y m d hy hm hd =
     rw (
@@ -156,12 +153,13 @@ date_fields_at-text y m d hy hm hd =
       month_days_at-text d hd,
     ) refl
 
-pattern_at-fields : (y : Years) (m : Months) (d : MonthDays) (w : Weekdays) → AreYears y → AreMonths m → AreMonthDays d → pattern_at (date_fields_text y m d ++ weekday_suffix w) ≡ Ok (record { years = y; months = m; days = d; weekdays = w })
+pattern_at-fields : (y : Option ℕ) (m : Months) (d : MonthDays) (w : Option Weekday) → AreYears y → AreMonths m → AreMonthDays d
+    → pattern_at (date_fields_text y m d ++ weekday_suffix w) ≡ Ok (record { years = y; months = m; days = d; weekdays = w })
 unfolding pattern_at date_part weekday_part
-pattern_at-fields y m d weekday.Any hy hm hd =
+pattern_at-fields y m d None hy hm hd =
     let text = date_fields_text y m d in
     rw (append-nil text, cut_at-absent 47 [] text (lacks-date_fields 47 slash (omega arith) y m d), date_fields_at-text y m d hy hm hd) refl
-pattern_at-fields y m d (weekday.One w) hy hm hd =
+pattern_at-fields y m d (Some w) hy hm hd =
     let text = date_fields_text y m d in
     rw (cut_at-lacking 47 [] text (weekday_text w) (lacks-date_fields 47 slash (omega arith) y m d), date_fields_at-text y m d hy hm hd, weekday_at-text w) refl
 
@@ -185,7 +183,7 @@ day_of-parts day h =
 pub full_date_at-text : (day : Date) → IsBetween (pos 1900) (pos 2154) day.year → full_date_at (day_text day) ≡ Ok day
 unfolding full_date_at one_day
 full_date_at-text day h =
-    let y = year.One (unsigned_abs day.year) in
+    let y : Option ℕ = Some (unsigned_abs day.year) in
     let m = month.One day.month in
     let d = month_day.One day.day in
     let long = days_in_month_bounds day.year day.month in
@@ -205,9 +203,10 @@ range_end_at-text (Some day) h =
 lacks_dot-end : (end : Option Date) → lacks 46 (range_end_text end) ≡ true
 lacks_dot-end None = refl
 lacks_dot-end (Some day) =
-    lacks-date_fields 46 dot (omega arith) (year.One (unsigned_abs day.year)) (month.One day.month) (month_day.One day.day)
+    lacks-date_fields 46 dot (omega arith) (Some (unsigned_abs day.year)) (month.One day.month) (month_day.One day.day)
 
-week_n_day_at-fields : (m : Months) (k : Weeks) (w : Weekdays) → AreMonths m → week_n_day_at (months_text m ++ (58 ∷ (weeks_text k ++ (58 ∷ weekdays_text w)))) ≡ Ok (record { months = m; weeks = k; weekdays = w })
+week_n_day_at-fields : (m : Months) (k : Option Week) (w : Option Weekday) → AreMonths m
+    → week_n_day_at (months_text m ++ (58 ∷ (weeks_text k ++ (58 ∷ weekdays_text w)))) ≡ Ok (record { months = m; weeks = k; weekdays = w })
 unfolding week_n_day_at
 week_n_day_at-fields m k w h =
     rw (
@@ -224,9 +223,9 @@ unfolding without_prefix
 other_prefix x rest apart =
     rw (starts_with-other 119 x (codes "nd:") rest (other_byte 119 x apart)) refl
 
-other_prefix-years : (y : Years) (a b : Text) → AreYears y → without_prefix (codes "wnd:") ((years_text y ++ a) ++ b) ≡ None
-other_prefix-years year.Any a b h = other_prefix 42 (a ++ b) (omega arith)
-other_prefix-years (year.One n) a b h = other_prefix (48 + n / 100 / 10) _ (omega arith)
+other_prefix-years : (y : Option ℕ) (a b : Text) → AreYears y → without_prefix (codes "wnd:") ((years_text y ++ a) ++ b) ≡ None
+other_prefix-years None a b h = other_prefix 42 (a ++ b) (omega arith)
+other_prefix-years (Some n) a b h = other_prefix (48 + n / 100 / 10) _ (omega arith)
 
 other_prefix-end : (end : Option Date) (rest : Text) → IsRangeEnd end → without_prefix (codes "wnd:") (range_end_text end ++ rest) ≡ None
 other_prefix-end None rest h = other_prefix 42 rest (omega arith)

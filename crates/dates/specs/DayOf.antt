@@ -1,9 +1,10 @@
 -- The day with these parts, if there is one.
-use Rattle.std.specs.Prelude.{◌≡◌, ℕ, ◌≤◌, Bool, true, false, ◌&&◌, pos, Option, Some, None, option_map, refl}
+use Rattle.std.specs.Prelude.{◌≡◌, ℕ, ◌≤◌, Bool, true, false, pos, Option, Some, None, option_map, refl}
+use Rattle.std.specs.Cmp.{first_so, second_so}
 use Rattle.std.specs.Int.{IsInRange}
 use Rattle.std.proofs.Common.{lit≤}
 use Rattle.std.proofs.Math.Nat.{le_trans}
-use Rattle.std.proofs.lemmas.Bool.{leb-true, le-leb, false≢true}
+use Rattle.std.proofs.lemmas.Bool.{leb-true, le-leb}
 use Rattle.std.proofs.lemmas.Float.{T_from_true}
 use Rattle.jiff.specs.Words.{IsYear, days_in_month}
 use Rattle.jiff_core.specs.declared.civil.date.Date.{Date}
@@ -15,28 +16,20 @@ abbrev pub passed : (test : Bool) → Option (test ≡ true)
 passed true = Some refl
 passed false = None
 
-pub first-true : (a b : Bool) → (a && b) ≡ true → a ≡ true
-first-true true b e = refl
-first-true false b e = e
-
-pub second-true : (a b : Bool) → (a && b) ≡ true → b ≡ true
-second-true true b e = e
-second-true false b e = absurd (false≢true e)
-
 pub is_between-true : (low high n : ℕ) → is_between low high n ≡ true → IsInRange low high n
 is_between-true low high n e =
-    (leb-true low n (first-true _ _ e), leb-true n high (second-true _ _ e))
+    (leb-true low n (first_so _ _ e), leb-true n high (second_so _ _ e))
 
 pub is_day-year : (y m d : ℕ) → is_day y m d ≡ true → IsYear (pos y)
 is_day-year y m d e =
-    let below : y ≤ 2154 = (is_between-true 1900 2154 y (first-true _ _ e)).1 in
+    let below : y ≤ 2154 = (is_between-true 1900 2154 y (first_so _ _ e)).1 in
     (record { le = tt }, record { le = T_from_true _ (le-leb y 9999 (le_trans below (lit≤ tt))) })
 
 pub is_day-month : (y m d : ℕ) → is_day y m d ≡ true → IsInRange 1 12 m
-is_day-month y m d e = is_between-true 1 12 m (first-true _ _ (second-true _ _ e))
+is_day-month y m d e = is_between-true 1 12 m (first_so _ _ (second_so _ _ e))
 
 pub is_day-day : (y m d : ℕ) → is_day y m d ≡ true → IsInRange 1 (days_in_month (pos y) m) d
-is_day-day y m d e = is_between-true 1 _ d (second-true _ _ (second-true _ _ e))
+is_day-day y m d e = is_between-true 1 _ d (second_so _ _ (second_so _ _ e))
 
 abbrev pub day_with : (y m d : ℕ) → is_day y m d ≡ true → Date
 day_with y m d ok = record {

@@ -3,18 +3,12 @@ use Rattle.std.specs.Prelude.{ℕ, ◌+◌, ◌-◌, ◌*◌, ◌==◌, length, 
 use Rattle.std.specs.Str.{bytes_eq}
 use Rattle.jiff_core.specs.declared.civil.weekday.Weekday.{Weekday}
 use Rattle.jiff_core.specs.declared.civil.weekday.Weekday.TheVariants.{Monday, Tuesday, Wednesday, Thursday, Friday, Saturday, Sunday}
-use Rattle.dates.specs.declared.years.Years.{Years}
-use Rattle.dates.specs.declared.years.Years.TheVariants as year
 use Rattle.dates.specs.declared.months.Months.{Months}
 use Rattle.dates.specs.declared.months.Months.TheVariants as month
 use Rattle.dates.specs.declared.month_days.MonthDays.{MonthDays}
 use Rattle.dates.specs.declared.month_days.MonthDays.TheVariants as month_day
-use Rattle.dates.specs.declared.weekdays.Weekdays.{Weekdays}
-use Rattle.dates.specs.declared.weekdays.Weekdays.TheVariants as weekday
-use Rattle.dates.specs.declared.weeks.Week.{Week}
-use Rattle.dates.specs.declared.weeks.Week.TheVariants.{First, Second, Third, Fourth, Fifth, Last, SecondLast, ThirdLast, FourthLast}
-use Rattle.dates.specs.declared.weeks.Weeks.{Weeks}
-use Rattle.dates.specs.declared.weeks.Weeks.TheVariants as week
+use Rattle.dates.specs.declared.week.Week.{Week}
+use Rattle.dates.specs.declared.week.Week.TheVariants.{First, Second, Third, Fourth, Fifth, Last, SecondLast, ThirdLast, FourthLast}
 use Rattle.dates.specs.Between.{is_between, between}
 use Rattle.dates.specs.CutAt.{Text}
 
@@ -47,10 +41,10 @@ four_digits text =
     else None
 
 -- four digits from 1900 to 2154, or any
-unfoldable pub years_at : Text → Option Years
+unfoldable pub years_at : Text → Option (Option ℕ)
 years_at text =
-    if bytes_eq text (codes "*") then Some year.Any
-    else option_map year.One (four_digits text >>= between 1900 2154)
+    if bytes_eq text (codes "*") then Some None
+    else option_map Some (four_digits text >>= between 1900 2154)
 
 -- two digits from 01 to 12, the odd ones, the even ones, or any
 unfoldable pub months_at : Text → Option Months
@@ -82,9 +76,9 @@ weekday_at text =
     else None
 
 -- the same, or any
-unfoldable pub weekdays_at : Text → Option Weekdays
+unfoldable pub weekdays_at : Text → Option (Option Weekday)
 weekdays_at text =
-    if bytes_eq text (codes "*") then Some weekday.Any else option_map weekday.One (weekday_at text)
+    if bytes_eq text (codes "*") then Some None else option_map Some (weekday_at text)
 
 -- one digit
 unfoldable pub week_at : Text → Option Week
@@ -101,6 +95,6 @@ week_at text =
     else None
 
 -- the same, or any
-unfoldable pub weeks_at : Text → Option Weeks
+unfoldable pub weeks_at : Text → Option (Option Week)
 weeks_at text =
-    if bytes_eq text (codes "*") then Some week.Any else option_map week.One (week_at text)
+    if bytes_eq text (codes "*") then Some None else option_map Some (week_at text)

@@ -1,21 +1,16 @@
 -- The set of days that an entry names (ANSI/ASHRAE 135-2016, clause 21), as the test of its members.
-use Rattle.std.specs.Prelude.{◌%◌, Bool, true, ◌&&◌, ◌==◌, pos, int_le, Option, Some, None}
+use Rattle.std.specs.Prelude.{ℕ, ◌%◌, Bool, true, ◌&&◌, ◌==◌, pos, int_le, Option, Some, None}
 use Rattle.std.specs.Ordering.{int_eq}
 use Rattle.jiff.specs.Words.{epoch_day, weekday_of}
 use Rattle.jiff_core.specs.Weekday.{monday_zero}
 use Rattle.jiff_core.specs.declared.civil.date.Date.{Date}
-use Rattle.dates.specs.declared.years.Years.{Years}
-use Rattle.dates.specs.declared.years.Years.TheVariants as year
+use Rattle.jiff_core.specs.declared.civil.weekday.Weekday.{Weekday}
 use Rattle.dates.specs.declared.months.Months.{Months}
 use Rattle.dates.specs.declared.months.Months.TheVariants as month
 use Rattle.dates.specs.declared.month_days.MonthDays.{MonthDays}
 use Rattle.dates.specs.declared.month_days.MonthDays.TheVariants as month_day
-use Rattle.dates.specs.declared.weekdays.Weekdays.{Weekdays}
-use Rattle.dates.specs.declared.weekdays.Weekdays.TheVariants as weekday
-use Rattle.dates.specs.declared.weeks.Week.{Week}
-use Rattle.dates.specs.declared.weeks.Week.TheVariants.{First, Second, Third, Fourth, Fifth, Last, SecondLast, ThirdLast, FourthLast}
-use Rattle.dates.specs.declared.weeks.Weeks.{Weeks}
-use Rattle.dates.specs.declared.weeks.Weeks.TheVariants as week
+use Rattle.dates.specs.declared.week.Week.{Week}
+use Rattle.dates.specs.declared.week.Week.TheVariants.{First, Second, Third, Fourth, Fifth, Last, SecondLast, ThirdLast, FourthLast}
 use Rattle.dates.specs.declared.pattern.Pattern.{Pattern}
 use Rattle.dates.specs.declared.range.Range.{Range}
 use Rattle.dates.specs.declared.week_n_day.WeekNDay.{WeekNDay}
@@ -25,9 +20,9 @@ use Rattle.dates.specs.Between.{is_between}
 use Rattle.dates.specs.DaysLeft.{days_left}
 
 -- the days of the years that the field names
-abbrev pub in_years : Years → Date → Bool
-in_years year.Any day = true
-in_years (year.One number) day = int_eq day.year (pos number)
+abbrev pub in_years : Option ℕ → Date → Bool
+in_years None day = true
+in_years (Some number) day = int_eq day.year (pos number)
 
 -- the days of the months that the field names
 abbrev pub in_months : Months → Date → Bool
@@ -45,9 +40,9 @@ in_month_days month_day.Even day = day.day % 2 == 0
 in_month_days (month_day.One number) day = day.day == number
 
 -- the days of the week that the field names
-abbrev pub in_weekdays : Weekdays → Date → Bool
-in_weekdays weekday.Any day = true
-in_weekdays (weekday.One name) day = weekday_of day == monday_zero name
+abbrev pub in_weekdays : Option Weekday → Date → Bool
+in_weekdays None day = true
+in_weekdays (Some name) day = weekday_of day == monday_zero name
 
 -- weeks 1 to 5 are counted by the day of the month, weeks 6 to 9 by the days that follow in it
 abbrev pub in_week : Week → Date → Bool
@@ -62,9 +57,9 @@ in_week ThirdLast day = is_between 14 20 (days_left day)
 in_week FourthLast day = is_between 21 27 (days_left day)
 
 -- the days of the weeks that the field names
-abbrev pub in_weeks : Weeks → Date → Bool
-in_weeks week.Any day = true
-in_weeks (week.One which) day = in_week which day
+abbrev pub in_weeks : Option Week → Date → Bool
+in_weeks None day = true
+in_weeks (Some which) day = in_week which day
 
 -- the days that each field names
 abbrev pub in_pattern : Pattern → Date → Bool

@@ -1,7 +1,6 @@
 -- The entries whose numbers are in range, as those of each value that the program holds.
+use Rattle.std.specs.Prelude.{ℕ, Option, Some, None}
 use Rattle.std.specs.Int.{IsInRange}
-use Rattle.dates.specs.declared.years.Years.{Years}
-use Rattle.dates.specs.declared.years.Years.TheVariants as year
 use Rattle.dates.specs.declared.months.Months.{Months}
 use Rattle.dates.specs.declared.months.Months.TheVariants as month
 use Rattle.dates.specs.declared.month_days.MonthDays.{MonthDays}
@@ -13,9 +12,9 @@ use Rattle.dates.specs.declared.entry.Entry.{Entry}
 use Rattle.dates.specs.declared.entry.Entry.TheVariants as entry
 use Rattle.dates.specs.RangeEnd.{IsRangeEnd}
 
-abbrev pub AreYears : Years → Type 0
-AreYears year.Any = Unit {0}
-AreYears (year.One number) = IsInRange 1900 2154 number
+abbrev pub AreYears : Option ℕ → Type 0
+AreYears None = Unit {0}
+AreYears (Some number) = IsInRange 1900 2154 number
 
 abbrev pub AreMonths : Months → Type 0
 AreMonths month.Any = Unit {0}

@@ -3,8 +3,7 @@ use Rattle.std.specs.Prelude.{codes, Option, Some, None, option_map, is_some, Re
 use Rattle.std.specs.Option.{ok_or, option_map_or}
 use Rattle.std.specs.Str.{bytes_eq}
 use Rattle.jiff_core.specs.declared.civil.date.Date.{Date}
-use Rattle.dates.specs.declared.weekdays.Weekdays.{Weekdays}
-use Rattle.dates.specs.declared.weekdays.Weekdays.TheVariants as weekday
+use Rattle.jiff_core.specs.declared.civil.weekday.Weekday.{Weekday}
 use Rattle.dates.specs.declared.date_fields.DateFields.{DateFields}
 use Rattle.dates.specs.declared.pattern.Pattern.{Pattern}
 use Rattle.dates.specs.declared.range.Range.{Range}
@@ -31,9 +30,9 @@ date_fields_at text = do
 unfoldable pub date_part : Text → Text
 date_part text = option_map_or (λ cut. cut.0) (cut_at (codes "/") text) text
 
-unfoldable pub weekday_part : Text → Option Weekdays
+unfoldable pub weekday_part : Text → Option (Option Weekday)
 weekday_part text =
-    option_map_or (λ cut. option_map weekday.One (weekday_at cut.1)) (cut_at (codes "/") text) (Some weekday.Any)
+    option_map_or (λ cut. option_map Some (weekday_at cut.1)) (cut_at (codes "/") text) (Some None)
 
 -- Y-M-D or Y-M-D/W
 unfoldable pub pattern_at : Text → Result Pattern EntryFault

@@ -1,18 +1,13 @@
 -- The one text that spells an entry, by the forms of the notation.
 use Rattle.std.specs.Prelude.{ℕ, ◌+◌, ◌/◌, ◌%◌, [], ◌∷◌, ◌++◌, unsigned_abs, codes, Option, Some, None}
 use Rattle.jiff_core.specs.declared.civil.date.Date.{Date}
-use Rattle.dates.specs.declared.years.Years.{Years}
-use Rattle.dates.specs.declared.years.Years.TheVariants as year
+use Rattle.jiff_core.specs.declared.civil.weekday.Weekday.{Weekday}
 use Rattle.dates.specs.declared.months.Months.{Months}
 use Rattle.dates.specs.declared.months.Months.TheVariants as month
 use Rattle.dates.specs.declared.month_days.MonthDays.{MonthDays}
 use Rattle.dates.specs.declared.month_days.MonthDays.TheVariants as month_day
-use Rattle.dates.specs.declared.weekdays.Weekdays.{Weekdays}
-use Rattle.dates.specs.declared.weekdays.Weekdays.TheVariants as weekday
-use Rattle.dates.specs.declared.weeks.Week.{Week}
-use Rattle.dates.specs.declared.weeks.Week.TheVariants.{First, Second, Third, Fourth, Fifth, Last, SecondLast, ThirdLast, FourthLast}
-use Rattle.dates.specs.declared.weeks.Weeks.{Weeks}
-use Rattle.dates.specs.declared.weeks.Weeks.TheVariants as week
+use Rattle.dates.specs.declared.week.Week.{Week}
+use Rattle.dates.specs.declared.week.Week.TheVariants.{First, Second, Third, Fourth, Fifth, Last, SecondLast, ThirdLast, FourthLast}
 use Rattle.dates.specs.declared.pattern.Pattern.{Pattern}
 use Rattle.dates.specs.declared.range.Range.{Range}
 use Rattle.dates.specs.declared.week_n_day.WeekNDay.{WeekNDay}
@@ -27,9 +22,9 @@ two_digit_text n = (48 + n / 10) ∷ ((48 + n % 10) ∷ [])
 abbrev pub four_digit_text : ℕ → Text
 four_digit_text n = two_digit_text (n / 100) ++ two_digit_text (n % 100)
 
-abbrev pub years_text : Years → Text
-years_text year.Any = codes "*"
-years_text (year.One number) = four_digit_text number
+abbrev pub years_text : Option ℕ → Text
+years_text None = codes "*"
+years_text (Some number) = four_digit_text number
 
 abbrev pub months_text : Months → Text
 months_text month.Any = codes "*"
@@ -44,9 +39,9 @@ month_days_text month_day.Odd = codes "odd"
 month_days_text month_day.Even = codes "even"
 month_days_text (month_day.One number) = two_digit_text number
 
-abbrev pub weekdays_text : Weekdays → Text
-weekdays_text weekday.Any = codes "*"
-weekdays_text (weekday.One name) = weekday_text name
+abbrev pub weekdays_text : Option Weekday → Text
+weekdays_text None = codes "*"
+weekdays_text (Some name) = weekday_text name
 
 abbrev pub week_text : Week → Text
 week_text First = codes "1"
@@ -59,17 +54,17 @@ week_text SecondLast = codes "7"
 week_text ThirdLast = codes "8"
 week_text FourthLast = codes "9"
 
-abbrev pub weeks_text : Weeks → Text
-weeks_text week.Any = codes "*"
-weeks_text (week.One which) = week_text which
+abbrev pub weeks_text : Option Week → Text
+weeks_text None = codes "*"
+weeks_text (Some which) = week_text which
 
 -- in a pattern any weekday is written by leaving it away
-abbrev pub weekday_suffix : Weekdays → Text
-weekday_suffix weekday.Any = []
-weekday_suffix (weekday.One name) = codes "/" ++ weekday_text name
+abbrev pub weekday_suffix : Option Weekday → Text
+weekday_suffix None = []
+weekday_suffix (Some name) = codes "/" ++ weekday_text name
 
 -- Y-M-D
-abbrev pub date_fields_text : Years → Months → MonthDays → Text
+abbrev pub date_fields_text : Option ℕ → Months → MonthDays → Text
 date_fields_text years months days =
     years_text years ++ (codes "-" ++ (months_text months ++ (codes "-" ++ month_days_text days)))
 

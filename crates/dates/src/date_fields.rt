@@ -1,12 +1,12 @@
 ghost use Rattle.std.specs.Prelude.{◌≡◌};
 ghost use Rattle.dates.specs.OneDay.{one_day};
 
-use crate::{Day, EntryFault, MonthDays, Months, Years, notation};
+use crate::{Day, EntryFault, MonthDays, Months, Year, notation};
 
 /// The year, the month and the day of the month of a date, each as its field names it.
 #[derive(Clone, Copy)]
 pub struct DateFields {
-    pub years: Years,
+    pub years: Option<Year>,
     pub months: Months,
     pub days: MonthDays,
 }
@@ -20,7 +20,7 @@ impl DateFields {
         ensures { result ≡ date_fields_at text.now }
     {
         let (years, months, days) = notation::parts_at(text, "-").ok_or(EntryFault::Shape)?;
-        let years = Years::read(years).ok_or(EntryFault::Year)?;
+        let years = Year::read_or_any(years).ok_or(EntryFault::Year)?;
         let months = Months::read(months).ok_or(EntryFault::Month)?;
         let days = MonthDays::read(days).ok_or(EntryFault::Day)?;
         Ok(DateFields {
@@ -49,10 +49,10 @@ impl DateFields {
 
 /// The day that the fields name, where each is one number.
 #[tactic(auto, unfolding(crate::specs::OneDay::one_day))]
-fn one_day(years: Years, months: Months, days: MonthDays) -> Result<Day, EntryFault>
+fn one_day(years: Option<Year>, months: Months, days: MonthDays) -> Result<Day, EntryFault>
     ensures { result ≡ one_day years months days }
 {
-    let year = years.number().ok_or(EntryFault::HalfSpecified)?;
+    let year = years.ok_or(EntryFault::HalfSpecified)?.number();
     let month = months.number().ok_or(EntryFault::HalfSpecified)?;
     let day = days.number().ok_or(EntryFault::HalfSpecified)?;
     Day::new(i32::from(year), month, day).ok_or(EntryFault::Day)

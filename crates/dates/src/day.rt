@@ -44,18 +44,6 @@ impl Day {
         }
     }
 
-    /// The day of a date, where its year is 1900 to 2154.
-    pub fn from_date(date: Date) -> Option<Day>
-        ensures exists { IsSome result ↔ IsBetween (pos 1900) (pos 2154) date.year }
-        ensures value { IfSome result (λ day. day ≡ date) }
-    {
-        if 1900 <= date.year() && date.year() <= 2154 {
-            Some(Day { date })
-        } else {
-            None
-        }
-    }
-
     /// The year, 1900 to 2154.
     pub fn year(self) -> u16
         ensures value { pos result ≡ self.year }

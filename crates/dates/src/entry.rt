@@ -65,7 +65,7 @@ impl Entry {
         self.to_string(alloc)
     }
 
-    // A law: the numbers of an entry are in range.
+    // A law: the numbers of an entry are in range. Each comes from the type that holds it.
     fn in_range(&self)
         ensures { IsEntry self.now }
     {

@@ -1,8 +1,9 @@
 ghost use Rattle.std.specs.Prelude.{◌≡◌};
 
 use crate::date_fields::DateFields;
-use crate::weekdays::weekday_name;
-use crate::{Day, EntryFault, MonthDays, Months, Weekdays, Years, notation};
+use crate::weekday::{read_weekday, weekday_holds, weekday_name};
+use crate::year::YearOrAny;
+use crate::{Day, EntryFault, MonthDays, Months, Weekday, Year, notation};
 use std::fmt;
 
 /// A date pattern: the days that each of its four fields names (clause 21).
@@ -10,10 +11,12 @@ use std::fmt;
 /// A pattern may name no day, as 31 February does, or a weekday that contradicts its date.
 #[derive(Clone, Copy, Debug, PartialEq, Eq, Hash)]
 pub struct Pattern {
-    pub years: Years,
+    /// The year, or any.
+    pub years: Option<Year>,
     pub months: Months,
     pub days: MonthDays,
-    pub weekdays: Weekdays,
+    /// The weekday, or any.
+    pub weekdays: Option<Weekday>,
 }
 
 impl Pattern {
@@ -27,8 +30,8 @@ impl Pattern {
         ensures { result ≡ pattern_at text.now }
     {
         let (date, weekday) = match notation::cut_at(text, "/") {
-            Some((date, weekday)) => (date, Weekdays::read_one(weekday).map(Weekdays::One)),
-            None => (text, Some(Weekdays::Any)),
+            Some((date, weekday)) => (date, read_weekday(weekday).map(Some)),
+            None => (text, Some(None)),
         };
         let DateFields {
             years,
@@ -44,11 +47,13 @@ impl Pattern {
         })
     }
 
-    /// A law: the numbers of a pattern are in range.
+    // A law: the numbers of a pattern are in range.
     pub(crate) fn in_range(&self)
         ensures { IsPattern self.now }
     {
-        self.years.number();
+        if let Some(year) = self.years {
+            year.number();
+        }
         self.months.number();
         self.days.number();
     }
@@ -57,10 +62,10 @@ impl Pattern {
     pub fn holds(&self, day: Day) -> bool
         ensures { result ≡ in_pattern self.now day }
     {
-        self.years.holds(day)
+        Year::holds_or_any(self.years, day)
             && self.months.holds(day)
             && self.days.holds(day)
-            && self.weekdays.holds(day)
+            && weekday_holds(self.weekdays, day)
     }
 }
 
@@ -71,10 +76,10 @@ impl fmt::Display for Pattern {
     ghost output = { λ x. Some (pattern_text x) };
 
     fn fmt<W: fmt::Write>(&self, f: &mut fmt::Formatter<W>) -> fmt::Result {
-        write!(f, "{}-{}-{}", self.years, self.months, self.days)?;
+        write!(f, "{}-{}-{}", YearOrAny(self.years), self.months, self.days)?;
         match self.weekdays {
-            Weekdays::Any => Ok(()),
-            Weekdays::One(weekday) => write!(f, "/{}", weekday_name(weekday)),
+            Some(weekday) => write!(f, "/{}", weekday_name(weekday)),
+            None => Ok(()),
         }
     }
 }

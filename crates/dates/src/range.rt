@@ -40,7 +40,7 @@ impl Range {
         }
     }
 
-    /// A law: the years of a range's ends are in range.
+    // A law: the years of a range's ends are in range.
     pub(crate) fn in_range(&self)
         ensures { IsRange self.now }
     {

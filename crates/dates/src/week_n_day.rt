@@ -1,14 +1,18 @@
 ghost use Rattle.std.specs.Prelude.{◌≡◌};
 
-use crate::{Day, EntryFault, Months, Weekdays, Weeks, notation};
+use crate::week::WeekOrAny;
+use crate::weekday::{WeekdayOrAny, read_weekday_or_any, weekday_holds};
+use crate::{Day, EntryFault, Months, Week, Weekday, notation};
 use std::fmt;
 
 /// A week-and-day, the standard's WeekNDay: the days of a weekday in a week of a month.
 #[derive(Clone, Copy, Debug, PartialEq, Eq, Hash)]
 pub struct WeekNDay {
     pub months: Months,
-    pub weeks: Weeks,
-    pub weekdays: Weekdays,
+    /// The week, or any.
+    pub weeks: Option<Week>,
+    /// The weekday, or any.
+    pub weekdays: Option<Weekday>,
 }
 
 impl WeekNDay {
@@ -23,8 +27,8 @@ impl WeekNDay {
     {
         let (months, weeks, weekdays) = notation::parts_at(text, ":").ok_or(EntryFault::Shape)?;
         let months = Months::read(months).ok_or(EntryFault::Month)?;
-        let weeks = Weeks::read(weeks).ok_or(EntryFault::Week)?;
-        let weekdays = Weekdays::read(weekdays).ok_or(EntryFault::Weekday)?;
+        let weeks = Week::read_or_any(weeks).ok_or(EntryFault::Week)?;
+        let weekdays = read_weekday_or_any(weekdays).ok_or(EntryFault::Weekday)?;
         Ok(WeekNDay {
             months,
             weeks,
@@ -32,7 +36,7 @@ impl WeekNDay {
         })
     }
 
-    /// A law: the numbers of a week-and-day are in range.
+    // A law: the numbers of a week-and-day are in range.
     pub(crate) fn in_range(&self)
         ensures { IsWeekNDay self.now }
     {
@@ -43,7 +47,9 @@ impl WeekNDay {
     pub fn holds(&self, day: Day) -> bool
         ensures { result ≡ in_week_n_day self.now day }
     {
-        self.months.holds(day) && self.weeks.holds(day) && self.weekdays.holds(day)
+        self.months.holds(day)
+            && Week::holds_or_any(self.weeks, day)
+            && weekday_holds(self.weekdays, day)
     }
 }
 
@@ -54,6 +60,7 @@ impl fmt::Display for WeekNDay {
     ghost output = { λ x. Some (week_n_day_text x) };
 
     fn fmt<W: fmt::Write>(&self, f: &mut fmt::Formatter<W>) -> fmt::Result {
-        write!(f, "wnd:{}:{}:{}", self.months, self.weeks, self.weekdays)
+        let (weeks, weekdays) = (WeekOrAny(self.weeks), WeekdayOrAny(self.weekdays));
+        write!(f, "wnd:{}:{}:{}", self.months, weeks, weekdays)
     }
 }

@@ -64,7 +64,8 @@ module _ {A : Type 0} (passes : A → Bool) (gives_way : A → A → Bool) (sett
   }
 
   -- the best stays where the next one fails, or is not given way to
-  Best-stays : (seen : List A) (best x : A) → later passes gives_way best x ≡ true → IsBest passes gives_way seen best → IsBest passes gives_way (seen ++ x ∷ []) best
+  Best-stays : (seen : List A) (best x : A) → later passes gives_way best x ≡ true → IsBest passes gives_way seen best
+      → IsBest passes gives_way (seen ++ x ∷ []) best
   Best-stays seen best x stays is = record {
     before = is.before;
     after = is.after ++ x ∷ [];
@@ -75,7 +76,8 @@ module _ {A : Type 0} (passes : A → Bool) (gives_way : A → A → Bool) (sett
   }
 
   -- or it gives way
-  Best-gives : (seen : List A) (best x : A) → passes x ≡ true → gives_way best x ≡ true → IsBest passes gives_way seen best → IsBest passes gives_way (seen ++ x ∷ []) x
+  Best-gives : (seen : List A) (best x : A) → passes x ≡ true → gives_way best x ≡ true → IsBest passes gives_way seen best
+      → IsBest passes gives_way (seen ++ x ∷ []) x
   Best-gives seen best x passed gives is = record {
     before = seen;
     after = [];
@@ -91,7 +93,8 @@ module _ {A : Type 0} (passes : A → Bool) (gives_way : A → A → Bool) (sett
     later_ones = refl;
   }
 
-  Best-kept : (seen : List A) (best : Option A) (x : A) → Best passes gives_way seen best → Best passes gives_way (seen ++ x ∷ []) (kept passes gives_way best x)
+  Best-kept : (seen : List A) (best : Option A) (x : A) → Best passes gives_way seen best
+      → Best passes gives_way (seen ++ x ∷ []) (kept passes gives_way best x)
   unfolding Best
   Best-kept seen None x is = elim (cases_Bool (passes x)) [
     | inl passed ↦ rw passed (Best-first seen x passed is)
@@ -105,7 +108,8 @@ module _ {A : Type 0} (passes : A → Bool) (gives_way : A → A → Bool) (sett
     ]
   ]
 
-  Best-all : (seen : List A) (best : Option A) (xs : List A) → Best passes gives_way seen best → Best passes gives_way (seen ++ xs) (best_from passes gives_way best xs)
+  Best-all : (seen : List A) (best : Option A) (xs : List A) → Best passes gives_way seen best
+      → Best passes gives_way (seen ++ xs) (best_from passes gives_way best xs)
   Best-all seen best [] is = subst (λ s. Best passes gives_way s best) (sym (append-nil seen)) is
   Best-all seen best (x ∷ xs) is =
       subst (λ s. Best passes gives_way s (best_from passes gives_way (kept passes gives_way best x) xs)) (append_assoc seen (x ∷ []) xs)
@@ -195,7 +199,8 @@ holds_if test None = true
 holds_if test (Some x) = test x
 
 module _ {A : Type 0} (passes : A → Bool) (gives_way : A → A → Bool) where
-  kept-holds : (test : A → Bool) (best : Option A) (x : A) → (passes x ≡ true → test x ≡ true) → holds_if test best ≡ true → holds_if test (kept passes gives_way best x) ≡ true
+  kept-holds : (test : A → Bool) (best : Option A) (x : A) → (passes x ≡ true → test x ≡ true) → holds_if test best ≡ true
+      → holds_if test (kept passes gives_way best x) ≡ true
   kept-holds test None x here held = elim (cases_Bool (passes x)) [
     | inl passed ↦ rw passed (here passed)
     | inr fails ↦ rw fails refl
@@ -208,7 +213,8 @@ module _ {A : Type 0} (passes : A → Bool) (gives_way : A → A → Bool) where
     ]
   ]
 
-  best_from-holds : (each test : A → Bool) → ((x : A) → each x ≡ true → passes x ≡ true → test x ≡ true) → (best : Option A) (xs : List A) → holds_if test best ≡ true
+  best_from-holds : (each test : A → Bool) → ((x : A) → each x ≡ true → passes x ≡ true → test x ≡ true)
+      → (best : Option A) (xs : List A) → holds_if test best ≡ true
       → list_all each xs ≡ true → holds_if test (best_from passes gives_way best xs) ≡ true
   best_from-holds each test follows best [] held all = held
   best_from-holds each test follows best (x ∷ xs) held all =
@@ -216,7 +222,8 @@ module _ {A : Type 0} (passes : A → Bool) (gives_way : A → A → Bool) where
       (kept-holds test best x (follows x (and_parts _ _ all).0) held) (and_parts _ _ all).1
 
   -- what follows for each element of the list that passes is so of the chosen one
-  pub chosen-holds : Settles gives_way → (each test : A → Bool) → ((x : A) → each x ≡ true → passes x ≡ true → test x ≡ true) → (xs : List A) → list_all each xs ≡ true
+  pub chosen-holds : Settles gives_way → (each test : A → Bool) → ((x : A) → each x ≡ true → passes x ≡ true → test x ≡ true)
+      → (xs : List A) → list_all each xs ≡ true
       → holds_if test (chosen passes gives_way xs) ≡ true
   chosen-holds settles each test follows xs all =
       ap (holds_if test) (chosen-best_from passes gives_way settles xs) ∙ best_from-holds each test follows None xs refl all

@@ -7,14 +7,8 @@ use Rattle.sched.specs.declared.day_list.TimeValue.{TimeValue}
 use Rattle.sched.specs.declared.time.TheConstants.{HUNDREDTHS_A_DAY}
 use Rattle.sched.specs.Segments.{begins_at, segment_at, segments_below, segments_of, last_value}
 use Rattle.std.proofs.lemmas.List.{append-nil}
+use Rattle.std.proofs.lemmas.List.Elements.{filter-append}
 use Rattle.sched.proofs.SegmentLemmas.{last_value-below}
-
-filter-append : (test : TimeValue → Bool) (xs ys : List TimeValue) → filter test (xs ++ ys) ≡ filter test xs ++ filter test ys
-filter-append test [] ys = refl
-filter-append test (x ∷ xs) ys = elim (test x) as (λ b. cond b (x ∷ filter test (xs ++ ys)) (filter test (xs ++ ys)) ≡ cond b (x ∷ filter test xs) (filter test xs) ++ filter test ys) [
-  | true ↦ ap (λ rest. x ∷ rest) (filter-append test xs ys)
-  | false ↦ filter-append test xs ys
-]
 
 abbrev up_to : ℕ → TimeValue → Bool
 up_to c segment = nat_le segment.time c
@@ -52,14 +46,16 @@ module _ (value : ℕ → Option ℤ) (c : ℕ) where
       let e : n ≡ suc c + (n - suc c) = omega arith in
       ap (λ m. filter (up_to c) (segments_below value m)) e ∙ filter-past (n - suc c)
 
-pub last_segment : (value : ℕ → Option ℤ) (c : ℕ) → c < HUNDREDTHS_A_DAY → last_value (filter (λ segment. nat_le segment.time c) (segments_of value)) ≡ Some (value c)
+pub last_segment : (value : ℕ → Option ℤ) (c : ℕ) → c < HUNDREDTHS_A_DAY
+    → last_value (filter (λ segment. nat_le segment.time c) (segments_of value)) ≡ Some (value c)
 unfolding segments_of
 last_segment value c h = ap last_value (filter-all value c HUNDREDTHS_A_DAY h) ∙ last_value-below value c
 
 not_between : (t a c : ℕ) → a ≤ c → (nat_lt a t && nat_le t c) ≡ false → nat_le t c ≡ nat_le t a
 not_between t a c h e = grind (arith, nat_tests)
 
-filter-same : (a c : ℕ) (xs : List TimeValue) → a ≤ c → list_any (λ segment. nat_lt a segment.time && nat_le segment.time c) xs ≡ false → filter (up_to c) xs ≡ filter (up_to a) xs
+filter-same : (a c : ℕ) (xs : List TimeValue) → a ≤ c
+    → list_any (λ segment. nat_lt a segment.time && nat_le segment.time c) xs ≡ false → filter (up_to c) xs ≡ filter (up_to a) xs
 filter-same a c [] h none = refl
 filter-same a c (x ∷ xs) h none =
     let same = not_between x.time a c h (or_parts (nat_lt a x.time && nat_le x.time c) _ none).0 in

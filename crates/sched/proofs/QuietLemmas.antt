@@ -95,7 +95,8 @@ exceptional-quiet calendars day c exceptions quiet =
     ap (option_and_then (λ (x : Exception). list_value x.times (suc c))) (exception_now-quiet calendars day c exceptions quiet)
     ∙ same_value_of (exception_now calendars day c exceptions) c (same_said calendars day c exceptions quiet)
 
-pub schedule_value-quiet : (schedule : Schedule) (calendars : List Calendar) (day : Date) (c : ℕ) → is_among (suc c) (named_times schedule calendars day) ≡ false
+pub schedule_value-quiet : (schedule : Schedule) (calendars : List Calendar) (day : Date) (c : ℕ)
+    → is_among (suc c) (named_times schedule calendars day) ≡ false
     → schedule_value schedule calendars day (suc c) ≡ schedule_value schedule calendars day c
 unfolding schedule_value
 schedule_value-quiet schedule calendars day c none =
@@ -108,7 +109,8 @@ schedule_value-quiet schedule calendars day c none =
     λ i. first_value (first i) (first_value (second i) schedule.default)
 
 -- the times that are named, once sorted, rise through the day's values
-pub Rises-sorted : (schedule : Schedule) (calendars : List Calendar) (day : Date) (times : List ℕ) → IsPermutation (named_times schedule calendars day) times → IsSorted nat_cmp times
+pub Rises-sorted : (schedule : Schedule) (calendars : List Calendar) (day : Date) (times : List ℕ)
+    → IsPermutation (named_times schedule calendars day) times → IsSorted nat_cmp times
     → Rises (λ c. schedule_value schedule calendars day c) times
 Rises-sorted schedule calendars day times permuted sorted = record {
   midnight = sym (list_any-IsPermutation (λ t. t == 0) (named_times schedule calendars day) times permuted);

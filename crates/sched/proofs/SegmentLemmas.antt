@@ -148,7 +148,8 @@ module _ (value : ℕ → Option ℤ) where
         let h = rises.up k j (omega (arith, long, inside)) (omega (arith, long)) in λ e. omega (arith, h, e, from)))
 
     -- after the last time no segment begins
-    pub covered-all : (n i : ℕ) → i ≡ length times → ((k : ℕ) → k < length times → get_or times k 0 < n) → segments_below value (covered times i) ≡ segments_below value n
+    pub covered-all : (n i : ℕ) → i ≡ length times → ((k : ℕ) → k < length times → get_or times k 0 < n)
+        → segments_below value (covered times i) ≡ segments_below value n
     covered-all n zero e below = let place = place_of times 0 rises.midnight in absurd (omega (arith, place.within, e))
     covered-all n (suc j) e below =
         let within : j < length times = omega (arith, e) in

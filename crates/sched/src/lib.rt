@@ -2,6 +2,11 @@
 //!
 //! Calendars and schedules (ANSI/ASHRAE 135-2016, 12.9 and 12.24, in this desk's profile): the value by
 //! exceptions, weekly lists and default, and the moments of a day at which it changes.
+//!
+//! A `Schedule` holds exceptions, a `DayList` of time values for each weekday, and a default. An
+//! `Exception` is in effect on the days of its `Period`, which is an entry of `dates` or a `Calendar` that
+//! is handed in. A day and a `Time` go in, and the value comes out; a day alone gives its segments, each
+//! the time from which a value stands.
 #![tactic(auto)]
 
 pub use calendar::{CalId, Calendar};
@@ -20,6 +25,4 @@ mod exception;
 mod laws;
 mod schedule;
 mod segments;
-#[cfg(test)]
-mod tests;
 mod time;

@@ -10,7 +10,7 @@ use crate::calendar::Calendar;
 use crate::day_list::TimeValue;
 use crate::exception::Exception;
 use crate::schedule::Schedule;
-use crate::time::Time;
+use crate::time::{HUNDREDTHS_A_DAY, Time};
 use dates::Day;
 use std::alloc::{AllocError, Global};
 
@@ -103,7 +103,7 @@ impl Schedule {
         times.sort()?;
         let mut segments = Vec::new(alloc);
         for time in &times {
-            time.in_day();
+            prove!(time.hundredths() < HUNDREDTHS_A_DAY);
             let value = self.value_now(calendars, day, *time);
             push_change(&mut segments, TimeValue { time: *time, value })?;
         }

@@ -42,13 +42,6 @@ impl Time {
         }
     }
 
-    // A law: a time is on its day.
-    pub(crate) fn in_day(self)
-        ensures { self < 8_640_000 }
-    {
-        let _ = self.hundredths;
-    }
-
     /// The hundredths of a second since midnight.
     pub fn hundredths(self) -> u32
         ensures value { result ≡ self }

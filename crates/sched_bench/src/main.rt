@@ -2,14 +2,13 @@
 //! effect. With no word it measures nothing, and prints one line that never varies.
 #![tactic(auto)]
 
-use anyhow::{Context, Result};
-use dates::{Day, Entry, Range};
+use dates::{Day, Entry, MonthDays, Months, Pattern, Range};
 use listing::Listing;
 use sched::{DayList, Exception, Period, Schedule, Time, TimeValue};
-use std::alloc::Global;
-use std::env;
+use std::alloc::{AllocError, Global};
 use std::rt::{Clock, Env};
 use std::time::Instant;
+use std::{array, env, io};
 
 const EXCEPTIONS: u8 = 100;
 
@@ -19,59 +18,74 @@ const VALUES: u32 = 2_000;
 
 const DAYS: u32 = 3;
 
-fn list(alloc: Global, shift: u8) -> Result<DayList> {
+fn list(alloc: Global, shift: u8) -> Result<DayList, AllocError> {
     let mut time_values = Vec::new(alloc);
     for place in 0..TIME_VALUES {
         let hundredths = place * 86_000 + u32::from(shift) * 700;
         time_values.push(TimeValue {
-            time: Time::new(hundredths).context("a time of the day")?,
+            time: Time::new(hundredths).unwrap_or(Time::MIDNIGHT),
             value: Some(i64::from(place % 7)),
         })?;
     }
     Ok(DayList::from_vec(time_values))
 }
 
-fn schedule(alloc: Global) -> Result<Schedule> {
-    let every_day = Entry::read("*-*-*").ok().context("an entry")?;
+fn exceptions(alloc: Global, period: Period) -> Result<Listing<Exception>, AllocError> {
     let mut exceptions = Vec::new(alloc);
     for place in 0..EXCEPTIONS {
         exceptions.push(Exception {
-            period: Period::Entry(every_day),
+            period,
             event_priority: 16 - place % 16,
             times: list(alloc, place)?,
         })?;
     }
+    Ok(Listing::from_vec(exceptions))
+}
+
+fn schedule(alloc: Global) -> Result<Schedule, AllocError> {
+    let every_day = Entry::Pattern(Pattern {
+        years: None,
+        months: Months::Any,
+        days: MonthDays::Any,
+        weekdays: None,
+    });
     Ok(Schedule {
         effective_period: Range {
             start: None,
             end: None,
         },
-        weekly: [
-            list(alloc, 0)?,
-            list(alloc, 0)?,
-            list(alloc, 0)?,
-            list(alloc, 0)?,
-            list(alloc, 0)?,
-            list(alloc, 0)?,
-            list(alloc, 0)?,
-        ],
-        exceptions: Listing::from_vec(exceptions),
+        weekly: array::try_from_fn(|_| list(alloc, 0))?,
+        exceptions: exceptions(alloc, Period::Entry(every_day))?,
         default: None,
     })
 }
 
-fn measure_value_now<R: Clock + Print>(rt: &R, schedule: &Schedule, day: Day) -> Result<()> {
-    let start = Instant::now(rt)?;
+// How many of the times have a value.
+fn count_values(schedule: &Schedule, day: Day) -> u32 {
     let mut known = 0u32;
     for place in 0..VALUES {
-        let time = Time::new(place * 4_000).context("a time of the day")?;
+        let time = Time::new(place * 4_000).unwrap_or(Time::MIDNIGHT);
         if schedule.value_now(&[], day, time).is_some() {
             known = known.saturating_add(1);
         }
     }
+    known
+}
+
+// The most segments that a day has.
+fn count_segments(alloc: Global, schedule: &Schedule, day: Day) -> Result<usize, AllocError> {
+    let mut most = 0usize;
+    for _ in 0..DAYS {
+        most = most.max(schedule.segments(alloc, &[], day)?.len());
+    }
+    Ok(most)
+}
+
+fn measure_value_now<R: Clock + Print>(rt: &R, schedule: &Schedule, day: Day) -> io::Result<()> {
+    let start = Instant::now(rt)?;
+    let known = count_values(schedule, day);
     let micros = start.elapsed(rt)?.as_micros();
-    println!(rt; "value_now: {VALUES} calls in {micros} microseconds, {known} with a value")?;
-    Ok(())
+    println!(rt; "value_now: {VALUES} calls in {micros} microseconds, {known} with a value")
 }
 
 fn measure_segments<R: Clock + Print>(
@@ -79,28 +93,28 @@ fn measure_segments<R: Clock + Print>(
     alloc: Global,
     schedule: &Schedule,
     day: Day,
-) -> Result<()> {
+) -> io::Result<()> {
     let start = Instant::now(rt)?;
-    let mut most = 0usize;
-    for _ in 0..DAYS {
-        most = most.max(schedule.segments(alloc, &[], day)?.len());
-    }
+    let most = count_segments(alloc, schedule, day)?;
     let micros = start.elapsed(rt)?.as_micros();
-    println!(rt; "segments: {DAYS} calls in {micros} microseconds, {most} segments each")?;
-    Ok(())
+    println!(rt; "segments: {DAYS} calls in {micros} microseconds, {most} segments each")
 }
 
-fn run<R: Clock + Print + Env + AllocGlobal>(rt: &R) -> Result<()> {
-    if env::args(rt)?.count() < 2 {
-        println!(rt; "a word measures the schedules")?;
-        return Ok(());
-    }
+fn measure<R: Clock + Print + AllocGlobal>(rt: &R) -> io::Result<()> {
     let schedule = schedule(rt.alloc())?;
-    let day = Day::new(2025, 6, 2).context("a day")?;
-    measure_value_now(rt, &schedule, day)?;
-    measure_segments(rt, rt.alloc(), &schedule, day)
+    match Day::new(2025, 6, 2) {
+        Some(day) => {
+            measure_value_now(rt, &schedule, day)?;
+            measure_segments(rt, rt.alloc(), &schedule, day)
+        }
+        None => Ok(()),
+    }
 }
 
-fn main(rt: HostRuntime) -> Result<()> {
-    run(&rt)
+fn main(rt: HostRuntime) -> io::Result<()> {
+    if env::args(&rt)?.count() < 2 {
+        println!(rt; "a word measures the schedules")
+    } else {
+        measure(&rt)
+    }
 }

@@ -41,7 +41,7 @@ loop-time-preserved c =
     record {
       so_far = stepped (λ t. schedule_value c.args.self.now c.args.calendars.now c.args.day t) times rises i c.time-item.result c.value_now-value.result
           c.loop-time.segments.items c.push_change.new.segments.items within is c.value_now-value.ensures c.loop-time.invariant.so_far c.in_ok-push_change.ensures;
-      in_day = below_more _ _ c.loop-time.invariant.in_day (subst (λ t. t < HUNDREDTHS_A_DAY) is c.in_day.ensures);
+      in_day = below_more _ _ c.loop-time.invariant.in_day (subst (λ t. t < HUNDREDTHS_A_DAY) is (rw c.hundredths.ensures.value at c.hundredths.ensures.within));
     }
 
 pub returns : goal.returns

@@ -1,4 +1,4 @@
-use crate::{Day, Entry};
+use dates::{Day, Entry};
 use std::process::Abort;
 use std::test::Fail;
 
@@ -130,33 +130,54 @@ const MONTHS: [(i32, u8, u8, u8); 24] = [
     (2025, 12, 0, 31),
 ];
 
+fn assert_days_of_month(rt: &impl Abort, (year, month, first, last): (i32, u8, u8, u8)) {
+    let last_days = entry(rt, "*-*-last");
+    for of_month in 1..32u8 {
+        let weekday = (u64::from(first) + u64::from(of_month) - 1) % 7;
+        let left = last.checked_sub(of_month);
+        let wanted = left.map(|left| (weekday, left, left == 0));
+        let found = Day::new(year, month, of_month).map(|day| {
+            (
+                u64::from(day.weekday().index()),
+                day.days_left_in_month(),
+                last_days.holds(day),
+            )
+        });
+        assert_eq!(rt; found, wanted, "{year}-{month}-{of_month}");
+    }
+}
+
 #[test]
 fn every_day_of_two_years(rt: HostRuntime) {
-    let (last_days, leap_days) = (entry(&rt, "*-*-last"), entry(&rt, "*-02-29"));
-    let always = [entry(&rt, "*..*"), entry(&rt, "*-*-*")];
-    let never = [
-        entry(&rt, "1900-02-29"),
-        entry(&rt, "2025-02-31"),
-        entry(&rt, "2025-12-25/fri"),
-        entry(&rt, "2025-06-02..2025-06-01"),
-    ];
-    for (year, month, first, last) in MONTHS {
+    for month in MONTHS {
+        assert_days_of_month(&rt, month);
+    }
+}
+
+fn days_held(entry: Entry) -> u64 {
+    let mut days = 0u64;
+    for (year, month, _, _) in MONTHS {
         for of_month in 1..32u8 {
-            let found = Day::new(year, month, of_month);
-            assert_eq!(rt; found.is_some(), of_month <= last);
-            let Some(day) = found else {
-                continue;
-            };
-            let weekday = (u32::from(first) + u32::from(of_month) - 1) % 7;
-            assert_eq!(rt; u32::from(day.weekday().index()), weekday, "{day}");
-            let left = u32::from(day.days_left_in_month());
-            assert_eq!(rt; left + u32::from(of_month), u32::from(last), "{day}");
-            assert_eq!(rt; last_days.holds(day), of_month == last, "{day}");
-            let leap = year == 2024 && month == 2 && of_month == 29;
-            assert_eq!(rt; leap_days.holds(day), leap, "{day}");
-            assert!(rt; always.iter().all(|entry| entry.holds(day)), "{day}");
-            assert!(rt; !never.iter().any(|entry| entry.holds(day)), "{day}");
+            let holds = Day::new(year, month, of_month).is_some_and(|day| entry.holds(day));
+            days = days.saturating_add(u64::from(holds));
         }
+    }
+    days
+}
+
+#[test]
+fn how_many_days_of_2024_and_2025_an_entry_holds_on(rt: HostRuntime) {
+    for (text, days) in [
+        ("*..*", 731),
+        ("*-*-*", 731),
+        ("*-*-last", 24),
+        ("*-02-29", 1),
+        ("1900-02-29", 0),
+        ("2025-02-31", 0),
+        ("2025-12-25/fri", 0),
+        ("2025-06-02..2025-06-01", 0),
+    ] {
+        assert_eq!(rt; days_held(entry(&rt, text)), days, "{text}");
     }
 }
 

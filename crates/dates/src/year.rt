@@ -22,6 +22,9 @@ impl Model for Year {
 }
 
 impl Year {
+    ghost use Rattle.dates.specs.HoldsOn.{in_years};
+    ghost use Rattle.dates.specs.FieldAt.{years_at};
+
     /// The year with this number, where it is 1900 to 2154.
     pub fn new(number: u16) -> Option<Year>
         ensures valid { IsSome result ↔ IsInRange 1900 2154 number }
@@ -41,50 +44,25 @@ impl Year {
     {
         self.number
     }
-}
 
-/// The years that a date pattern names.
-#[derive(Clone, Copy, Debug, PartialEq, Eq, Hash)]
-pub enum Years {
-    Any,
-    One(Year),
-}
-
-impl Years {
-    ghost use Rattle.dates.specs.HoldsOn.{in_years};
-    ghost use Rattle.dates.specs.FieldAt.{years_at};
-    ghost use Rattle.dates.specs.OneDay.{one_year};
-    ghost use Rattle.dates.specs.IsEntry.{AreYears};
-
-    /// Reads four digits, or `*`.
+    /// Reads four digits, or `*` for any year.
     #[tactic(auto, unfolding(crate::specs::FieldAt::years_at))]
-    pub(crate) fn read(text: &str) -> Option<Years>
+    pub(crate) fn read_or_any(text: &str) -> Option<Option<Year>>
         ensures { result ≡ years_at text.now }
     {
         match text {
-            "*" => Some(Years::Any),
-            _ => Some(Years::One(Year::new(notation::four_digits(text)?)?)),
+            "*" => Some(None),
+            _ => Some(Some(Year::new(notation::four_digits(text)?)?)),
         }
     }
 
-    /// The number of the year, where the field names one alone.
-    pub(crate) fn number(self) -> Option<u16>
-        ensures value { result ≡ one_year self }
-        ensures range { AreYears self }
+    /// Whether the day's year is the one named, or any is.
+    pub(crate) fn holds_or_any(years: Option<Year>, day: Day) -> bool
+        ensures { result ≡ in_years years day }
     {
-        match self {
-            Years::One(year) => Some(year.number()),
-            _ => None,
-        }
-    }
-
-    /// Whether the day's year is one of these.
-    pub(crate) fn holds(self, day: Day) -> bool
-        ensures { result ≡ in_years self day }
-    {
-        match self {
-            Years::Any => true,
-            Years::One(year) => day.year() == year.number(),
+        match years {
+            Some(year) => day.year() == year.number(),
+            None => true,
         }
     }
 }
@@ -100,16 +78,20 @@ impl fmt::Display for Year {
     }
 }
 
-impl fmt::Display for Years {
+/// A year or any, as it is written.
+#[derive(Clone, Copy)]
+pub(crate) struct YearOrAny(pub(crate) Option<Year>);
+
+impl fmt::Display for YearOrAny {
     ghost use Rattle.std.specs.Prelude.{Some};
     ghost use Rattle.dates.specs.Spelling.{years_text};
 
-    ghost output = { λ x. Some (years_text x) };
+    ghost output = { λ x. Some (years_text x.0) };
 
     fn fmt<W: fmt::Write>(&self, f: &mut fmt::Formatter<W>) -> fmt::Result {
-        match self {
-            Years::Any => f.write_str("*"),
-            Years::One(year) => year.fmt(f),
+        match self.0 {
+            Some(year) => year.fmt(f),
+            None => f.write_str("*"),
         }
     }
 }

@@ -29,8 +29,8 @@ pub enum Week {
 }
 
 impl Week {
-    ghost use Rattle.dates.specs.HoldsOn.{in_week};
-    ghost use Rattle.dates.specs.FieldAt.{week_at};
+    ghost use Rattle.dates.specs.HoldsOn.{in_week, in_weeks};
+    ghost use Rattle.dates.specs.FieldAt.{week_at, weeks_at};
 
     /// Reads one digit.
     #[tactic(auto, unfolding(crate::specs::FieldAt::week_at))]
@@ -52,7 +52,7 @@ impl Week {
     }
 
     /// Whether the day lies in this week of its month.
-    pub(crate) fn holds(self, day: Day) -> bool
+    fn holds(self, day: Day) -> bool
         ensures { result ≡ in_week self day }
     {
         let weeks_before = (day.day_of_month() - 1) / 7;
@@ -69,37 +69,25 @@ impl Week {
             Week::FourthLast => weeks_after == 3,
         }
     }
-}
 
-/// The weeks that a week-and-day names.
-#[derive(Clone, Copy, Debug, PartialEq, Eq, Hash)]
-pub enum Weeks {
-    Any,
-    One(Week),
-}
-
-impl Weeks {
-    ghost use Rattle.dates.specs.HoldsOn.{in_weeks};
-    ghost use Rattle.dates.specs.FieldAt.{weeks_at};
-
-    /// Reads one digit, or `*`.
+    /// Reads one digit, or `*` for any week.
     #[tactic(auto, unfolding(crate::specs::FieldAt::weeks_at))]
-    pub(crate) fn read(text: &str) -> Option<Weeks>
+    pub(crate) fn read_or_any(text: &str) -> Option<Option<Week>>
         ensures { result ≡ weeks_at text.now }
     {
         match text {
-            "*" => Some(Weeks::Any),
-            _ => Some(Weeks::One(Week::read(text)?)),
+            "*" => Some(None),
+            _ => Some(Some(Week::read(text)?)),
         }
     }
 
-    /// Whether the day lies in one of these weeks of its month.
-    pub(crate) fn holds(self, day: Day) -> bool
-        ensures { result ≡ in_weeks self day }
+    /// Whether the day lies in the week named of its month, or in any.
+    pub(crate) fn holds_or_any(weeks: Option<Week>, day: Day) -> bool
+        ensures { result ≡ in_weeks weeks day }
     {
-        match self {
-            Weeks::Any => true,
-            Weeks::One(week) => week.holds(day),
+        match weeks {
+            Some(week) => week.holds(day),
+            None => true,
         }
     }
 }
@@ -125,16 +113,20 @@ impl fmt::Display for Week {
     }
 }
 
-impl fmt::Display for Weeks {
+/// A week or any, as it is written.
+#[derive(Clone, Copy)]
+pub(crate) struct WeekOrAny(pub(crate) Option<Week>);
+
+impl fmt::Display for WeekOrAny {
     ghost use Rattle.std.specs.Prelude.{Some};
     ghost use Rattle.dates.specs.Spelling.{weeks_text};
 
-    ghost output = { λ x. Some (weeks_text x) };
+    ghost output = { λ x. Some (weeks_text x.0) };
 
     fn fmt<W: fmt::Write>(&self, f: &mut fmt::Formatter<W>) -> fmt::Result {
-        match self {
-            Weeks::Any => f.write_str("*"),
-            Weeks::One(week) => week.fmt(f),
+        match self.0 {
+            Some(week) => week.fmt(f),
+            None => f.write_str("*"),
         }
     }
 }

@@ -2,7 +2,7 @@
 use Rattle.std.proofs.Common.{arith}
 use Rattle.std.proofs.Output.{has_written_of_eq}
 use Rattle.dates.proofs.DigitLemmas.{decimal-four}
-use Rattle.dates.proofs.years.YearDisplay.fmt.Goals as goal
+use Rattle.dates.proofs.year.YearDisplay.fmt.Goals as goal
 
 pub returns-clause-writes : goal.returns-clause-writes
 returns-clause-writes g c = λ plain ok.
