@@ -6,7 +6,7 @@ BUILDING := examples/two-points.toml
 DELIVERIES := examples/first-commands.jsonl
 SOURCES := $(shell find crates -name out -prune -o \( -name '*.rt' -o -name '*.antt' \) -print) crates.txt
 
-.PHONY: run desk test bench install clean toolchain
+.PHONY: run desk test wrong-bodies bench install clean toolchain
 
 run: build/desk
 	build/desk replay $(BUILDING) $(DELIVERIES)
@@ -22,6 +22,9 @@ build/desk: $(SOURCES) | toolchain
 
 test: | toolchain
 	@python3 scripts/gate
+
+wrong-bodies: | toolchain
+	@python3 scripts/wrong_bodies
 
 bench: build/desk
 	@python3 scripts/bench.py
