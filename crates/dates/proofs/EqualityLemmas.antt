@@ -77,13 +77,13 @@ same_weeks _ _ e = absurd (false≢true e)
 
 same_pattern : (a b : Pattern) → pattern_eq.ghosts.eq a b ≡ true → a ≡ b
 same_pattern a b e =
-    let years = same_years a.years b.years (first_so (years_eq a.years b.years) _ e) in
-    let later = second_so (years_eq a.years b.years) _ e in
+    let years = same_years a.year b.year (first_so (years_eq a.year b.year) _ e) in
+    let later = second_so (years_eq a.year b.year) _ e in
     let months = same_months a.months b.months (first_so (months_eq.ghosts.eq a.months b.months) _ later) in
     let rest = second_so (months_eq.ghosts.eq a.months b.months) _ later in
     let days = same_month_days a.days b.days (first_so (month_days_eq.ghosts.eq a.days b.days) _ rest) in
-    let weekdays = same_weekdays a.weekdays b.weekdays (second_so (month_days_eq.ghosts.eq a.days b.days) _ rest) in
-    λ i. record { years = years i; months = months i; days = days i; weekdays = weekdays i }
+    let weekdays = same_weekdays a.weekday b.weekday (second_so (month_days_eq.ghosts.eq a.days b.days) _ rest) in
+    λ i. record { year = years i; months = months i; days = days i; weekday = weekdays i }
 
 abbrev day_eq : Date → Date → Bool
 day_eq a b = int_eq (epoch_day a) (epoch_day b)
@@ -104,9 +104,9 @@ same_week_n_day : (a b : WeekNDay) → week_n_day_eq.ghosts.eq a b ≡ true → 
 same_week_n_day a b e =
     let months = same_months a.months b.months (first_so (months_eq.ghosts.eq a.months b.months) _ e) in
     let later = second_so (months_eq.ghosts.eq a.months b.months) _ e in
-    let weeks = same_weeks a.weeks b.weeks (first_so (weeks_eq a.weeks b.weeks) _ later) in
-    let weekdays = same_weekdays a.weekdays b.weekdays (second_so (weeks_eq a.weeks b.weeks) _ later) in
-    λ i. record { months = months i; weeks = weeks i; weekdays = weekdays i }
+    let weeks = same_weeks a.week b.week (first_so (weeks_eq a.week b.week) _ later) in
+    let weekdays = same_weekdays a.weekday b.weekday (second_so (weeks_eq a.week b.week) _ later) in
+    λ i. record { months = months i; week = weeks i; weekday = weekdays i }
 
 same_entry : (a b : Entry) → entry_eq.ghosts.eq a b ≡ true → a ≡ b
 same_entry (entry.Pattern p) (entry.Pattern q) e = ap entry.Pattern (same_pattern p q e)

@@ -79,9 +79,9 @@ three_same : (mark : Text) (p : Text × Text × Text) (x y z : Text) → p.0 ≡
 three_same mark p x y z ex ey ez = rw (ex, ey, ez) refl
 
 abbrev IsDateFields : DateFields → Type 0
-IsDateFields f = AreYears f.years × AreMonths f.months × AreMonthDays f.days
+IsDateFields f = AreYears f.year × AreMonths f.months × AreMonthDays f.days
 
-date_fields_at-ok : (text : Text) (f : DateFields) → date_fields_at text ≡ Ok f → (text ≡ date_fields_text f.years f.months f.days) × IsDateFields f
+date_fields_at-ok : (text : Text) (f : DateFields) → date_fields_at text ≡ Ok f → (text ≡ date_fields_text f.year f.months f.days) × IsDateFields f
 unfolding date_fields_at
 date_fields_at-ok text f e =
     let parts = field-ok (parts_at (codes "-") text) fault.Shape _ f e in
@@ -91,9 +91,9 @@ date_fields_at-ok text f e =
     let y = years_at-some parts.0.0 years.0 years.1 in
     let m = months_at-some parts.0.1 months.0 months.1 in
     let d = month_days_at-some parts.0.2 days.0 days.1 in
-    let made : DateFields = record { years = years.0; months = months.0; days = days.0 } in
+    let made : DateFields = record { year = years.0; months = months.0; days = days.0 } in
     let same : made ≡ f = cc in
-    let P : DateFields → Type 0 = λ f. (text ≡ date_fields_text f.years f.months f.days) × IsDateFields f in
+    let P : DateFields → Type 0 = λ f. (text ≡ date_fields_text f.year f.months f.days) × IsDateFields f in
     subst P same (parts_at-some (codes "-") text parts.0 parts.1 ∙ three_same (codes "-") parts.0 _ _ _ y.0 m.0 d.0, (y.1, m.1, d.1))
 
 -- a pattern's text, by its first `/`
@@ -116,7 +116,7 @@ pattern_at-ok text p e =
     let weekdays = field-ok (weekday_part text) fault.Weekday _ p date.2 in
     let fields = date_fields_at-ok (date_part text) date.0 date.1 in
     let whole = pattern_parts text (cut_at (codes "/") text) weekdays.0 refl weekdays.1 in
-    let made : Pattern = record { years = date.0.years; months = date.0.months; days = date.0.days; weekdays = weekdays.0 } in
+    let made : Pattern = record { year = date.0.year; months = date.0.months; days = date.0.days; weekday = weekdays.0 } in
     let same : made ≡ p = cc in
     let P : Pattern → Type 0 = λ p. (text ≡ pattern_text p) × IsPattern p in
     subst P same (whole ∙ ap (λ t. t ++ weekday_suffix weekdays.0) fields.0, fields.1)
@@ -153,13 +153,13 @@ unfolding full_date_at one_day
 full_date_at-ok text day e = by_test (is_some (cut_at (codes "/") text)) e
   where
     by_test : (test : Bool)
-        → cond {A = Result Date EntryFault} test (Err fault.Shape) (date_fields_at text >>= λ date. one_day date.years date.months date.days) ≡ Ok day
+        → cond {A = Result Date EntryFault} test (Err fault.Shape) (date_fields_at text >>= λ date. one_day date.year date.months date.days) ≡ Ok day
         → (text ≡ day_text day) × IsBetween (pos 1900) (pos 2154) day.year
     by_test true e = let bad : ⊥ = cc in absurd bad
     by_test false e =
-        let date = then-ok (date_fields_at text) (λ date. one_day date.years date.months date.days) day e in
+        let date = then-ok (date_fields_at text) (λ date. one_day date.year date.months date.days) day e in
         let fields = date_fields_at-ok text date.0 date.1 in
-        let y = field-ok date.0.years fault.HalfSpecified _ day date.2 in
+        let y = field-ok date.0.year fault.HalfSpecified _ day date.2 in
         let m = field-ok (one_month date.0.months) fault.HalfSpecified _ day y.2 in
         let d = field-ok (one_month_day date.0.days) fault.HalfSpecified _ day m.2 in
         let parts = day_of-is y.0 m.0 d.0 day (ok_or-ok _ fault.Day day d.2) in
@@ -207,7 +207,7 @@ week_n_day_at-ok text w e =
     let m = months_at-some parts.0.0 months.0 months.1 in
     let k = weeks_at-some parts.0.1 weeks.0 weeks.1 in
     let d = weekdays_at-some parts.0.2 weekdays.0 weekdays.1 in
-    let made : WeekNDay = record { months = months.0; weeks = weeks.0; weekdays = weekdays.0 } in
+    let made : WeekNDay = record { months = months.0; week = weeks.0; weekday = weekdays.0 } in
     let same : made ≡ w = cc in
     let P : WeekNDay → Type 0 = λ w. (codes "wnd:" ++ text ≡ week_n_day_text w) × IsWeekNDay w in
     subst P same (ap (λ t. codes "wnd:" ++ t) (parts_at-some (codes ":") text parts.0 parts.1 ∙ three_same (codes ":") parts.0 _ _ _ m.0 k d), m.1)

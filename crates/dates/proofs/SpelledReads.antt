@@ -143,7 +143,7 @@ parts_at-text c x y z hx hy hz =
     rw (cut_at-lacking c [] x (y ++ (c ∷ z)) hx, cut_at-lacking c [] y z hy, cut_at-absent c [] z hz) refl
 
 pub date_fields_at-text : (y : Option ℕ) (m : Months) (d : MonthDays) → AreYears y → AreMonths m → AreMonthDays d
-    → date_fields_at (date_fields_text y m d) ≡ Ok (record { years = y; months = m; days = d })
+    → date_fields_at (date_fields_text y m d) ≡ Ok (record { year = y; months = m; days = d })
 unfolding date_fields_at
 date_fields_at-text y m d hy hm hd =
     rw (
@@ -154,7 +154,7 @@ date_fields_at-text y m d hy hm hd =
     ) refl
 
 pattern_at-fields : (y : Option ℕ) (m : Months) (d : MonthDays) (w : Option Weekday) → AreYears y → AreMonths m → AreMonthDays d
-    → pattern_at (date_fields_text y m d ++ weekday_suffix w) ≡ Ok (record { years = y; months = m; days = d; weekdays = w })
+    → pattern_at (date_fields_text y m d ++ weekday_suffix w) ≡ Ok (record { year = y; months = m; days = d; weekday = w })
 unfolding pattern_at date_part weekday_part
 pattern_at-fields y m d None hy hm hd =
     let text = date_fields_text y m d in
@@ -164,7 +164,7 @@ pattern_at-fields y m d (Some w) hy hm hd =
     rw (cut_at-lacking 47 [] text (weekday_text w) (lacks-date_fields 47 slash (omega arith) y m d), date_fields_at-text y m d hy hm hd, weekday_at-text w) refl
 
 pub pattern_at-text : (p : Pattern) → IsPattern p → pattern_at (pattern_text p) ≡ Ok p
-pattern_at-text p h = pattern_at-fields p.years p.months p.days p.weekdays h.0 h.1 h.2
+pattern_at-text p h = pattern_at-fields p.year p.months p.days p.weekday h.0 h.1 h.2
 
 pub year_number : (year : ℤ) → pos 1900 ≤ℤ year → pos (unsigned_abs year) ≡ year
 year_number (pos n) h = refl
@@ -206,7 +206,7 @@ lacks_dot-end (Some day) =
     lacks-date_fields 46 dot (omega arith) (Some (unsigned_abs day.year)) (month.One day.month) (month_day.One day.day)
 
 week_n_day_at-fields : (m : Months) (k : Option Week) (w : Option Weekday) → AreMonths m
-    → week_n_day_at (months_text m ++ (58 ∷ (weeks_text k ++ (58 ∷ weekdays_text w)))) ≡ Ok (record { months = m; weeks = k; weekdays = w })
+    → week_n_day_at (months_text m ++ (58 ∷ (weeks_text k ++ (58 ∷ weekdays_text w)))) ≡ Ok (record { months = m; week = k; weekday = w })
 unfolding week_n_day_at
 week_n_day_at-fields m k w h =
     rw (
@@ -242,10 +242,10 @@ own_prefix mark rest = rw (starts_with-append mark rest, drop-append_seam mark r
 pub reading-text : (e : Entry) → IsEntry e → reading (spelling e) ≡ Ok e
 unfolding reading dates_at range_at spelling
 reading-text (entry.Pattern p) h =
-    let y = p.years in
+    let y = p.year in
     rw (
-      other_prefix-years y _ (weekday_suffix p.weekdays) h.0,
-      cut_at-absent 46 (codes ".") (pattern_text p) (lacks-append 46 (date_fields_text y p.months p.days) (weekday_suffix p.weekdays) (lacks-date_fields 46 dot (omega arith) y p.months p.days) (lacks_dot-suffix p.weekdays)),
+      other_prefix-years y _ (weekday_suffix p.weekday) h.0,
+      cut_at-absent 46 (codes ".") (pattern_text p) (lacks-append 46 (date_fields_text y p.months p.days) (weekday_suffix p.weekday) (lacks-date_fields 46 dot (omega arith) y p.months p.days) (lacks_dot-suffix p.weekday)),
       pattern_at-text p h,
     ) refl
 reading-text (entry.Range r) h =
@@ -257,6 +257,6 @@ reading-text (entry.Range r) h =
     ) refl
 reading-text (entry.WeekNDay w) h =
     rw (
-      own_prefix (codes "wnd:") (months_text w.months ++ (codes ":" ++ (weeks_text w.weeks ++ (codes ":" ++ weekdays_text w.weekdays)))),
-      week_n_day_at-fields w.months w.weeks w.weekdays h,
+      own_prefix (codes "wnd:") (months_text w.months ++ (codes ":" ++ (weeks_text w.week ++ (codes ":" ++ weekdays_text w.weekday)))),
+      week_n_day_at-fields w.months w.week w.weekday h,
     ) refl

@@ -64,8 +64,8 @@ in_weeks (Some which) day = in_week which day
 -- the days that each field names
 abbrev pub in_pattern : Pattern → Date → Bool
 in_pattern p day =
-    in_years p.years day && in_months p.months day && in_month_days p.days day
-    && in_weekdays p.weekdays day
+    in_years p.year day && in_months p.months day && in_month_days p.days day
+    && in_weekdays p.weekday day
 
 -- the days at or after the start, if there is one
 abbrev pub is_from : Option Date → Date → Bool
@@ -83,7 +83,7 @@ in_range r day = is_from r.start day && is_up_to r.end day
 
 -- the days that each field names
 abbrev pub in_week_n_day : WeekNDay → Date → Bool
-in_week_n_day w day = in_months w.months day && in_weeks w.weeks day && in_weekdays w.weekdays day
+in_week_n_day w day = in_months w.months day && in_weeks w.week day && in_weekdays w.weekday day
 
 -- the days of an entry
 unfoldable pub holds_on : Entry → Date → Bool

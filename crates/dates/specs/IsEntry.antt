@@ -30,7 +30,7 @@ AreMonthDays month_day.Even = Unit {0}
 AreMonthDays (month_day.One number) = IsInRange 1 31 number
 
 abbrev pub IsPattern : Pattern → Type 0
-IsPattern p = AreYears p.years × AreMonths p.months × AreMonthDays p.days
+IsPattern p = AreYears p.year × AreMonths p.months × AreMonthDays p.days
 
 abbrev pub IsRange : Range → Type 0
 IsRange r = IsRangeEnd r.start × IsRangeEnd r.end

@@ -21,10 +21,10 @@ use Rattle.dates.specs.Then.{◌>>=◌}
 unfoldable pub date_fields_at : Text → Result DateFields EntryFault
 date_fields_at text = do
   parts ← ok_or (parts_at (codes "-") text) fault.Shape
-  years ← ok_or (years_at parts.0) fault.Year
+  year ← ok_or (years_at parts.0) fault.Year
   months ← ok_or (months_at parts.1) fault.Month
   days ← ok_or (month_days_at parts.2) fault.Day
-  Ok (record { years = years; months = months; days = days })
+  Ok (record { year = year; months = months; days = days })
 
 -- a text before its first `/`, and what follows that, if it has one
 unfoldable pub date_part : Text → Text
@@ -38,14 +38,14 @@ weekday_part text =
 unfoldable pub pattern_at : Text → Result Pattern EntryFault
 pattern_at text = do
   date ← date_fields_at (date_part text)
-  weekdays ← ok_or (weekday_part text) fault.Weekday
-  Ok (record { years = date.years; months = date.months; days = date.days; weekdays = weekdays })
+  weekday ← ok_or (weekday_part text) fault.Weekday
+  Ok (record { year = date.year; months = date.months; days = date.days; weekday = weekday })
 
 -- a day written whole
 unfoldable pub full_date_at : Text → Result Date EntryFault
 full_date_at text =
     if is_some (cut_at (codes "/") text) then Err fault.Shape
-    else (date_fields_at text >>= λ date. one_day date.years date.months date.days)
+    else (date_fields_at text >>= λ date. one_day date.year date.months date.days)
 
 -- an end of a range
 unfoldable pub range_end_at : Text → Result (Option Date) EntryFault
@@ -64,9 +64,9 @@ unfoldable pub week_n_day_at : Text → Result WeekNDay EntryFault
 week_n_day_at text = do
   parts ← ok_or (parts_at (codes ":") text) fault.Shape
   months ← ok_or (months_at parts.0) fault.Month
-  weeks ← ok_or (weeks_at parts.1) fault.Week
-  weekdays ← ok_or (weekdays_at parts.2) fault.Weekday
-  Ok (record { months = months; weeks = weeks; weekdays = weekdays })
+  week ← ok_or (weeks_at parts.1) fault.Week
+  weekday ← ok_or (weekdays_at parts.2) fault.Weekday
+  Ok (record { months = months; week = week; weekday = weekday })
 
 -- a text that does not begin with `wnd:`
 unfoldable pub dates_at : Text → Result Entry EntryFault

@@ -70,7 +70,7 @@ date_fields_text years months days =
 
 -- Y-M-D or Y-M-D/W
 abbrev pub pattern_text : Pattern → Text
-pattern_text p = date_fields_text p.years p.months p.days ++ weekday_suffix p.weekdays
+pattern_text p = date_fields_text p.year p.months p.days ++ weekday_suffix p.weekday
 
 -- YYYY-MM-DD
 abbrev pub day_text : Date → Text
@@ -89,8 +89,8 @@ range_text r = range_end_text r.start ++ (codes ".." ++ range_end_text r.end)
 -- wnd:M:K:W
 abbrev pub week_n_day_text : WeekNDay → Text
 week_n_day_text w =
-    codes "wnd:" ++ (months_text w.months ++ (codes ":" ++ (weeks_text w.weeks
-    ++ (codes ":" ++ weekdays_text w.weekdays))))
+    codes "wnd:" ++ (months_text w.months ++ (codes ":" ++ (weeks_text w.week
+    ++ (codes ":" ++ weekdays_text w.weekday))))
 
 unfoldable pub spelling : Entry → Text
 spelling (entry.Pattern p) = pattern_text p

@@ -6,7 +6,7 @@ use crate::{Day, EntryFault, MonthDays, Months, Year, notation};
 /// The year, the month and the day of the month of a date, each as its field names it.
 #[derive(Clone, Copy)]
 pub struct DateFields {
-    pub years: Option<Year>,
+    pub year: Option<Year>,
     pub months: Months,
     pub days: MonthDays,
 }
@@ -19,15 +19,11 @@ impl DateFields {
     pub fn read(text: &str) -> Result<DateFields, EntryFault>
         ensures { result ≡ date_fields_at text.now }
     {
-        let (years, months, days) = notation::parts_at(text, "-").ok_or(EntryFault::Shape)?;
-        let years = Year::read_or_any(years).ok_or(EntryFault::Year)?;
+        let (year, months, days) = notation::parts_at(text, "-").ok_or(EntryFault::Shape)?;
+        let year = Year::read_or_any(year).ok_or(EntryFault::Year)?;
         let months = Months::read(months).ok_or(EntryFault::Month)?;
         let days = MonthDays::read(days).ok_or(EntryFault::Day)?;
-        Ok(DateFields {
-            years,
-            months,
-            days,
-        })
+        Ok(DateFields { year, months, days })
     }
 
     /// Reads a date whose fields are each one number, as the day that it is.
@@ -38,12 +34,8 @@ impl DateFields {
         if notation::cut_at(text, "/").is_some() {
             return Err(EntryFault::Shape);
         }
-        let DateFields {
-            years,
-            months,
-            days,
-        } = DateFields::read(text)?;
-        one_day(years, months, days)
+        let DateFields { year, months, days } = DateFields::read(text)?;
+        one_day(year, months, days)
     }
 }
 

@@ -12,11 +12,11 @@ use std::fmt;
 #[derive(Clone, Copy, Debug, PartialEq, Eq, Hash)]
 pub struct Pattern {
     /// The year, or any.
-    pub years: Option<Year>,
+    pub year: Option<Year>,
     pub months: Months,
     pub days: MonthDays,
     /// The weekday, or any.
-    pub weekdays: Option<Weekday>,
+    pub weekday: Option<Weekday>,
 }
 
 impl Pattern {
@@ -33,17 +33,13 @@ impl Pattern {
             Some((date, weekday)) => (date, read_weekday(weekday).map(Some)),
             None => (text, Some(None)),
         };
-        let DateFields {
-            years,
-            months,
-            days,
-        } = DateFields::read(date)?;
-        let weekdays = weekday.ok_or(EntryFault::Weekday)?;
+        let DateFields { year, months, days } = DateFields::read(date)?;
+        let weekday = weekday.ok_or(EntryFault::Weekday)?;
         Ok(Pattern {
-            years,
+            year,
             months,
             days,
-            weekdays,
+            weekday,
         })
     }
 
@@ -51,7 +47,7 @@ impl Pattern {
     pub(crate) fn in_range(&self)
         ensures { IsPattern self.now }
     {
-        if let Some(year) = self.years {
+        if let Some(year) = self.year {
             year.number();
         }
         self.months.number();
@@ -62,10 +58,10 @@ impl Pattern {
     pub fn holds(&self, day: Day) -> bool
         ensures { result ≡ in_pattern self.now day }
     {
-        Year::holds_or_any(self.years, day)
+        Year::holds_or_any(self.year, day)
             && self.months.holds(day)
             && self.days.holds(day)
-            && weekday_holds(self.weekdays, day)
+            && weekday_holds(self.weekday, day)
     }
 }
 
@@ -76,8 +72,8 @@ impl fmt::Display for Pattern {
     ghost output = { λ x. Some (pattern_text x) };
 
     fn fmt<W: fmt::Write>(&self, f: &mut fmt::Formatter<W>) -> fmt::Result {
-        write!(f, "{}-{}-{}", YearOrAny(self.years), self.months, self.days)?;
-        match self.weekdays {
+        write!(f, "{}-{}-{}", YearOrAny(self.year), self.months, self.days)?;
+        match self.weekday {
             Some(weekday) => write!(f, "/{}", weekday_name(weekday)),
             None => Ok(()),
         }

@@ -10,9 +10,9 @@ use std::fmt;
 pub struct WeekNDay {
     pub months: Months,
     /// The week, or any.
-    pub weeks: Option<Week>,
+    pub week: Option<Week>,
     /// The weekday, or any.
-    pub weekdays: Option<Weekday>,
+    pub weekday: Option<Weekday>,
 }
 
 impl WeekNDay {
@@ -25,14 +25,14 @@ impl WeekNDay {
     pub(crate) fn read(text: &str) -> Result<WeekNDay, EntryFault>
         ensures { result ≡ week_n_day_at text.now }
     {
-        let (months, weeks, weekdays) = notation::parts_at(text, ":").ok_or(EntryFault::Shape)?;
+        let (months, week, weekday) = notation::parts_at(text, ":").ok_or(EntryFault::Shape)?;
         let months = Months::read(months).ok_or(EntryFault::Month)?;
-        let weeks = Week::read_or_any(weeks).ok_or(EntryFault::Week)?;
-        let weekdays = read_weekday_or_any(weekdays).ok_or(EntryFault::Weekday)?;
+        let week = Week::read_or_any(week).ok_or(EntryFault::Week)?;
+        let weekday = read_weekday_or_any(weekday).ok_or(EntryFault::Weekday)?;
         Ok(WeekNDay {
             months,
-            weeks,
-            weekdays,
+            week,
+            weekday,
         })
     }
 
@@ -48,8 +48,8 @@ impl WeekNDay {
         ensures { result ≡ in_week_n_day self.now day }
     {
         self.months.holds(day)
-            && Week::holds_or_any(self.weeks, day)
-            && weekday_holds(self.weekdays, day)
+            && Week::holds_or_any(self.week, day)
+            && weekday_holds(self.weekday, day)
     }
 }
 
@@ -60,7 +60,7 @@ impl fmt::Display for WeekNDay {
     ghost output = { λ x. Some (week_n_day_text x) };
 
     fn fmt<W: fmt::Write>(&self, f: &mut fmt::Formatter<W>) -> fmt::Result {
-        let (weeks, weekdays) = (WeekOrAny(self.weeks), WeekdayOrAny(self.weekdays));
-        write!(f, "wnd:{}:{}:{}", self.months, weeks, weekdays)
+        let (week, weekday) = (WeekOrAny(self.week), WeekdayOrAny(self.weekday));
+        write!(f, "wnd:{}:{}:{}", self.months, week, weekday)
     }
 }

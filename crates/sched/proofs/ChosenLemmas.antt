@@ -1,10 +1,10 @@
 -- One pass that keeps the best so far finds the chosen element.
-use Rattle.std.proofs.Common.{◌≡◌, Bool, true, false, not, ◌&&◌, ◌||◌, List, [], ◌∷◌, ◌++◌, Option, Some, None, refl, sym, ap, ◌∙◌, subst, inl, inr, ⊎_elim, append_assoc}
+use Rattle.std.proofs.Common.{◌≡◌, Bool, true, false, not, ◌&&◌, ◌||◌, if◌then◌else◌, List, [], ◌∷◌, ◌++◌, Option, Some, None, refl, sym, ap, ◌∙◌, subst, inl, inr, ⊎_elim, append_assoc}
 use Rattle.std.specs.List.{list_all}
 use Rattle.std.proofs.lemmas.Bool.{and_from, and_left, and_parts, cases_Bool, false≢true, not_from_false, not-true, or_cases, or_left, or_right}
 use Rattle.std.proofs.lemmas.List.{append-nil}
 use Rattle.std.proofs.lemmas.List.Folds.{list_all-append}
-use Rattle.sched.specs.Chosen.{is_chosen, chosen_from, chosen, kept}
+use Rattle.sched.specs.Chosen.{is_chosen, chosen_from, chosen}
 
 module _ {A : Type 0} where
   list_all-push : (test : A → Bool) (xs : List A) (x : A) → list_all test xs ≡ true → test x ≡ true → list_all test (xs ++ x ∷ []) ≡ true
@@ -14,6 +14,11 @@ module _ {A : Type 0} where
   list_all-follows : (one two : A → Bool) (xs : List A) → ((x : A) → one x ≡ true → two x ≡ true) → list_all one xs ≡ true → list_all two xs ≡ true
   list_all-follows one two [] follows all = refl
   list_all-follows one two (x ∷ xs) follows all = and_from _ _ (follows x (and_parts _ _ all).0) (list_all-follows one two xs follows (and_parts _ _ all).1)
+
+  -- what one pass keeps of the best so far and the next element
+  abbrev pub kept : (A → Bool) → (A → A → Bool) → Option A → A → Option A
+  kept passes gives_way None x = if passes x then Some x else None
+  kept passes gives_way (Some best) x = if passes x && gives_way best x then Some x else Some best
 
   -- the best of a list, in one pass
   abbrev pub best_from : (A → Bool) → (A → A → Bool) → Option A → List A → Option A

@@ -1,11 +1,9 @@
--- The exception that counts, by one pass.
-use Rattle.std.proofs.Common.{◌≡◌, ℕ, true, false, nat_lt, List, None, arith}
+-- The order of the exceptions' priorities.
+use Rattle.std.proofs.Common.{◌≡◌, ℕ, true, false, nat_lt, arith}
+use Rattle.std.specs.Ordering.{is_gt, nat_cmp}
 use Rattle.std.proofs.lemmas.Bool.Decides.{nat_tests}
-use Rattle.jiff_core.specs.declared.civil.date.Date.{Date}
-use Rattle.sched.specs.declared.calendar.Calendar.{Calendar}
-use Rattle.sched.specs.declared.exception.Exception.{Exception}
-use Rattle.sched.specs.Exceptions.{exception_now, gives_way_to_lower, speaks}
-use Rattle.sched.proofs.ChosenLemmas.{Settles, best_from, chosen-best_from}
+use Rattle.sched.specs.Exceptions.{gives_way_to_lower}
+use Rattle.sched.proofs.ChosenLemmas.{Settles}
 
 onward : (q b z : ℕ) → nat_lt b q ≡ true → nat_lt z b ≡ true → nat_lt z q ≡ true
 onward q b z h k = grind (arith, nat_tests)
@@ -19,7 +17,5 @@ settles_lower = record {
   past = λ b q z. past b.event_priority q.event_priority z.event_priority;
 }
 
-pub exception_now-best_from : (calendars : List Calendar) (day : Date) (time : ℕ) (exceptions : List Exception)
-    → exception_now calendars day time exceptions ≡ best_from (speaks calendars day time) gives_way_to_lower None exceptions
-unfolding exception_now
-exception_now-best_from calendars day time exceptions = chosen-best_from (speaks calendars day time) gives_way_to_lower settles_lower exceptions
+pub lower-is_gt : (x y : ℕ) → nat_lt y x ≡ is_gt (nat_cmp x y)
+lower-is_gt x y = grind (arith, nat_tests)

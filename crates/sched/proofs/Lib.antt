@@ -1,4 +1,5 @@
 pub mod ChosenLemmas
+pub mod ByKeyLemmas
 pub mod DayListLemmas
 pub mod ExceptionLemmas
 pub mod SegmentLemmas

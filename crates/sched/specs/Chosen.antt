@@ -15,8 +15,3 @@ chosen_from passes gives_way before (x ∷ after) =
 -- the element of a list that passes a test, and to which every other that passes gives way
 unfoldable pub chosen : {A : Type 0} → (A → Bool) → (A → A → Bool) → List A → Option A
 chosen passes gives_way xs = chosen_from passes gives_way [] xs
-
--- what one pass keeps of the best so far and the next element, for private contracts
-abbrev pub kept : {A : Type 0} → (A → Bool) → (A → A → Bool) → Option A → A → Option A
-kept passes gives_way None x = if passes x then Some x else None
-kept passes gives_way (Some best) x = if passes x && gives_way best x then Some x else Some best

@@ -1,7 +1,6 @@
 //! The exceptions of a schedule.
 ghost use Rattle.std.specs.Prelude.{◌≡◌, option_copied};
-ghost use Rattle.sched.specs.Chosen.{kept};
-ghost use Rattle.sched.specs.Exceptions.{exception_now, exceptional_value, gives_way_to_lower, in_effect, in_period, speaks};
+ghost use Rattle.sched.specs.Exceptions.{exception_now, exceptional_value, in_effect, in_period, speaks};
 
 use crate::calendar::{CalId, Calendar};
 use crate::day_list::DayList;
@@ -56,23 +55,7 @@ impl Exception {
     }
 }
 
-// The next exception where it speaks and goes before the best so far, which stands before it.
-fn better_of<'a>(
-    best: Option<&'a Exception>,
-    next: &'a Exception,
-    calendars: &[Calendar],
-    day: Day,
-    time: Time,
-) -> Option<&'a Exception>
-    ensures { option_copied result ≡ kept (speaks calendars.now day time) gives_way_to_lower (option_copied best.entry) next.now }
-{
-    match best {
-        Some(held) if held.event_priority <= next.event_priority => best,
-        _ if next.speaks(calendars, day, time) => Some(next),
-        _ => best,
-    }
-}
-
+// Of the exceptions that speak, the one of the lowest EventPriority number, and of equal ones the first.
 fn exception_now<'a>(
     exceptions: &'a [Exception],
     calendars: &[Calendar],
@@ -81,11 +64,10 @@ fn exception_now<'a>(
 ) -> Option<&'a Exception>
     ensures { option_copied result ≡ exception_now calendars.now day time exceptions.now }
 {
-    let mut best = None;
-    for exception in exceptions {
-        best = better_of(best, exception, calendars, day, time);
-    }
-    best
+    exceptions
+        .iter()
+        .filter(|x| x.speaks(calendars, day, time))
+        .min_by_key(|x| x.event_priority)
 }
 
 /// The value that the exceptions give at a time of a day, if one that is in effect has a value other

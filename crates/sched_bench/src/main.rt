@@ -44,10 +44,10 @@ fn exceptions(alloc: Global, period: Period) -> Result<Listing<Exception>, Alloc
 
 fn schedule(alloc: Global) -> Result<Schedule, AllocError> {
     let every_day = Entry::Pattern(Pattern {
-        years: None,
+        year: None,
         months: Months::Any,
         days: MonthDays::Any,
-        weekdays: None,
+        weekday: None,
     });
     Ok(Schedule {
         effective_period: Range {

@@ -1,13 +1,16 @@
-use Rattle.std.proofs.Common.{◌∙◌, sym, ap, arith, List, option_copied}
-use Rattle.std.proofs.lemmas.List.{drop_all}
-use Rattle.sched.specs.declared.exception.Exception.{Exception}
-use Rattle.sched.specs.Exceptions.{gives_way_to_lower, speaks}
-use Rattle.sched.proofs.ChosenLemmas.{best_from}
-use Rattle.sched.proofs.ExceptionLemmas.{exception_now-best_from}
+use Rattle.std.proofs.Common.{rules, tests}
+use Rattle.std.specs.Ordering.{nat_cmp}
+use Rattle.std.proofs.lemmas.Iterator.{YieldsList-from_slice}
+use Rattle.std.proofs.lemmas.Iterator.Consumers.{YieldsList-from_filter}
+use Rattle.sched.specs.Exceptions.{exception_now, speaks}
+use Rattle.sched.proofs.ByKeyLemmas.{chosen-min_by_key}
+use Rattle.sched.proofs.ExceptionLemmas.{lower-is_gt, settles_lower}
 use Rattle.sched.proofs.exception.exception_now.Goals as goal
 
 pub returns : goal.returns
+unfolding exception_now
 returns c =
-    let all = drop_all c.loop-exception.exception-index c.args.exceptions.now (omega (arith, c.loop-exception-test.false)) in
-    sym (exception_now-best_from c.args.calendars.now c.args.day c.args.time c.args.exceptions.now ∙ c.loop-exception.invariant
-    ∙ ap (λ (rest : List Exception). best_from (speaks c.args.calendars.now c.args.day c.args.time) gives_way_to_lower (option_copied c.loop-exception.best) rest) all)
+    let passes = speaks c.args.calendars.now c.args.day c.args.time in
+    chosen-min_by_key (λ x. x.event_priority) settles_lower passes c.args.exceptions.now nat_cmp c.min_by_key.result c.min_by_key.ensures.ran
+    (YieldsList-from_filter _ passes (YieldsList-from_slice c.args.exceptions.now cc) c.filter.ensures.closure (λ x r q k. search (rules, tests)))
+    (λ x k q h. search rules) (λ x y. lower-is_gt x.event_priority y.event_priority)
