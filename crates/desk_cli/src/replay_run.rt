@@ -62,11 +62,12 @@ where
     }
 }
 
-/// Tells a fault as one line, in one write where memory is at hand.
+/// Tells a fault as one line: in one write, or where memory is refused for that, piece by piece and with the
+/// path as it is.
 fn tell<F: Write>(alloc: Global, end: &ReplayFault<'_>, fault: &mut F) {
     let _told = match end.line(alloc) {
         Ok(line) => fault.write_all(line.as_bytes()),
-        Err(_) => fault.write_all(b"desk: out of memory\n"),
+        Err(_) => writeln!(fault, "{end}"),
     };
 }
 
