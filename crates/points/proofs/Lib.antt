@@ -1,3 +1,4 @@
 pub mod PlacesLemmas
 pub mod ContentLemmas
 pub mod RunLemmas
+pub mod NameLemmas

@@ -2,6 +2,7 @@ pub mod ContentEq
 pub mod Kind
 pub mod Name
 pub mod NameFaultText
+pub mod NameHeld
 pub mod Numbered
 pub mod PriorityArray
 pub mod Rights

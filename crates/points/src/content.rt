@@ -1,10 +1,9 @@
 //! What a panel's command asks for.
 use crate::name::Name;
-use std::alloc::AllocError;
 
 /// What a command asks for: a value, or NULL, in one place of a point's priority array. It is what came,
 /// so any of it may be refused.
-#[derive(Debug, Drop, PartialEq, Eq)]
+#[derive(Clone, Copy, Debug, PartialEq, Eq)]
 pub struct Content {
     pub point: Name,
     /// 1 to 16 where it names a place; a command without one is at `LOWEST_PRIORITY`.
@@ -23,20 +22,5 @@ impl Content {
         ensures { result ≡ content_eq self.now other.now }
     {
         self.point == other.point && self.priority == other.priority && self.value == other.value
-    }
-}
-
-/// A clone of a content takes no memory: it is always `Ok`.
-impl Clone for Content {
-    ghost use Rattle.std.specs.Prelude.{◌≡◌};
-
-    ghost is_clone = { λ content copy. copy ≡ content };
-
-    fn clone(&self) -> Result<Content, AllocError> {
-        Ok(Content {
-            point: self.point.clone()?,
-            priority: self.priority,
-            value: self.value,
-        })
     }
 }

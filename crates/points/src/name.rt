@@ -1,14 +1,13 @@
 //! The names of points, panels, calendars and schedules.
-ghost use Rattle.std.specs.Prelude.{◌≡◌, ◌<◌, ◌↔◌, [], Some, length, nat_eq, refl, IsOk, IfOk, IsErrOf};
+ghost use Rattle.std.specs.Prelude.{◌≡◌, ◌<◌, ◌≤◌, ◌↔◌, [], Some, length, nat_eq, refl, IsOk, IfOk, IsErrOf};
 ghost use Rattle.std.specs.Ordering.{nat_cmp};
 ghost use Rattle.std.specs.Cmp.{partial_equiv_from_equiv};
 ghost use Rattle.std.specs.Cmp.Lexicographic.{pointwise, slice_cmp, nat_list_eq_equiv, nat_list_cmp_total, texts_ties, texts_po};
 ghost use Rattle.std.specs.List.{list_all};
 ghost use Rattle.points.specs.Name.{IsName, is_name_byte};
+ghost use Rattle.points.specs.NameHeld.{padded};
 ghost use Rattle.points.specs.declared.name.TheConstants.{LONGEST};
 
-use arrayvec::ArrayString;
-use std::alloc::AllocError;
 use std::cmp::Ordering;
 use std::convert::AsStr;
 use std::error::Error;
@@ -20,21 +19,30 @@ pub const LONGEST: usize = 32;
 
 /// The name of a point, a panel, a calendar or a schedule: 1 to 32 ASCII letters, digits, `-`, `_` and
 /// `.` (this profile's choice). A contract sees it as its bytes. It takes no memory.
-#[derive(Drop)]
+#[derive(Clone, Copy)]
 pub struct Name {
-    text: ArrayString<LONGEST>,
+    // The text, and zeros after it.
+    bytes: [u8; LONGEST],
+    size: u8,
 }
 
 impl Model for Name {
-    ghost use Rattle.std.specs.Prelude.{ℕ, List};
-    ghost use Rattle.points.specs.Name.{is_name};
-    ghost use Rattle.std.specs.Bool.{IsTrue};
+    ghost use Rattle.std.specs.Prelude.{ℕ, List, take};
+    ghost use Rattle.std.proofs.Common.{sym, length};
+    ghost use Rattle.points.specs.NameHeld.{IsHeld, IsHeld-size, padded};
 
     ghost Value = { List ℕ };
 
-    ghost view = { λ name. name.text.bytes };
+    ghost view = { λ name. take name.size name.bytes };
 
-    ghost invariant = { λ name. IsTrue (is_name name.text.bytes) };
+    ghost invariant = { λ name. IsHeld name.bytes name.size };
+
+    ghost inverse = { λ text. record { bytes = padded text; size = length text } };
+
+    ghost inverse_ok = { λ name held i. record {
+      bytes = sym held.is_padded i;
+      size = IsHeld-size name.bytes name.size held i;
+    } };
 }
 
 /// Why a text is no name.
@@ -54,6 +62,16 @@ fn is_name_byte(byte: u8) -> bool
     matches!(byte, b'a'..=b'z' | b'A'..=b'Z' | b'0'..=b'9' | b'-' | b'_' | b'.')
 }
 
+// The text's bytes with zeros after them. What an array holds besides is overwritten.
+fn padded(text: &str) -> [u8; LONGEST]
+    requires { length text.now ≤ LONGEST }
+    ensures { result ≡ padded text.now }
+{
+    let mut bytes = [0; LONGEST];
+    bytes[..text.len()].copy_from_slice(text.as_bytes());
+    bytes
+}
+
 fn has_name_bytes(text: &str) -> bool
     ensures { result ≡ list_all is_name_byte text.now }
 {
@@ -71,14 +89,24 @@ impl Name {
         if text.is_empty() {
             return Err(NameFault::Empty);
         }
-        let Ok(held) = ArrayString::from(text) else {
+        if LONGEST < text.len() {
             return Err(NameFault::TooLong);
-        };
+        }
         if has_name_bytes(text) {
-            Ok(Name { text: held })
+            Ok(Name {
+                bytes: padded(text),
+                size: text.len() as u8,
+            })
         } else {
             Err(NameFault::OtherCharacter)
         }
+    }
+
+    fn as_bytes(&self) -> &[u8]
+        ensures text { result.now ≡ self.now }
+        ensures is_name { IsName self.now }
+    {
+        &self.bytes[..usize::from(self.size)]
     }
 
     /// The name as text.
@@ -86,16 +114,10 @@ impl Name {
         ensures text { result.now ≡ self.now }
         ensures is_name { IsName self.now }
     {
-        self.text.as_str()
-    }
-}
-
-/// A clone of a name takes no memory: it is always `Ok`.
-impl Clone for Name {
-    ghost is_clone = { λ name copy. copy ≡ name };
-
-    fn clone(&self) -> Result<Name, AllocError> {
-        Ok(Name { text: self.text })
+        match str::from_utf8(self.as_bytes()) {
+            Ok(text) => text,
+            Err(_) => "",
+        }
     }
 }
 
@@ -113,7 +135,7 @@ impl PartialEq for Name {
     ghost laws = { partial_equiv_from_equiv nat_list_eq_equiv };
 
     fn eq(&self, other: &Name) -> bool {
-        self.as_str() == other.as_str()
+        self.as_bytes() == other.as_bytes()
     }
 }
 
@@ -142,7 +164,7 @@ impl Ord for Name {
     ghost matches_eq = { texts_ties };
 
     fn cmp(&self, other: &Name) -> Ordering {
-        self.as_str().cmp(other.as_str())
+        self.as_bytes().cmp(other.as_bytes())
     }
 }
 

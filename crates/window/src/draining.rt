@@ -30,7 +30,7 @@ pub fn drained(
     for entry in run {
         contents.push(NumberedContent {
             number: entry.number,
-            content: entry.row.content.clone()?,
+            content: entry.row.content,
         })?;
         if entry.number == next {
             next += 1;

@@ -32,13 +32,13 @@ pub fn plan_command(
     match verdict {
         Verdict::Applies => {
             let mut contents = Vec::new(alloc);
-            contents.push(numbered(number, content)?)?;
+            contents.push(numbered(number, content))?;
             drained(contents, view.run.as_slice(), number + 1, verdict)
         }
         Verdict::Parked => Ok(Plan {
             next: view.next,
             apply: Listing::from_vec(Vec::new(alloc)),
-            park: Some(numbered(number, content)?),
+            park: Some(numbered(number, content)),
             verdict,
         }),
         _ => Ok(unchanged(alloc, view.next, verdict)),
@@ -92,13 +92,13 @@ fn verdict_on(view: &PanelView, number: u64, content: &Content) -> Verdict
     }
 }
 
-fn numbered(number: u64, content: &Content) -> Result<NumberedContent, AllocError>
-    ensures { IfOk result (λ entry. entry ≡ record { number = number; content = content.now }) }
+fn numbered(number: u64, content: &Content) -> NumberedContent
+    ensures { result ≡ record { number = number; content = content.now } }
 {
-    Ok(NumberedContent {
+    NumberedContent {
         number,
-        content: content.clone()?,
-    })
+        content: *content,
+    }
 }
 
 // The plan that changes nothing.

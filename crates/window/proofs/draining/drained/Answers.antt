@@ -1,4 +1,4 @@
-use Rattle.std.proofs.Common.{◌∙◌, None, arith}
+use Rattle.std.proofs.Common.{◌∙◌, None, refl, arith}
 use Rattle.window.proofs.DrainLemmas.{contents_step, end_step-same, end_step-apart, drained-contents, drained-end}
 use Rattle.window.proofs.draining.drained.Goals as goal
 use Rattle.window.proofs.draining.drained.Goals.{then-entry-next, else-entry-next}
@@ -12,8 +12,8 @@ loop-entry-preserved c =
     let within = c.loop-entry-test.true in
     let so_far = c.loop-entry.invariant in
     record {
-      contents = contents_step run at entry c.in_ok-clone.field-0 c.loop-entry.contents.items c.push.new.self.items _
-          within c.entry-item.is so_far.contents c.in_ok-clone.ensures.cases c.in_ok-push.ensures.items;
+      contents = contents_step run at entry _ c.loop-entry.contents.items c.push.new.self.items _
+          within c.entry-item.is so_far.contents refl c.in_ok-push.ensures.items;
       end = elim c.if-entry-next.branch [
         | then-entry-next w ↦ end_step-same run at entry next _ _ within c.entry-item.is so_far.end w.if-entry-next.true w.next-is
         | else-entry-next w ↦ end_step-apart run at entry next _ _ within c.entry-item.is so_far.end w.if-entry-next.false w.next-is

@@ -16,14 +16,14 @@ returns-in_ok-push-in-Applies c = IfOk-weaker c.drained.result _ _
     let at_front = at_front-applies t number content view.asked (sym said ∙ c.in-Applies.is) in
     let run = IsRun-command t number content shows.rows view.run at_front shows.run in
     Plans-drained t (Command number content) view.asked plan (number + 1) _ (record { number = number; content = content } ∷ []) _ view.run _ is
-    (first_pushed c.new-contents.result.items _ c.in_ok-numbered-in-Applies.field-0 _
-    c.in_ok-push-in-Applies.ensures.items c.new-contents.ensures.items c.in_ok-numbered-in-Applies.ensures)
+    (first_pushed c.new-contents.result.items _ c.numbered.result _
+    c.in_ok-push-in-Applies.ensures.items c.new-contents.ensures.items c.numbered.ensures)
     c.as_slice.ensures
     (Plans-applies t number content view.asked shows.rows view.run _ shows.keeps at_front run said))
     c.drained.ensures
 
-pub returns-in_ok-numbered-in-Parked : goal.returns-in_ok-numbered-in-Parked
-returns-in_ok-numbered-in-Parked c = λ asks shows.
+pub returns-in-Parked : goal.returns-in-Parked
+returns-in-Parked c = λ asks shows.
     let t = taken opening asks in
     let view = c.args.view.now in
     let number = c.args.number in
@@ -34,7 +34,7 @@ returns-in_ok-numbered-in-Parked c = λ asks shows.
     (λ i. record {
       next = shows.next i;
       apply = (c.from_vec.ensures ∙ c.new.ensures.items) i;
-      park = Some (c.in_ok-numbered-in-Parked.ensures i);
+      park = Some (c.numbered-in-Parked.ensures i);
       verdict = c.verdict_on-verdict.result;
     })
     (Plans-parked t number content view.asked c.verdict_on-verdict.result waits.accepted waits.past said)
