@@ -1,0 +1,5 @@
+pub mod Change
+pub mod FaultCode
+pub mod Listed
+pub mod Standing
+pub mod Tables

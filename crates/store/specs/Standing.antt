@@ -1,0 +1,65 @@
+use Rattle.std.specs.Prelude.{◌≡◌, ℕ, ◌-◌, ◌^◌, ◌<◌, ◌↔◌, ◌⊎◌, Bool, true, false, Result, Ok, Err}
+use Rattle.std.specs.Bool.{IsTrue}
+use Rattle.store.specs.declared.change.Change.{Change}
+use Rattle.store.specs.declared.fault.StoreFault.{StoreFault}
+use Rattle.store.specs.declared.fault.StoreFault.TheVariants.{Failed, Shut, BadRow}
+use Rattle.store.specs.Change.{with_change}
+use Rattle.store.specs.Tables.{Tables}
+
+-- What a store holds: its tables, and whether each row that it keeps can stand. Of a row that cannot the
+-- tables tell nothing.
+pub record Content : Type 0 where
+  pub tables : Tables
+  pub is_sound : Bool
+
+-- tables whose rows can all stand
+abbrev pub sound : Tables → Content
+sound tables = record { tables = tables; is_sound = true }
+
+-- How a store stands.
+pub record Standing : Type 1 where
+  -- what it holds
+  pub content : Content
+  -- whether a failure has shut it
+  pub is_shut : Bool
+  -- how often the device or the database has failed
+  pub failures : ℕ
+  -- so far the device has given back what was written, and nobody else wrote there
+  pub is_honest : Type 0
+  -- what a stop at this moment may leave, opened again
+  pub may_leave : Content → Type 0
+
+-- a count that stays at its greatest value, and has risen there too
+abbrev pub HasRisen : ℕ → ℕ → Type 0
+HasRisen old new = (old < new) ⊎ ((old ≡ 2 ^ 64 - 1) × (new ≡ old))
+
+-- what each call says of the failures: S3 on a shut store and only there, S2 where the store failed in this
+-- call, which shuts it
+pub record Goes {A : Type 0} (result : Result A StoreFault) (old new : Standing) : Type 0 where
+  pub honest : new.is_honest → old.is_honest
+  pub shut : (result ≡ Err Shut) ↔ IsTrue old.is_shut
+  pub goes_on : (result ≡ Err Failed → ⊥) → new.is_shut ≡ old.is_shut
+  pub failed : result ≡ Err Failed → IsTrue new.is_shut × HasRisen old.failures new.failures
+  -- while a store is open, a stop leaves what it holds and nothing else
+  pub settled : new.is_honest → new.is_shut ≡ false → (content : Content) → new.may_leave content → content ≡ new.content
+
+-- a read changes nothing; a row that cannot stand is told only where there is one
+pub record Reads {A : Type 0} (result : Result A StoreFault) (old new : Standing) : Type 0 where
+  pub goes : Goes result old new
+  pub kept : new.is_honest → (result ≡ Err Failed → ⊥) → new.content ≡ old.content
+  pub left : new.is_honest → old.is_shut ≡ false → (content : Content) → new.may_leave content → content ≡ old.content
+  pub bad_row : new.is_honest → result ≡ Err BadRow → old.content.is_sound ≡ false
+
+-- a content with the whole change; a change makes no row that cannot stand
+pub record Makes (change : Change) (old new : Content) : Type 0 where
+  pub tables : new.tables ≡ with_change change old.tables
+  pub is_sound : old.is_sound ≡ true → new.is_sound ≡ true
+
+-- a commit is made whole or not at all
+pub record Commits {A : Type 0} (change : Change) (result : Result A StoreFault) (old new : Standing) : Type 0 where
+  pub goes : Goes result old new
+  pub made : new.is_honest → (done : A) → result ≡ Ok done → Makes change old.content new.content
+  pub unchanged : new.is_honest → new.is_shut ≡ false → (fault : StoreFault) → result ≡ Err fault → new.content ≡ old.content
+  pub left : new.is_honest → old.is_shut ≡ false → (content : Content) → new.may_leave content
+      → (content ≡ old.content) ⊎ Makes change old.content content
+  pub never_bad : result ≡ Err BadRow → ⊥

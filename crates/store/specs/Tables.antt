@@ -1,0 +1,22 @@
+use Rattle.std.specs.Prelude.{ℕ, Bool, List, Option, ℤ}
+use Rattle.points.specs.PriorityArray.{Places}
+use Rattle.points.specs.Run.{Rows}
+
+-- the bytes of a name
+abbrev pub Text : Type 0
+Text = List ℕ
+
+-- what the six tables hold
+pub record Tables : Type 0 where
+  -- the values in the places of each point
+  pub places : Text → Places
+  -- the next number of each panel: 1 where nothing is kept
+  pub next : Text → ℕ
+  -- the rows of each panel's commands
+  pub row : Text → Rows
+  -- what each schedule shows: a value or NULL, or nothing where it is quiet
+  pub shown : Text → Option (Option ℤ)
+  -- whether an entry of this text is imported into each calendar
+  pub imported : Text → Text → Bool
+  -- the moment of the last tick
+  pub last_tick : Option ℤ

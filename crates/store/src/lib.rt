@@ -1,0 +1,17 @@
+//! What do the desk's tables hold?
+//!
+//! A `Store` has six tables: the places of points, the next numbers of panels, the rows of their commands,
+//! what schedules show, the entries that are imported into calendars, and the moment of the last tick. It is
+//! read by its reads and changed by one call alone, `commit`, which makes a whole `Change` or nothing. Its
+//! contract also says what a failure leaves, and what a stop of the program may leave at any moment.
+#![tactic(auto)]
+
+pub use change::{Change, ImportedEntry, KeptRow, NextNumber, PlaceValue, RowsBelow, ShownValue};
+pub use fault::StoreFault;
+pub use names::Names;
+pub use store::Store;
+
+mod change;
+mod fault;
+mod names;
+mod store;
