@@ -1,0 +1,5 @@
+pub mod Accepted
+pub mod Events
+pub mod Machine
+pub mod Reply
+pub mod Tables

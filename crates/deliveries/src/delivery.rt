@@ -1,0 +1,15 @@
+//! What reaches the desk.
+use points::{Content, Name};
+
+/// One delivery, as it came: it may be a repeat, and come late or out of order.
+#[derive(Clone, Copy, Debug, PartialEq, Eq)]
+pub enum Delivery {
+    /// A panel's command under a number of the panel's own, 1 to 1,000,000,000,000.
+    Command {
+        panel: Name,
+        number: i64,
+        content: Content,
+    },
+    /// A panel gives up its numbers below `upto`, 1 to 1,000,000,000,001, under which nothing came.
+    Skip { panel: Name, upto: i64 },
+}
