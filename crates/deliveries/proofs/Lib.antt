@@ -1,1 +1,3 @@
 pub mod EventLemmas
+pub mod MachineLemmas
+pub mod TakenLemmas

@@ -1,5 +1,6 @@
 pub mod Accepted
 pub mod Events
 pub mod Machine
+pub mod Moved
 pub mod Reply
 pub mod Tables

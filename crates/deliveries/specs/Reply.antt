@@ -1,7 +1,6 @@
 use Rattle.std.specs.Prelude.{ℕ, List, [], ◌∷◌, ◌++◌, Option, Some, None, ℤ}
 use Rattle.points.specs.declared.answer.Answer.{Answer}
 use Rattle.points.specs.declared.command_row.CommandState.TheVariants as state
-use Rattle.points.specs.declared.content.Content.{Content}
 use Rattle.points.specs.declared.panel.Panel.{Panel}
 use Rattle.window.specs.declared.verdict.Verdict.{Verdict}
 use Rattle.window.specs.declared.verdict.Verdict.TheVariants as verdict

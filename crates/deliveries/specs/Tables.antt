@@ -1,9 +1,9 @@
-use Rattle.std.specs.Prelude.{ℕ, Bool, false, nat_lt, if◌then◌else◌, List, Option, Some, None, option_map}
+use Rattle.std.specs.Prelude.{ℕ, false, nat_lt, if◌then◌else◌, List, Option, None, option_map}
 use Rattle.points.specs.declared.answer.Answer.{Answer}
 use Rattle.points.specs.declared.command_row.CommandRow.{CommandRow}
 use Rattle.points.specs.declared.command_row.CommandState.TheVariants.{Parked, Answered}
 use Rattle.points.specs.declared.content.Content.{Content}
-use Rattle.store.specs.Tables.{Tables, Text}
+use Rattle.store.specs.Tables.{Tables}
 use Rattle.window.specs.Taken.{Taken, front}
 use Rattle.window.specs.View.{kept_at}
 use Rattle.deliveries.specs.declared.building.Building.{Building}
