@@ -1,3 +1,4 @@
 pub mod EventLemmas
 pub mod MachineLemmas
+pub mod RowLemmas
 pub mod TakenLemmas
