@@ -1,4 +1,5 @@
 pub mod EventLemmas
 pub mod MachineLemmas
 pub mod RowLemmas
+pub mod StepLemmas
 pub mod TakenLemmas

@@ -1,14 +1,14 @@
 -- What stands under a number after one ask.
-use Rattle.std.proofs.Common.{◌≡◌, ◌≢◌, ℕ, ◌<◌, ◌≤◌, ◌&&◌, Bool, true, false, cond, Option, Some, None, is_some, refl, sym, ap, ◌∙◌, subst, arith, inl, inr, nat_lt}
+use Rattle.std.proofs.Common.{◌≡◌, ◌≢◌, ℕ, ◌<◌, ◌≤◌, ◌&&◌, Bool, true, false, cond, Option, Some, None, is_some, refl, sym, ap, ◌∙◌, subst, arith, inl, inr, nat_lt, max}
 use Rattle.std.proofs.lemmas.Bool.Decides.{nat_tests}
 use Rattle.std.proofs.lemmas.Bool.{cases_Bool, cases_eq, false≢true}
 use Rattle.points.specs.declared.content.Content.{Content}
 use Rattle.window.specs.declared.numbered_content.NumberedContent.{NumberedContent}
 use Rattle.window.specs.Plan.{parked_by}
-use Rattle.window.specs.Taken.{Ask, Command, Skip, Taken, take, content_at, is_key, front, accepts}
+use Rattle.window.specs.Taken.{Ask, Command, Skip, Taken, take, content_at, is_key, front, accepts, accepts_skip}
 use Rattle.window.proofs.AppliedLemmas.{content_at-take_command, content_at-take_accepted, content_at-take_skip}
 use Rattle.window.proofs.FrontLemmas.{IsFront-front, IsWithin-accepted, front-take, take-accepted, take-refused}
-use Rattle.window.proofs.PlanLemmas.{accepts-below, front-parked}
+use Rattle.window.proofs.PlanLemmas.{accepts-below, front-parked, IsSkipWithin-accepted, take-skip_accepted, take-skip_refused}
 
 some_none : {A : Type 0} (a : A) → Some a ≡ None → ⊥
 some_none a e = cc
@@ -103,4 +103,28 @@ content_at-past t (Command m content) number past apart =
         | inr refused ↦ ap (λ u. content_at u number) (take-refused t m content refused)
       ]
       | inr other ↦ content_at-take_command t m number content other
+    ]
+
+none_some : {A : Type 0} (a : A) → None ≡ Some a → ⊥
+none_some a e = cc
+
+-- an ask that neither moves the front nor parks anything changes nothing
+pub take-unmoved : (t : Taken) (ask : Ask) → front (take t ask) ≡ front t → parked_by t ask ≡ None → take t ask ≡ t
+take-unmoved t (Command m content) stays none =
+    elim (cases_Bool (accepts t m)) [
+      | inl accepted ↦
+          let within = (IsWithin-accepted t m accepted).from in
+          let past = front-moved t m content accepted (omega (arith, stays, within)) in
+          absurd (none_some _ (sym none ∙ parked_by-accepted t m content accepted past))
+      | inr refused ↦ take-refused t m content refused
+    ]
+take-unmoved t (Skip upto) stays none =
+    elim (cases_Bool (accepts_skip t upto)) [
+      | inl accepted ↦
+          let above = (IsSkipWithin-accepted t upto accepted).above in
+          let grown = take t (Skip upto) in
+          let reached = (IsFront-front grown).given_up in
+          let limit : grown.upto ≡ max t.upto upto = ap (λ (u : Taken). u.upto) (take-skip_accepted t upto accepted) in
+          absurd (omega (arith, stays, above, reached, limit))
+      | inr refused ↦ take-skip_refused t upto refused
     ]

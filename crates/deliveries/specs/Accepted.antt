@@ -42,7 +42,7 @@ listed (Some ask) = ask ∷ []
 -- what a delivery asks of one panel's numbers: a panel that the building lacks is asked nothing
 abbrev pub asks_of : Building → Text → Delivery → List asks.Ask
 asks_of building panel delivery =
-    if bytes_eq panel (panel_of delivery) && is_some (panel_named building panel) then listed (asked delivery) else []
+    if bytes_eq (panel_of delivery) panel && is_some (panel_named building panel) then listed (asked delivery) else []
 
 -- what was accepted of a panel from a list of deliveries
 abbrev pub taken_by : Building → Text → List Delivery → asks.Taken
