@@ -11,7 +11,7 @@ use Rattle.deliveries.specs.Accepted.{asks_of, taken_by}
 use Rattle.deliveries.specs.Machine.{Event, Machine, opening_machine, run, step}
 use Rattle.deliveries.specs.Events.{acted_on, events_after, machine}
 
-taken-append : (t : asks.Taken) (xs ys : List asks.Ask) → asks.taken t (xs ++ ys) ≡ asks.taken (asks.taken t xs) ys
+pub taken-append : (t : asks.Taken) (xs ys : List asks.Ask) → asks.taken t (xs ++ ys) ≡ asks.taken (asks.taken t xs) ys
 taken-append t [] ys = refl
 taken-append t (x ∷ xs) ys = taken-append (asks.take t x) xs ys
 

@@ -60,7 +60,6 @@ unfolding moved tables-moved-at rows-moved
 moved-is b p plan t = refl
 
 module _ (b : Building) (E : List Delivery) (d : Delivery) (ask : asks.Ask) (asking : Asks b d ask) where
-
   abbrev panel : Text
   panel = panel_of d
 

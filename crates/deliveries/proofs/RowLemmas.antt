@@ -81,7 +81,7 @@ row_of-same f g number answer given held content same told tests =
     of (Some c) tests = ap (λ test. Some (record { content = c; state = cond test Parked (Answered answer) })) (tests c refl)
 
 kept-none : (t : Taken) (number : ℕ) → content_at t number ≡ None → kept_at t number ≡ None
-kept-none t number none = elim (cases_Bool (nat_lt number (front t - remembered))) [ | inl old ↦ rw old refl | inr kept ↦ rw kept none ]
+kept-none t number none = elim (cases_Bool (nat_lt number (front t - remembered))) [ inl old ↦ rw old refl | inr kept ↦ rw kept none ]
 
 kept-here : (t : Taken) (number : ℕ) → nat_lt number (front t - remembered) ≡ false → kept_at t number ≡ content_at t number
 kept-here t number kept = rw kept refl
@@ -96,7 +96,6 @@ kept-since t ask number kept = let rises = front-take t ask in grind (arith, nat
 module _ (b : Building) (m : Machine) (p : Text) (t : Taken) (ask : Ask) (row : Text → Rows) (number : ℕ)
     (held : row p number ≡ row_at t number (m.answers p number))
     (kept : nat_lt number (front (take t ask) - remembered) ≡ false) where
-
   abbrev new : Taken
   new = take t ask
 

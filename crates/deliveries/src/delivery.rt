@@ -11,5 +11,8 @@ pub enum Delivery {
         content: Content,
     },
     /// A panel gives up its numbers below `upto`, 1 to 1,000,000,000,001, under which nothing came.
-    Skip { panel: Name, upto: i64 },
+    Skip {
+        panel: Name,
+        upto: i64,
+    },
 }
