@@ -1,4 +1,4 @@
-use Rattle.std.specs.Prelude.{◌≡◌, ℕ, ◌-◌, ◌^◌, ◌<◌, ◌↔◌, ◌⊎◌, Bool, true, false, Result, Ok, Err}
+use Rattle.std.specs.Prelude.{◌≡◌, ℕ, ◌-◌, ◌^◌, ◌<◌, ◌↔◌, ◌⊎◌, Bool, true, false, Option, Some, None}
 use Rattle.std.specs.Bool.{IsTrue}
 use Rattle.store.specs.declared.change.Change.{Change}
 use Rattle.store.specs.declared.fault.StoreFault.{StoreFault}
@@ -33,22 +33,23 @@ pub record Standing : Type 1 where
 abbrev pub HasRisen : ℕ → ℕ → Type 0
 HasRisen old new = (old < new) ⊎ ((old ≡ 2 ^ 64 - 1) × (new ≡ old))
 
--- what each call says of the failures: S3 on a shut store and only there, S2 where the store failed in this
--- call, which shuts it
-pub record Goes {A : Type 0} (result : Result A StoreFault) (old new : Standing) : Type 0 where
+-- what each call says of the failures, of the fault that it tells or of none: S3 on a shut store and only
+-- there, S2 where the store failed in this call, which shuts it
+pub record Goes (fault : Option StoreFault) (old new : Standing) : Type 0 where
   pub honest : new.is_honest → old.is_honest
-  pub shut : (result ≡ Err Shut) ↔ IsTrue old.is_shut
-  pub goes_on : (result ≡ Err Failed → ⊥) → new.is_shut ≡ old.is_shut
-  pub failed : result ≡ Err Failed → IsTrue new.is_shut × HasRisen old.failures new.failures
+  pub shut : (fault ≡ Some Shut) ↔ IsTrue old.is_shut
+  pub goes_on : (fault ≡ Some Failed → ⊥) → new.is_shut ≡ old.is_shut
+  pub steady : (fault ≡ Some Failed → ⊥) → new.failures ≡ old.failures
+  pub failed : fault ≡ Some Failed → IsTrue new.is_shut × HasRisen old.failures new.failures
   -- while a store is open, a stop leaves what it holds and nothing else
   pub settled : new.is_honest → new.is_shut ≡ false → (content : Content) → new.may_leave content → content ≡ new.content
 
 -- a read changes nothing; a row that cannot stand is told only where there is one
-pub record Reads {A : Type 0} (result : Result A StoreFault) (old new : Standing) : Type 0 where
-  pub goes : Goes result old new
-  pub kept : new.is_honest → (result ≡ Err Failed → ⊥) → new.content ≡ old.content
+pub record Reads (fault : Option StoreFault) (old new : Standing) : Type 0 where
+  pub goes : Goes fault old new
+  pub kept : new.is_honest → (fault ≡ Some Failed → ⊥) → new.content ≡ old.content
   pub left : new.is_honest → old.is_shut ≡ false → (content : Content) → new.may_leave content → content ≡ old.content
-  pub bad_row : new.is_honest → result ≡ Err BadRow → old.content.is_sound ≡ false
+  pub bad_row : new.is_honest → fault ≡ Some BadRow → old.content.is_sound ≡ false
 
 -- a content with the whole change; a change makes no row that cannot stand
 pub record Makes (change : Change) (old new : Content) : Type 0 where
@@ -56,10 +57,10 @@ pub record Makes (change : Change) (old new : Content) : Type 0 where
   pub is_sound : old.is_sound ≡ true → new.is_sound ≡ true
 
 -- a commit is made whole or not at all
-pub record Commits {A : Type 0} (change : Change) (result : Result A StoreFault) (old new : Standing) : Type 0 where
-  pub goes : Goes result old new
-  pub made : new.is_honest → (done : A) → result ≡ Ok done → Makes change old.content new.content
-  pub unchanged : new.is_honest → new.is_shut ≡ false → (fault : StoreFault) → result ≡ Err fault → new.content ≡ old.content
+pub record Commits (change : Change) (fault : Option StoreFault) (old new : Standing) : Type 0 where
+  pub goes : Goes fault old new
+  pub made : new.is_honest → fault ≡ None → Makes change old.content new.content
+  pub unchanged : new.is_honest → new.is_shut ≡ false → (told : StoreFault) → fault ≡ Some told → new.content ≡ old.content
   pub left : new.is_honest → old.is_shut ≡ false → (content : Content) → new.may_leave content
       → (content ≡ old.content) ⊎ Makes change old.content content
-  pub never_bad : result ≡ Err BadRow → ⊥
+  pub never_bad : fault ≡ Some BadRow → ⊥

@@ -1,5 +1,6 @@
 //! What a store of the desk's tables owes.
 ghost use Rattle.std.specs.Prelude.{◌≡◌, ◌≤◌, IfOk};
+ghost use Rattle.std.specs.Result.{result_err};
 ghost use Rattle.points.specs.Run.{IsRun};
 ghost use Rattle.store.specs.Change.{CanStand};
 ghost use Rattle.store.specs.Listed.{AreEntries, AreNames};
@@ -21,12 +22,12 @@ pub trait Store {
 
     /// The next number of a panel: 1 where nothing is kept of it.
     fn panel_next(&mut self, panel: &Name) -> Result<u64, StoreFault>
-        ensures reads { Reads result (standing self.old) (standing self.new) }
+        ensures reads { Reads (result_err result) (standing self.old) (standing self.new) }
         ensures value { (standing self.new).is_honest → IfOk result (λ next. next ≡ (standing self.old).content.tables.next panel.now) };
 
     /// The row under a number of a panel, if one is kept.
     fn command(&mut self, panel: &Name, number: u64) -> Result<Option<CommandRow>, StoreFault>
-        ensures reads { Reads result (standing self.old) (standing self.new) }
+        ensures reads { Reads (result_err result) (standing self.old) (standing self.new) }
         ensures value { (standing self.new).is_honest → IfOk result (λ row. row ≡ (standing self.old).content.tables.row panel.now number) };
 
     /// The rows of a panel at the numbers from `from` up to and without `upto`, then those from `upto` on
@@ -38,38 +39,38 @@ pub trait Store {
         upto: u64,
     ) -> Result<Vec<NumberedRow>, StoreFault>
         requires { from ≤ upto }
-        ensures reads { Reads result (standing self.old) (standing self.new) }
+        ensures reads { Reads (result_err result) (standing self.old) (standing self.new) }
         ensures value { (standing self.new).is_honest → IfOk result (λ run. IsRun ((standing self.old).content.tables.row panel.now) from upto run.items) };
 
     /// The priority array of a point: without values where nothing is kept of it.
     fn array(&mut self, point: &Name) -> Result<PriorityArray, StoreFault>
-        ensures reads { Reads result (standing self.old) (standing self.new) }
+        ensures reads { Reads (result_err result) (standing self.old) (standing self.new) }
         ensures value { (standing self.new).is_honest → IfOk result (λ array. array ≡ (standing self.old).content.tables.places point.now) };
 
     /// What a schedule shows: a value or NULL, or nothing where it is quiet.
     fn shown(&mut self, schedule: &Name) -> Result<Option<Option<i64>>, StoreFault>
-        ensures reads { Reads result (standing self.old) (standing self.new) }
+        ensures reads { Reads (result_err result) (standing self.old) (standing self.new) }
         ensures value { (standing self.new).is_honest → IfOk result (λ shown. shown ≡ (standing self.old).content.tables.shown schedule.now) };
 
     /// The moment of the last tick, if there was one.
     fn last_tick(&mut self) -> Result<Option<i64>, StoreFault>
-        ensures reads { Reads result (standing self.old) (standing self.new) }
+        ensures reads { Reads (result_err result) (standing self.old) (standing self.new) }
         ensures value { (standing self.new).is_honest → IfOk result (λ last. last ≡ (standing self.old).content.tables.last_tick) };
 
     /// The entries that are imported into a calendar, in the byte order of their texts.
     fn entries(&mut self, calendar: &Name) -> Result<Vec<Entry>, StoreFault>
-        ensures reads { Reads result (standing self.old) (standing self.new) }
+        ensures reads { Reads (result_err result) (standing self.old) (standing self.new) }
         ensures value { (standing self.new).is_honest → IfOk result (λ entries. AreEntries (standing self.old).content.tables calendar.now entries.items) };
 
     /// The names that stand in the tables.
     fn names(&mut self) -> Result<Names, StoreFault>
-        ensures reads { Reads result (standing self.old) (standing self.new) }
+        ensures reads { Reads (result_err result) (standing self.old) (standing self.new) }
         ensures value { (standing self.new).is_honest → IfOk result (λ names. AreNames (standing self.old).content.tables names) };
 
     /// Makes a whole change, or none of it. A change's numbers and priorities lie in their ranges.
     fn commit(&mut self, change: &Change) -> Result<(), StoreFault>
         requires { CanStand change.now }
-        ensures commits { Commits change.now result (standing self.old) (standing self.new) };
+        ensures commits { Commits change.now (result_err result) (standing self.old) (standing self.new) };
 
     /// How often the device or the database has failed; the count stays at its greatest value.
     fn failures(&self) -> u64

@@ -1,0 +1,97 @@
+-- Reads one after the other, and a commit behind them.
+use Rattle.std.proofs.Common.{◌≡◌, ◌⊎◌, Bool, true, false, Option, Some, None, refl, sym, ap, ◌∙◌, subst}
+use Rattle.std.specs.Bool.{IsTrue}
+use Rattle.store.specs.declared.change.Change.{Change}
+use Rattle.store.specs.declared.fault.StoreFault.{StoreFault}
+use Rattle.store.specs.declared.fault.StoreFault.TheVariants.{NoMemory, Failed, Shut, BadRow}
+use Rattle.store.specs.Standing.{Standing, Content, Goes, Reads, Commits, Makes, HasRisen}
+
+not_shut : None ≡ Some Shut → ⊥
+not_shut e = cc
+
+not_failed : None ≡ Some Failed → ⊥
+not_failed e = cc
+
+is_open : (test : Bool) → (IsTrue test → ⊥) → test ≡ false
+is_open true none = absurd (none refl)
+is_open false none = refl
+
+-- a call that tells no fault shows that the store was open, and leaves it open
+pub was_open : (fault : Option StoreFault) (old new : Standing) → Goes fault old new → (fault ≡ Some Shut → ⊥) → old.is_shut ≡ false
+was_open fault old new goes told = is_open old.is_shut (λ shut. told (goes.shut.1 shut))
+
+pub stays_open : (old new : Standing) → Goes None old new → new.is_shut ≡ false
+stays_open old new goes = goes.goes_on not_failed ∙ was_open None old new goes not_shut
+
+is_not : false ≡ true → ⊥
+is_not e = cc
+
+-- a call behind a read
+Goes-after : (fault : Option StoreFault) (first second third : Standing) → Goes None first second → Goes fault second third → Goes fault first third
+Goes-after fault first second third before after = record {
+  honest = λ honest. before.honest (after.honest honest);
+  shut = (
+    (λ told. absurd (is_not (sym (stays_open first second before) ∙ after.shut.0 told))),
+    (λ shut. absurd (not_shut (before.shut.1 shut))),
+  );
+  goes_on = λ told. after.goes_on told ∙ before.goes_on not_failed;
+  steady = λ told. after.steady told ∙ before.steady not_failed;
+  failed = λ told. let rises = after.failed told in (rises.0, subst (λ count. HasRisen count third.failures) (before.steady not_failed) rises.1);
+  settled = after.settled;
+}
+
+-- a read behind a read
+pub Reads-then : (fault : Option StoreFault) (first second third : Standing) → Reads None first second → Reads fault second third
+    → Reads fault first third
+Reads-then fault first second third before after = record {
+  goes = Goes-after fault first second third before.goes after.goes;
+  kept = λ honest told. after.kept honest told ∙ before.kept (after.goes.honest honest) not_failed;
+  left = λ honest was content left.
+      after.left honest (stays_open first second before.goes) content left ∙ before.kept (after.goes.honest honest) not_failed;
+  bad_row = λ honest told. sym (ap (λ (content : Content). content.is_sound) (before.kept (after.goes.honest honest) not_failed)) ∙ after.bad_row honest told;
+}
+
+-- a commit behind a read
+pub Commits-then : (change : Change) (fault : Option StoreFault) (first second third : Standing) → Reads None first second
+    → Commits change fault second third → Commits change fault first third
+Commits-then change fault first second third before after = record {
+  goes = Goes-after fault first second third before.goes after.goes;
+  made = λ honest none. subst (λ content. Makes change content third.content) (before.kept (after.goes.honest honest) not_failed) (after.made honest none);
+  unchanged = λ honest goes_on told is. after.unchanged honest goes_on told is ∙ before.kept (after.goes.honest honest) not_failed;
+  left = λ honest was content left.
+      subst (λ old. (content ≡ old) ⊎ Makes change old content) (before.kept (after.goes.honest honest) not_failed)
+      (after.left honest (stays_open first second before.goes) content left);
+  never_bad = after.never_bad;
+}
+
+-- what is read before a read is what stands after it
+pub kept-read : (first second : Standing) → Reads None first second → second.is_honest → second.content ≡ first.content
+kept-read first second reads honest = reads.kept honest not_failed
+
+-- a call that fails for want of memory, or for a row that cannot stand, where nothing was done but reads
+pub Reads-told : (fault : StoreFault) (first second : Standing) → Reads None first second → (Some fault ≡ Some NoMemory) → Reads (Some fault) first second
+Reads-told fault first second before is = record {
+  goes = record {
+    honest = before.goes.honest;
+    shut = (
+      (λ told. absurd (memory_not_shut (sym is ∙ told))),
+      (λ shut. absurd (not_shut (before.goes.shut.1 shut))),
+    );
+    goes_on = λ told. before.goes.goes_on not_failed;
+    steady = λ told. before.goes.steady not_failed;
+    failed = λ told. absurd (memory_not_failed (sym is ∙ told));
+    settled = before.goes.settled;
+  };
+  kept = λ honest told. before.kept honest not_failed;
+  left = before.left;
+  bad_row = λ honest told. absurd (memory_not_bad (sym is ∙ told));
+}
+  where
+    memory_not_shut : Some NoMemory ≡ Some Shut → ⊥
+    memory_not_shut e = cc
+
+    memory_not_failed : Some NoMemory ≡ Some Failed → ⊥
+    memory_not_failed e = cc
+
+    memory_not_bad : Some NoMemory ≡ Some BadRow → ⊥
+    memory_not_bad e = cc
