@@ -1,5 +1,0 @@
-pub mod EventLemmas
-pub mod StepLemmas
-pub mod MapLemmas
-pub mod CommandLemmas
-pub mod DeliverLemmas

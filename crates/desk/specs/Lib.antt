@@ -1,11 +1,1 @@
-pub mod Accepted
-pub mod Applied
-pub mod Content
-pub mod Events
-pub mod Headline
-pub mod Held
-pub mod Machine
-pub mod PointState
-pub mod Reply
-pub mod Tables
-pub mod Unchanged
+pub mod Written
