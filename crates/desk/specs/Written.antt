@@ -1,5 +1,5 @@
 -- What is written and not yet committed.
-use Rattle.std.specs.Prelude.{◌≡◌, ℕ, if◌then◌else◌, List, [], ◌∷◌, ◌++◌}
+use Rattle.std.specs.Prelude.{◌≡◌, if◌then◌else◌, List, [], ◌∷◌, ◌++◌}
 use Rattle.std.specs.Str.{bytes_eq}
 use Rattle.points.specs.declared.command_row.CommandState.TheVariants.{Answered}
 use Rattle.points.specs.declared.answer.Answer.{Answer}

@@ -3,14 +3,15 @@ ghost use Rattle.std.specs.Prelude.{◌≡◌, ◌≤◌, ◌++◌, ◌∷◌, [
 ghost use Rattle.std.specs.List.{All};
 ghost use Rattle.std.specs.Result.{result_err};
 ghost use Rattle.points.specs.declared.command_row.CommandState.TheVariants.{Answered};
-ghost use Rattle.points.specs.PriorityArray.{present_of};
+ghost use Rattle.points.specs.PriorityArray.{Places, present_of};
 ghost use Rattle.points.specs.Rights.{names_no_place};
 ghost use Rattle.window.specs.declared.numbered_content.NumberedContent.{NumberedContent as an_entry};
 ghost use Rattle.deliveries.specs.Accepted.{panel_named};
 ghost use Rattle.deliveries.specs.Machine.{answer_to, commanded, default_of, done_of, place_of, places_after};
 ghost use Rattle.deliveries.specs.Moved.{answered_rows, places_after_each};
 ghost use Rattle.store.specs.Change.{IsKeptRow, IsNumber, IsPlace, IsState};
-ghost use Rattle.store.specs.Standing.{Reads};
+ghost use Rattle.store.specs.Standing.{IsOpen, Reads};
+ghost use Rattle.store.specs.Tables.{Text};
 ghost use Rattle.desk.specs.Written.{Acts, places_at, written};
 
 use deliveries::Building;
@@ -48,6 +49,14 @@ fn relinquish_default(building: &Building, point: &Name) -> i64
     }
 }
 
+// Puts a content's value in its place.
+fn command_array(array: &mut PriorityArray, content: &Content)
+    requires { names_no_place content.now.priority ≡ false }
+    ensures { array.new ≡ commanded array.old content.now }
+{
+    array.set(content.priority as u8, content.value);
+}
+
 // Writes a permitted content in its place, and answers what its point presents then.
 fn write<S: Store>(
     store: &mut S,
@@ -68,7 +77,7 @@ fn write<S: Store>(
 {
     let held = store.array(&content.point)?;
     let mut array = with_written(held, values.as_slice(), &content.point);
-    array.set(content.priority as u8, content.value);
+    command_array(&mut array, content);
     let (present, priority) = array.present(relinquish_default(building, &content.point));
     values.push(PlaceValue {
         point: content.point,
@@ -76,6 +85,31 @@ fn write<S: Store>(
         value: content.value,
     })?;
     Ok(Answer::Done { present, priority })
+}
+
+// Answers one command, after those whose values are written, and writes its value if it is permitted.
+fn answer_command<S: Store>(
+    store: &mut S,
+    building: &Building,
+    panel: &Panel,
+    values: &mut Vec<PlaceValue>,
+    content: &Content,
+) -> Result<Answer, StoreFault>
+    requires open { IsOpen (S.standing store.old) }
+    requires known { panel_named building.now panel.now.name ≡ Some panel.now }
+    requires places { All IsPlace values.old.items }
+    ensures reads { Reads (result_err result) (S.standing store.old) (S.standing store.new) }
+    ensures answer { (S.standing store.new).is_honest → IfOk result (λ answer. answer
+        ≡ answer_to building.now (written values.old.items (S.standing store.old).content.tables.places) panel.now.name content.now) }
+    ensures values { OnOk result ((held : Text → Places) → written values.new.items held
+        ≡ places_after building.now (written values.old.items held) panel.now.name content.now) }
+    ensures places { OnOk result (All IsPlace values.new.items) }
+    ensures state { IfOk result (λ answer. IsState (Answered answer)) }
+{
+    match building.permit(panel, content) {
+        Ok(()) => write(store, building, values, content),
+        Err(rule) => Ok(Answer::Refused(rule)),
+    }
 }
 
 // Acts on one command, after those before it.
@@ -86,6 +120,7 @@ fn act_on<S: Store>(
     acted: &mut Acted,
     entry: &NumberedContent,
 ) -> Result<(), StoreFault>
+    requires open { IsOpen (S.standing store.old) }
     requires known { panel_named building.now panel.now.name ≡ Some panel.now }
     requires number { IsNumber entry.now.number }
     requires places { All IsPlace acted.old.places.items }
@@ -96,10 +131,7 @@ fn act_on<S: Store>(
     ensures places { OnOk result (All IsPlace acted.new.places.items) }
     ensures rows { OnOk result (All IsKeptRow acted.new.rows.items) }
 {
-    let answer = match building.permit(panel, &entry.content) {
-        Ok(()) => write(store, building, &mut acted.places, &entry.content)?,
-        Err(rule) => Answer::Refused(rule),
-    };
+    let answer = answer_command(store, building, panel, &mut acted.places, &entry.content)?;
     acted.rows.push(KeptRow {
         panel: panel.name,
         number: entry.number,
@@ -119,6 +151,7 @@ pub fn act_on_each<S: Store>(
     panel: &Panel,
     entries: &[NumberedContent],
 ) -> Result<Acted, StoreFault>
+    requires open { IsOpen (S.standing store.old) }
     requires known { panel_named building.now panel.now.name ≡ Some panel.now }
     requires numbers { All (λ (entry : an_entry). IsNumber entry.number) entries.now }
     ensures reads { Reads (result_err result) (S.standing store.old) (S.standing store.new) }

@@ -67,7 +67,8 @@ impl PriorityArray {
     /// The present value, and the priority of the place that gives it: the value of the highest place that
     /// is not NULL, else the relinquish default, told with priority 0 (this profile's choice).
     pub fn present(&self, relinquish_default: i64) -> (i64, u8)
-        ensures { result ≡ present_of self.now relinquish_default }
+        ensures present { result ≡ present_of self.now relinquish_default }
+        ensures at_most_16 { result.1 ≤ 16 }
     {
         for priority in 1..=LOWEST_PRIORITY {
             if let Some(value) = self.value_at(priority) {

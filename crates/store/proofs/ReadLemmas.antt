@@ -4,7 +4,7 @@ use Rattle.std.specs.Bool.{IsTrue}
 use Rattle.store.specs.declared.change.Change.{Change}
 use Rattle.store.specs.declared.fault.StoreFault.{StoreFault}
 use Rattle.store.specs.declared.fault.StoreFault.TheVariants.{NoMemory, Failed, Shut, BadRow}
-use Rattle.store.specs.Standing.{Standing, Content, Goes, Reads, Commits, Makes, HasRisen}
+use Rattle.store.specs.Standing.{Standing, Content, Goes, Reads, Commits, Makes, HasRisen, IsOpen}
 
 not_shut : None ≡ Some Shut → ⊥
 not_shut e = cc
@@ -67,6 +67,25 @@ Commits-then change fault first second third before after = record {
 -- what is read before a read is what stands after it
 pub kept-read : (first second : Standing) → Reads None first second → second.is_honest → second.content ≡ first.content
 kept-read first second reads honest = reads.kept honest not_failed
+
+-- after a read that tells no fault a store is open
+pub IsOpen-read : (first second : Standing) → Reads None first second → IsOpen second
+IsOpen-read first second reads = record {
+  goes = record {
+    honest = λ honest. honest;
+    shut = ((λ told. absurd (not_shut told)), (λ shut. absurd (is_not (sym (stays_open first second reads.goes) ∙ shut))));
+    goes_on = λ told. refl;
+    steady = λ told. refl;
+    failed = λ told. absurd (not_failed told);
+    settled = reads.goes.settled;
+  };
+  kept = λ honest told. refl;
+  left = λ honest was content left. reads.goes.settled honest was content left;
+  bad_row = λ honest told. absurd (not_bad told);
+}
+  where
+    not_bad : None ≡ Some BadRow → ⊥
+    not_bad e = cc
 
 -- a call that fails for want of memory, or for a row that cannot stand, where nothing was done but reads
 pub Reads-told : (fault : StoreFault) (first second : Standing) → Reads None first second → (Some fault ≡ Some NoMemory) → Reads (Some fault) first second

@@ -51,6 +51,10 @@ pub record Reads (fault : Option StoreFault) (old new : Standing) : Type 0 where
   pub left : new.is_honest → old.is_shut ≡ false → (content : Content) → new.may_leave content → content ≡ old.content
   pub bad_row : new.is_honest → fault ≡ Some BadRow → old.content.is_sound ≡ false
 
+-- a store that a read has shown to be open
+abbrev pub IsOpen : Standing → Type 0
+IsOpen standing = Reads None standing standing
+
 -- a content with the whole change; a change makes no row that cannot stand
 pub record Makes (change : Change) (old new : Content) : Type 0 where
   pub tables : new.tables ≡ with_change change old.tables
