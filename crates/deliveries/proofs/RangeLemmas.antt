@@ -1,6 +1,6 @@
 -- Numbers of deliveries stay in their ranges.
 use Rattle.std.proofs.Common.{◌≡◌, ◌≢◌, ℕ, suc, zero, ◌+◌, ◌-◌, ◌<◌, ◌≤◌, ◌&&◌, true, false, cond, List, [], ◌∷◌, Option, Some, None, is_some, max}
-use Rattle.std.proofs.Common.{refl, sym, ap, ◌∙◌, subst, arith, inl, inr, nat_le, ℤ, pos, negsuc}
+use Rattle.std.proofs.Common.{refl, sym, ap, ◌∙◌, subst, arith, inl, inr, Bool, nat_le, nat_lt, ℤ, pos, negsuc, IfSome}
 use Rattle.std.specs.List.{All, flat_map}
 use Rattle.std.specs.Str.{bytes_eq}
 use Rattle.std.proofs.lemmas.List.Elements.{All-cons, All-nil}
@@ -12,6 +12,7 @@ use Rattle.store.specs.Tables.{Text}
 use Rattle.window.specs.declared.numbered_content.NumberedContent.{NumberedContent}
 use Rattle.window.specs.declared.TheConstants.{LAST_NUMBER}
 use Rattle.window.specs.Applied.{applied, and_at, contents_from}
+use Rattle.window.specs.Plan.{parked_by}
 use Rattle.window.specs.Taken as asks
 use Rattle.window.proofs.AppliedLemmas.{content_at-take_command, content_at-take_skip}
 use Rattle.window.proofs.FrontLemmas.{IsFront-front, take-accepted, take-refused}
@@ -155,3 +156,22 @@ applied-in_range b p ds more =
     let last = front_greatest b p more in
     All-contents_from (λ entry. IsNumber entry.number) (asks.front new - asks.front old) new (asks.front old) (λ number c least below.
     record { least = omega (arith, first, least); greatest = omega (arith, last, least, below) })
+
+-- a command that is parked has a number in range
+pub parked-in_range : (b : Building) (p : Text) (ds : List Delivery) (d : Delivery) (ask : asks.Ask) → asked d ≡ Some ask
+    → IfSome (parked_by (taken_by b p ds) ask) (λ (entry : NumberedContent). IsNumber entry.number)
+parked-in_range b p ds d (asks.Skip upto) asking = tt
+parked-in_range b p ds d (asks.Command number content) asking =
+    let t = taken_by b p ds in
+    let last = asked-in_range d (asks.Command number content) asking in
+    let least = front_least b p ds in
+    elim (cases_Bool (asks.accepts t number && nat_lt (asks.front t) number)) [
+      | inl parks ↦
+          let past : asks.front t < number = past_front (asks.accepts t number) (asks.front t) number parks in
+          rw parks (record { least = omega (arith, least, past); greatest = omega (arith, last) })
+      | inr not ↦ rw not tt
+    ]
+  where
+    past_front : (accepted : Bool) (front number : ℕ) → (accepted && nat_lt front number) ≡ true → front < number
+    past_front true front number parks = grind (arith, nat_tests)
+    past_front false front number parks = absurd (false≢true parks)

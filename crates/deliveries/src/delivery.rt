@@ -1,4 +1,6 @@
 //! What reaches the desk.
+ghost use Rattle.std.specs.Prelude.{◌≡◌};
+
 use points::{Content, Name};
 
 /// One delivery, as it came: it may be a repeat, and come late or out of order.
@@ -15,4 +17,17 @@ pub enum Delivery {
         panel: Name,
         upto: i64,
     },
+}
+
+impl Delivery {
+    ghost use Rattle.deliveries.specs.Accepted.{panel_of};
+
+    /// The panel that it comes from.
+    pub fn panel(&self) -> &Name
+        ensures { result.now ≡ panel_of self.now }
+    {
+        match self {
+            Delivery::Command { panel, .. } | Delivery::Skip { panel, .. } => panel,
+        }
+    }
 }

@@ -1,1 +1,3 @@
+pub mod CarryLemmas
 pub mod CommandLemmas
+pub mod DeliverLemmas

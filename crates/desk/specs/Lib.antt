@@ -1,1 +1,5 @@
+pub mod Carried
+pub mod Headline
+pub mod Planned
+pub mod Views
 pub mod Written

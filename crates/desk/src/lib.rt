@@ -12,4 +12,8 @@
 pub use point_state::PointState;
 
 mod acting;
+mod carrying_out;
+mod operating;
 mod point_state;
+mod replying;
+mod viewing;

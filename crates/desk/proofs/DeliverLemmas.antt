@@ -1,0 +1,125 @@
+-- One delivery, from its plan.
+use Rattle.std.proofs.Common.{◌≡◌, ◌⊎◌, ℕ, ◌+◌, ◌<◌, ◌≤◌, ◌++◌, ◌&&◌, Bool, true, false, cond, List, [], ◌∷◌, Option, Some, None, Result, Ok, Err, IfSome}
+use Rattle.std.proofs.Common.{refl, sym, ap, ◌∙◌, subst, arith, inl, inr, nat_le, nat_lt, ℤ}
+use Rattle.std.specs.List.{All, flat_map, list_all}
+use Rattle.std.specs.Option.{option_map_or}
+use Rattle.std.specs.Result.{result_err}
+use Rattle.std.proofs.lemmas.Bool.Decides.{nat_tests}
+use Rattle.std.proofs.lemmas.List.Elements.{All-weaker}
+use Rattle.std.proofs.lemmas.List.Sums.{list_all-from_AllPass, AllPass-from_list_all}
+use Rattle.points.specs.declared.answer.Answer.{Answer}
+use Rattle.points.specs.declared.answer.Answer.TheVariants.{Refused}
+use Rattle.points.specs.declared.command_row.CommandRow.{CommandRow}
+use Rattle.points.specs.declared.content.Content.{Content as a_content}
+use Rattle.points.specs.declared.panel.Panel.{Panel}
+use Rattle.points.specs.declared.rule.Rule.TheVariants.{NoSuchPoint}
+use Rattle.points.specs.PriorityArray.{Places}
+use Rattle.store.specs.declared.fault.StoreFault.{StoreFault}
+use Rattle.store.specs.declared.fault.StoreFault.TheVariants.{NoMemory, Failed, Shut, BadRow}
+use Rattle.store.specs.Change.{IsNumber}
+use Rattle.store.specs.Standing.{Content, Goes, IsOpen, Reads, Standing, sound}
+use Rattle.store.specs.Tables.{Tables, Text}
+use Rattle.window.specs.declared.numbered_content.NumberedContent.{NumberedContent}
+use Rattle.window.specs.declared.plan.Plan.{Plan}
+use Rattle.window.specs.declared.TheConstants.{LAST_NUMBER}
+use Rattle.window.specs.Applied.{applied}
+use Rattle.window.specs.Plan.{Plans, parked_by}
+use Rattle.window.specs.Taken as asks
+use Rattle.window.specs.View.{row_asked}
+use Rattle.window.proofs.PlanLemmas.{applied-same_front}
+use Rattle.deliveries.specs.declared.building.Building.{Building}
+use Rattle.deliveries.specs.declared.delivery.Delivery.{Delivery}
+use Rattle.deliveries.specs.declared.reply.Reply.{Reply}
+use Rattle.deliveries.specs.Accepted.{asked, asks_of, panel_named, panel_of, taken_by}
+use Rattle.deliveries.specs.Moved.{first_answer, moved}
+use Rattle.deliveries.specs.Reply.{number_told, reply, reply_on}
+use Rattle.deliveries.specs.Tables.{tables}
+use Rattle.deliveries.proofs.MovedLemmas.{reply-moved, tables-moved}
+use Rattle.deliveries.proofs.RangeLemmas.{applied-in_range, front_greatest, front_least, parked-in_range}
+use Rattle.deliveries.proofs.StepLemmas.{Asks, tables-unmoved, taken-here}
+use Rattle.desk.specs.Carried.{Becomes, Carries, IsInRange, is_in_range, is_number}
+use Rattle.desk.specs.Headline.{Delivers, Holds, LeavesEither}
+use Rattle.desk.specs.Planned.{IsPlanned}
+
+module _ (b : Building) (E : List Delivery) (d : Delivery) (ask : asks.Ask) (panel : Panel) (next : ℕ) (number : ℤ) (plan : Plan)
+    (known : panel_named b panel.name ≡ Some panel) (is : IsPlanned b E d ask panel.name next number plan) where
+
+  asking : Asks b d ask
+  asking = record { panel = panel; known = ap (panel_named b) is.of_panel ∙ known; asks_it = is.asks_it }
+
+  abbrev before : asks.Taken
+  before = taken_by b (panel_of d) E
+
+  plans : Plans before ask (row_asked ((tables b E).row (panel_of d)) ask) plan
+  plans = subst (λ p. Plans (taken_by b p E) ask (row_asked ((tables b E).row p) ask) plan) (sym is.of_panel) is.plans
+
+  next-front : next ≡ asks.front before
+  next-front = is.next_is ∙ ap (λ p. asks.front (taken_by b p E)) (sym is.of_panel)
+
+  -- the reply that a plan tells
+  reply-planned : (answer : Answer) → answer ≡ first_answer b (tables b E).places (panel_of d) plan.apply
+      → reply_on plan.verdict next plan.next number answer ≡ reply b E d
+  reply-planned answer first =
+      (λ i. reply_on plan.verdict (next-front i) plan.next (sym is.number_is i) (first i)) ∙ sym (reply-moved b E d ask plan asking plans)
+
+  -- a plan that changes nothing
+  pub Delivers-unchanged : (old new : Standing) → plan.next ≡ next → plan.park ≡ None → Holds b E old → new.content ≡ old.content
+      → Delivers b E d (Ok (reply_on plan.verdict next plan.next number (Refused NoSuchPoint))) new
+  Delivers-unchanged old new stays none held same =
+      let still : plan.next ≡ asks.front before = stays ∙ next-front in
+      let nothing : plan.apply ≡ [] = plans.apply ∙ applied-same_front before (asks.take before ask) (sym plans.next ∙ still) in
+      (reply-planned (Refused NoSuchPoint) (sym (ap (first_answer b (tables b E).places (panel_of d)) nothing)),
+      same ∙ (held ∙ sym (ap sound (tables-unmoved b E d ask _ plan asking plans still none))))
+
+  -- a plan's numbers lie in their ranges
+  pub in_range : is_in_range plan ≡ true
+  in_range =
+      let after = taken_by b (panel_of d) (E ++ d ∷ []) in
+      let grown = taken-here b E d ask asking in
+      let next_is : plan.next ≡ asks.front after = plans.next ∙ sym (ap asks.front grown) in
+      let least = front_least b (panel_of d) (E ++ d ∷ []) in
+      let greatest = front_greatest b (panel_of d) (E ++ d ∷ []) in
+      let apply_is : plan.apply ≡ applied before after = plans.apply ∙ ap (applied before) (sym grown) in
+      let numbers : list_all (λ (entry : NumberedContent). is_number entry.number) plan.apply ≡ true =
+      ap (list_all (λ (entry : NumberedContent). is_number entry.number)) apply_is
+      ∙ list_all-from_AllPass (λ (entry : NumberedContent). is_number entry.number) (applied before after)
+      (All-weaker (λ (entry : NumberedContent). IsNumber entry.number) (λ (entry : NumberedContent). is_number entry.number ≡ true)
+      (λ entry. tested entry.number) (applied before after) (applied-in_range b (panel_of d) E (E ++ d ∷ []))) in
+      let first : nat_le 1 plan.next ≡ true = at_least plan.next (asks.front after) next_is least in
+      let last : nat_le plan.next (LAST_NUMBER + 1) ≡ true = at_most plan.next (asks.front after) next_is greatest in
+      rw (first, last, numbers, plans.park) (park-tested (parked_by before ask) (parked-in_range b (panel_of d) E d ask is.asks_it))
+    where
+      tested : (n : ℕ) → IsNumber n → is_number n ≡ true
+      tested n is = let least = is.least in let greatest = is.greatest in grind (arith, nat_tests)
+      at_least : (n front : ℕ) → n ≡ front → 1 ≤ front → nat_le 1 n ≡ true
+      at_least n front same least = grind (arith, nat_tests)
+      at_most : (n front : ℕ) → n ≡ front → front ≤ LAST_NUMBER + 1 → nat_le n (LAST_NUMBER + 1) ≡ true
+      at_most n front same greatest = grind (arith, nat_tests)
+      park-tested : (park : Option NumberedContent) → IfSome park (λ (entry : NumberedContent). IsNumber entry.number)
+          → option_map_or (λ (entry : NumberedContent). is_number entry.number) park true ≡ true
+      park-tested None within = refl
+      park-tested (Some entry) within = tested entry.number within
+
+  becomes-moved : (old content : Content) → old ≡ sound (tables b E) → Becomes (moved b panel.name plan old.tables) old content
+      → content ≡ sound (tables b (E ++ d ∷ []))
+  becomes-moved old content held becomes =
+      let moves : moved b panel.name plan old.tables ≡ tables b (E ++ d ∷ []) =
+      (λ i. moved b (sym is.of_panel i) plan (held i).tables) ∙ sym (tables-moved b E d ask asking _ plan plans) in
+      let all_sound = becomes.is_sound (ap (λ (c : Content). c.is_sound) held) in
+      λ i. record { tables = (becomes.tables_are ∙ moves) i; is_sound = all_sound i }
+
+  -- a plan that is carried out
+  pub Delivers-carried : (answer : Answer) (old new : Standing) → Carries b panel.name plan (Ok answer) old new → new.is_honest → Holds b E old
+      → Delivers b E d (Ok (reply_on plan.verdict next plan.next number answer)) new
+  Delivers-carried answer old new carries honest held =
+      let first = carries.answer honest in
+      (reply-planned answer (first ∙ (λ i. first_answer b (held i).tables.places (sym is.of_panel i) plan.apply)),
+      becomes-moved old.content new.content held (carries.made honest refl))
+
+  -- or is not
+  pub Delivers-failed : (fault : StoreFault) (old new : Standing) → IsOpen old → Carries b panel.name plan (Err fault) old new → new.is_honest → Holds b E old
+      → Delivers b E d (Err fault) new
+  Delivers-failed NoMemory old new is_open carries honest held = ?
+  Delivers-failed Failed old new is_open carries honest held = ?
+  Delivers-failed Shut old new is_open carries honest held = tt
+  Delivers-failed BadRow old new is_open carries honest held = ?
