@@ -1,11 +1,10 @@
 -- A plan's change makes the tables of the plan.
-use Rattle.std.proofs.Common.{◌≡◌, ◌⊎◌, ℕ, ◌++◌, true, false, List, [], ◌∷◌, Option, Some, None, Result, IfOk, refl, sym, ap, ◌∙◌, subst, inl, inr}
+use Rattle.std.proofs.Common.{◌≡◌, ◌⊎◌, ◌++◌, true, false, List, [], ◌∷◌, Some, None, Result, IfOk, refl, sym, ap, ◌∙◌, inl, inr}
 use Rattle.std.specs.Result.{result_err}
 use Rattle.points.specs.declared.answer.Answer.{Answer}
 use Rattle.points.specs.PriorityArray.{Places}
 use Rattle.store.specs.declared.change.Change.{Change}
 use Rattle.store.specs.declared.fault.StoreFault.{StoreFault}
-use Rattle.store.specs.declared.fault.StoreFault.TheVariants.{Failed, BadRow}
 use Rattle.store.specs.Change.{with_change, with_each, with_imported, with_last_tick, with_next, with_place, with_row, with_shown, without_rows}
 use Rattle.store.specs.Standing.{Commits, Content, Makes, Reads, Standing}
 use Rattle.store.specs.Tables.{Tables, Text}
@@ -55,6 +54,7 @@ Carries-read b p plan result fault old new told answer reads = record {
   where
     some_none : Some fault ≡ None → ⊥
     some_none e = cc
+
     still : new.is_shut ≡ false → new.is_shut ≡ true → ⊥
     still going shut = cc
 
@@ -77,6 +77,7 @@ Carries-committed b p plan change result first second third answer reads commits
   where
     becomes : third.is_honest → (content : Content) → Makes change first.content content → Becomes (moved b p plan first.content.tables) first.content content
     becomes honest content made = record { tables_are = made.tables ∙ makes honest; is_sound = made.is_sound }
+
     made_or_not : third.is_honest → (content : Content) → (content ≡ first.content) ⊎ Makes change first.content content
         → (content ≡ first.content) ⊎ Becomes (moved b p plan first.content.tables) first.content content
     made_or_not honest content (inl same) = inl same

@@ -1,5 +1,5 @@
 -- What the rules say of one command.
-use Rattle.std.proofs.Common.{◌≡◌, Bool, true, false, cond, List, [], ◌∷◌, ◌++◌, Option, Some, None, refl, sym, ap, ◌∙◌, inl, inr}
+use Rattle.std.proofs.Common.{◌≡◌, Bool, true, false, cond, List, [], ◌∷◌, ◌++◌, Option, Some, None, find, refl, sym, ap, ◌∙◌, subst, inl, inr}
 use Rattle.std.specs.Option.{option_map_or}
 use Rattle.points.specs.declared.answer.Answer.TheVariants.{Refused}
 use Rattle.points.specs.declared.content.Content.{Content}
@@ -85,3 +85,17 @@ written-permitted b p content values held none =
 pub written-at : (point : Text) (values : List PlaceValue) (held : Text → Places) → written values held point ≡ places_at point values (held point)
 written-at point [] held = refl
 written-at point (item ∷ items) held = written-at point items (with_place item held)
+
+found_passes : {A : Type 0} (test : A → Bool) (xs : List A) (x : A) → find test xs ≡ Some x → test x ≡ true
+found_passes test [] x e = absurd cc
+found_passes test (y ∷ ys) x e = elim (cases_Bool (test y)) [
+  | inl passes ↦ let same : Some y ≡ Some x = rw passes at e in let here : y ≡ x = cc in subst (λ w. test w ≡ true) here passes
+  | inr fails ↦ found_passes test ys x (rw fails at e)
+]
+
+-- the panel that is found has the name
+pub name_of-named : (b : Building) (p : Text) (panel : Panel) → panel_named b p ≡ Some panel → panel.name ≡ p
+name_of-named b p panel e = (bytes_eq-Decides panel.name p).0 (found_passes (λ (x : Panel). bytes_eq x.name p) b.panels panel e)
+
+pub named-again : (b : Building) (p : Text) (panel : Panel) → panel_named b p ≡ Some panel → panel_named b panel.name ≡ Some panel
+named-again b p panel e = ap (panel_named b) (name_of-named b p panel e) ∙ e

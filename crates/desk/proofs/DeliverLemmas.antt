@@ -1,24 +1,21 @@
 -- One delivery, from its plan.
-use Rattle.std.proofs.Common.{◌≡◌, ◌⊎◌, ℕ, ◌+◌, ◌<◌, ◌≤◌, ◌++◌, ◌&&◌, Bool, true, false, cond, List, [], ◌∷◌, Option, Some, None, Result, Ok, Err, IfSome}
-use Rattle.std.proofs.Common.{refl, sym, ap, ◌∙◌, subst, arith, inl, inr, nat_le, nat_lt, ℤ}
-use Rattle.std.specs.List.{All, flat_map, list_all}
+use Rattle.std.proofs.Common.{◌≡◌, ◌⊎◌, ℕ, ◌+◌, ◌≤◌, ◌++◌, true, false, List, [], ◌∷◌, Option, Some, None, is_some, Ok, Err, IfSome}
+use Rattle.std.proofs.Common.{refl, sym, ap, ◌∙◌, subst, arith, inl, inr, nat_le, ℤ}
+use Rattle.std.specs.List.{list_all}
 use Rattle.std.specs.Option.{option_map_or}
-use Rattle.std.specs.Result.{result_err}
+use Rattle.std.proofs.lemmas.Bool.{false≢true}
 use Rattle.std.proofs.lemmas.Bool.Decides.{nat_tests}
 use Rattle.std.proofs.lemmas.List.Elements.{All-weaker}
-use Rattle.std.proofs.lemmas.List.Sums.{list_all-from_AllPass, AllPass-from_list_all}
+use Rattle.std.proofs.lemmas.List.Sums.{list_all-from_AllPass}
 use Rattle.points.specs.declared.answer.Answer.{Answer}
 use Rattle.points.specs.declared.answer.Answer.TheVariants.{Refused}
-use Rattle.points.specs.declared.command_row.CommandRow.{CommandRow}
-use Rattle.points.specs.declared.content.Content.{Content as a_content}
 use Rattle.points.specs.declared.panel.Panel.{Panel}
 use Rattle.points.specs.declared.rule.Rule.TheVariants.{NoSuchPoint}
-use Rattle.points.specs.PriorityArray.{Places}
 use Rattle.store.specs.declared.fault.StoreFault.{StoreFault}
 use Rattle.store.specs.declared.fault.StoreFault.TheVariants.{NoMemory, Failed, Shut, BadRow}
 use Rattle.store.specs.Change.{IsNumber}
 use Rattle.store.specs.Standing.{Content, Goes, IsOpen, Reads, Standing, sound}
-use Rattle.store.specs.Tables.{Tables, Text}
+use Rattle.store.proofs.ReadLemmas.{stays_open, was_open}
 use Rattle.window.specs.declared.numbered_content.NumberedContent.{NumberedContent}
 use Rattle.window.specs.declared.plan.Plan.{Plan}
 use Rattle.window.specs.declared.TheConstants.{LAST_NUMBER}
@@ -29,21 +26,19 @@ use Rattle.window.specs.View.{row_asked}
 use Rattle.window.proofs.PlanLemmas.{applied-same_front}
 use Rattle.deliveries.specs.declared.building.Building.{Building}
 use Rattle.deliveries.specs.declared.delivery.Delivery.{Delivery}
-use Rattle.deliveries.specs.declared.reply.Reply.{Reply}
-use Rattle.deliveries.specs.Accepted.{asked, asks_of, panel_named, panel_of, taken_by}
+use Rattle.deliveries.specs.Accepted.{panel_named, panel_of, taken_by}
 use Rattle.deliveries.specs.Moved.{first_answer, moved}
-use Rattle.deliveries.specs.Reply.{number_told, reply, reply_on}
+use Rattle.deliveries.specs.Reply.{reply, reply_on}
 use Rattle.deliveries.specs.Tables.{tables}
 use Rattle.deliveries.proofs.MovedLemmas.{reply-moved, tables-moved}
 use Rattle.deliveries.proofs.RangeLemmas.{applied-in_range, front_greatest, front_least, parked-in_range}
 use Rattle.deliveries.proofs.StepLemmas.{Asks, tables-unmoved, taken-here}
-use Rattle.desk.specs.Carried.{Becomes, Carries, IsInRange, is_in_range, is_number}
-use Rattle.desk.specs.Headline.{Delivers, Holds, LeavesEither}
+use Rattle.desk.specs.Carried.{Becomes, Carries, is_in_range, is_number}
+use Rattle.desk.specs.Headline.{Delivers, Holds}
 use Rattle.desk.specs.Planned.{IsPlanned}
 
 module _ (b : Building) (E : List Delivery) (d : Delivery) (ask : asks.Ask) (panel : Panel) (next : ℕ) (number : ℤ) (plan : Plan)
     (known : panel_named b panel.name ≡ Some panel) (is : IsPlanned b E d ask panel.name next number plan) where
-
   asking : Asks b d ask
   asking = record { panel = panel; known = ap (panel_named b) is.of_panel ∙ known; asks_it = is.asks_it }
 
@@ -67,9 +62,10 @@ module _ (b : Building) (E : List Delivery) (d : Delivery) (ask : asks.Ask) (pan
       → Delivers b E d (Ok (reply_on plan.verdict next plan.next number (Refused NoSuchPoint))) new
   Delivers-unchanged old new stays none held same =
       let still : plan.next ≡ asks.front before = stays ∙ next-front in
-      let nothing : plan.apply ≡ [] = plans.apply ∙ applied-same_front before (asks.take before ask) (sym plans.next ∙ still) in
-      (reply-planned (Refused NoSuchPoint) (sym (ap (first_answer b (tables b E).places (panel_of d)) nothing)),
-      same ∙ (held ∙ sym (ap sound (tables-unmoved b E d ask _ plan asking plans still none))))
+      let nothing : plan.apply ≡ [] = plans.apply ∙ applied-same_front before (asks.take before ask) (sym plans.next ∙ still) in (
+        reply-planned (Refused NoSuchPoint) (sym (ap (first_answer b (tables b E).places (panel_of d)) nothing)),
+        same ∙ (held ∙ sym (ap sound (tables-unmoved b E d ask _ plan asking plans still none))),
+      )
 
   -- a plan's numbers lie in their ranges
   pub in_range : is_in_range plan ≡ true
@@ -91,10 +87,13 @@ module _ (b : Building) (E : List Delivery) (d : Delivery) (ask : asks.Ask) (pan
     where
       tested : (n : ℕ) → IsNumber n → is_number n ≡ true
       tested n is = let least = is.least in let greatest = is.greatest in grind (arith, nat_tests)
+
       at_least : (n front : ℕ) → n ≡ front → 1 ≤ front → nat_le 1 n ≡ true
       at_least n front same least = grind (arith, nat_tests)
+
       at_most : (n front : ℕ) → n ≡ front → front ≤ LAST_NUMBER + 1 → nat_le n (LAST_NUMBER + 1) ≡ true
       at_most n front same greatest = grind (arith, nat_tests)
+
       park-tested : (park : Option NumberedContent) → IfSome park (λ (entry : NumberedContent). IsNumber entry.number)
           → option_map_or (λ (entry : NumberedContent). is_number entry.number) park true ≡ true
       park-tested None within = refl
@@ -112,14 +111,55 @@ module _ (b : Building) (E : List Delivery) (d : Delivery) (ask : asks.Ask) (pan
   pub Delivers-carried : (answer : Answer) (old new : Standing) → Carries b panel.name plan (Ok answer) old new → new.is_honest → Holds b E old
       → Delivers b E d (Ok (reply_on plan.verdict next plan.next number answer)) new
   Delivers-carried answer old new carries honest held =
-      let first = carries.answer honest in
-      (reply-planned answer (first ∙ (λ i. first_answer b (held i).tables.places (sym is.of_panel i) plan.apply)),
-      becomes-moved old.content new.content held (carries.made honest refl))
+      let first = carries.answer honest in (
+        reply-planned answer (first ∙ (λ i. first_answer b (held i).tables.places (sym is.of_panel i) plan.apply)),
+        becomes-moved old.content new.content held (carries.made honest refl),
+      )
 
   -- or is not
   pub Delivers-failed : (fault : StoreFault) (old new : Standing) → IsOpen old → Carries b panel.name plan (Err fault) old new → new.is_honest → Holds b E old
       → Delivers b E d (Err fault) new
-  Delivers-failed NoMemory old new is_open carries honest held = ?
-  Delivers-failed Failed old new is_open carries honest held = ?
+  Delivers-failed NoMemory old new is_open carries honest held =
+      let going = carries.goes.goes_on (λ e. cc) ∙ stays_open old old is_open.goes in
+      carries.unchanged honest going NoMemory refl ∙ held
+  Delivers-failed Failed old new is_open carries honest held = λ content left.
+      either content (carries.left honest (stays_open old old is_open.goes) content left)
+    where
+      either : (content : Content) → (content ≡ old.content) ⊎ Becomes (moved b panel.name plan old.content.tables) old.content content
+          → (content ≡ sound (tables b E)) ⊎ (content ≡ sound (tables b (E ++ d ∷ [])))
+      either content (inl same) = inl (same ∙ held)
+      either content (inr becomes) = inr (becomes-moved old.content content held becomes)
   Delivers-failed Shut old new is_open carries honest held = tt
-  Delivers-failed BadRow old new is_open carries honest held = ?
+  Delivers-failed BadRow old new is_open carries honest held =
+      absurd (false≢true (sym (carries.bad_row honest refl) ∙ ap (λ (c : Content). c.is_sound) held))
+
+-- a read that fails
+pub Delivers-read : (b : Building) (E : List Delivery) (d : Delivery) (fault : StoreFault) (old new : Standing) → Reads (Some fault) old new
+    → new.is_honest → Holds b E old → Delivers b E d (Err fault) new
+Delivers-read b E d NoMemory old new reads honest held = reads.kept honest (λ e. cc) ∙ held
+Delivers-read b E d Failed old new reads honest held = λ content left.
+    inl (reads.left honest (was_open (Some Failed) old new reads.goes (λ e. cc)) content left ∙ held)
+Delivers-read b E d Shut old new reads honest held = tt
+Delivers-read b E d BadRow old new reads honest held =
+    absurd (false≢true (sym (reads.bad_row honest refl) ∙ ap (λ (c : Content). c.is_sound) held))
+
+-- a store that stays open and tells that a row cannot stand
+pub Goes-bad_row : (old : Standing) → IsOpen old → Goes (Some BadRow) old old
+Goes-bad_row old is_open = record {
+  honest = λ honest. honest;
+  shut = ((λ told. absurd (not_shut told)), (λ shut. absurd (false≢true (sym (stays_open old old is_open.goes) ∙ shut))));
+  goes_on = λ told. refl;
+  steady = λ told. refl;
+  failed = λ told. absurd (not_failed told);
+  settled = is_open.goes.settled;
+}
+  where
+    not_shut : Some BadRow ≡ Some Shut → ⊥
+    not_shut e = cc
+
+    not_failed : Some BadRow ≡ Some Failed → ⊥
+    not_failed e = cc
+
+pub none_of : {A : Type 0} (found : Option A) → is_some found ≡ false → found ≡ None
+none_of None none = refl
+none_of (Some x) none = absurd (false≢true (sym none))

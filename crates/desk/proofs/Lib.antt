@@ -1,3 +1,5 @@
 pub mod CarryLemmas
 pub mod CommandLemmas
 pub mod DeliverLemmas
+pub mod PlannedLemmas
+pub mod RunLemmas

@@ -1,7 +1,8 @@
 use Rattle.std.specs.Prelude.{◌≡◌, ◌⊎◌, ℕ, ◌+◌, ◌<◌, ◌≤◌, List, [], ◌∷◌, ◌++◌, take, length, Option, Some, None, Result, Ok, Err}
 use Rattle.store.specs.declared.fault.StoreFault.{StoreFault}
 use Rattle.store.specs.declared.fault.StoreFault.TheVariants.{NoMemory, Failed, Shut, BadRow}
-use Rattle.store.specs.Standing.{Content, Standing, sound}
+use Rattle.std.specs.Bool.{IsTrue}
+use Rattle.store.specs.Standing.{Content, HasRisen, IsSettled, Standing, sound}
 use Rattle.deliveries.specs.declared.building.Building.{Building}
 use Rattle.deliveries.specs.declared.delivery.Delivery.{Delivery}
 use Rattle.deliveries.specs.declared.reply.Reply.{Reply}
@@ -44,3 +45,13 @@ pub record Runs (building : Building) (earlier deliveries : List Delivery) (told
   pub within : count ≤ length deliveries
   pub replies_are : told ≡ replies building earlier (take count deliveries)
   pub ends : Ends building earlier deliveries count fault now
+
+-- How the store stands after a run: S2 shuts it and is counted, S3 comes of a store that was shut, and a stop at
+-- an open store leaves what it holds, if it was so before.
+pub record Stands (fault : Option StoreFault) (old new : Standing) : Type 0 where
+  pub honest : new.is_honest → old.is_honest
+  pub shut : fault ≡ Some Shut → IsTrue old.is_shut
+  pub goes_on : (fault ≡ Some Failed → ⊥) → new.is_shut ≡ old.is_shut
+  pub steady : (fault ≡ Some Failed → ⊥) → new.failures ≡ old.failures
+  pub failed : fault ≡ Some Failed → IsTrue new.is_shut × HasRisen old.failures new.failures
+  pub settled : IsSettled old → IsSettled new

@@ -1,5 +1,6 @@
 pub mod Carried
 pub mod Headline
 pub mod Planned
+pub mod PointState
 pub mod Views
 pub mod Written

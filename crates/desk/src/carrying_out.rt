@@ -54,14 +54,15 @@ fn first_answer(rows: &[KeptRow]) -> Answer
     ensures { result ≡ first_told rows.now }
 {
     match rows.first() {
-        Some(KeptRow {
-            row:
-                CommandRow {
+        Some(
+            KeptRow {
+                row: CommandRow {
                     state: CommandState::Answered(answer),
                     ..
                 },
-            ..
-        }) => *answer,
+                ..
+            },
+        ) => *answer,
         _ => Answer::Refused(Rule::NoSuchPoint),
     }
 }

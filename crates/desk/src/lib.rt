@@ -9,6 +9,7 @@
 //! the contract of `Desk::run` (`specs/Headline.antt`); the definitions are those of `deliveries`.
 #![tactic(auto)]
 
+pub use operating::Desk;
 pub use point_state::PointState;
 
 mod acting;

@@ -1,19 +1,22 @@
 //! The desk.
 ghost use Rattle.std.specs.Prelude.{◌≡◌, ◌+◌, ◌≤◌, List, Some, None, IfOk, IfSome};
 ghost use Rattle.std.specs.Result.{result_err};
-ghost use Rattle.store.specs.Standing.{Goes, IsOpen};
+ghost use Rattle.points.specs.Rights.{point_named};
+ghost use Rattle.store.specs.Standing.{Goes, IsOpen, Reads};
 ghost use Rattle.window.specs.Taken.{Ask, front};
 ghost use Rattle.deliveries.specs.declared.delivery.Delivery.{Delivery as a_delivery};
 ghost use Rattle.deliveries.specs.declared.delivery.Delivery.TheVariants as delivery_of;
 ghost use Rattle.deliveries.specs.Accepted.{number_upto, panel_named, taken_by};
-ghost use Rattle.desk.specs.Headline.{Delivers, Holds};
+ghost use Rattle.desk.specs.Headline.{Delivers, Holds, Runs, Stands};
 ghost use Rattle.desk.specs.Planned.{IsPlanned};
+ghost use Rattle.desk.specs.PointState.{state_of};
 
 use crate::carrying_out::{carry_out, is_in_range};
+use crate::point_state::PointState;
 use crate::replying::reply_on;
 use crate::viewing::{view_for_command, view_for_skip};
 use deliveries::{Building, Delivery, Reply};
-use points::{Answer, Content, Panel, Rule};
+use points::{Answer, Content, Name, Panel, Rule};
 use std::alloc::Global;
 use store::{Store, StoreFault};
 use window::{LAST_NUMBER, Plan, plan_command, plan_skip};
@@ -105,4 +108,120 @@ fn deliver_skip<S: Store>(
     let view = view_for_skip(alloc, store, &panel.name, next, natural)?;
     let plan = plan_skip(alloc, &view, natural)?;
     answer_plan(alloc, store, building, panel, next, upto, &plan)
+}
+
+/// A desk of a building, over a store of its tables.
+#[derive(Drop)]
+pub struct Desk<S> {
+    alloc: Global,
+    building: Building,
+    store: S,
+}
+
+impl<S: Store + Drop> Desk<S> {
+    /// A desk of a building over a store, which holds the tables of what was delivered so far.
+    pub fn new(alloc: Global, building: Building, store: S) -> Self
+        ensures building { result.building ≡ building }
+        ensures store { result.store ≡ store }
+    {
+        Desk {
+            alloc,
+            building,
+            store,
+        }
+    }
+
+    /// The building that `new` took.
+    pub fn building(&self) -> &Building
+        ensures { result.now ≡ self.now.building }
+    {
+        &self.building
+    }
+
+    /// The store, as it stands.
+    pub fn into_store(self) -> S
+        ensures { result ≡ self.store }
+    {
+        self.store
+    }
+
+    /// Carries out one delivery and answers it: of whatever list the store holds the tables, it then holds those
+    /// of the list with this delivery after it. A delivery begins with a read, so that a store that is shut
+    /// answers before all else; what it changes it changes in one commit, its last call of the store.
+    pub fn deliver(&mut self, delivery: &Delivery) -> Result<Reply, StoreFault>
+        ensures goes { Goes (result_err result) (S.standing self.old.store) (S.standing self.new.store) }
+        ensures delivers { (earlier : List a_delivery) → (S.standing self.new.store).is_honest
+            → Holds self.old.building earlier (S.standing self.old.store)
+            → Delivers self.old.building earlier delivery.now result (S.standing self.new.store) }
+        ensures building { self.new.building ≡ self.old.building }
+    {
+        let name = delivery.panel();
+        let next = self.store.panel_next(name)?;
+        let Some(panel) = self.building.find_panel(name) else {
+            return Ok(Reply::NoPanel);
+        };
+        match delivery {
+            Delivery::Command {
+                number,
+                content,
+                ..
+            } => deliver_command(
+                self.alloc,
+                &mut self.store,
+                &self.building,
+                panel,
+                next,
+                *number,
+                content,
+            ),
+            Delivery::Skip { upto, .. } => deliver_skip(
+                self.alloc,
+                &mut self.store,
+                &self.building,
+                panel,
+                next,
+                *upto,
+            ),
+        }
+    }
+
+    /// Delivers a list, each delivery after those before it, up to a fault. What was answered stands.
+    pub fn run(&mut self, deliveries: &[Delivery]) -> (Vec<Reply>, Option<StoreFault>)
+        ensures headline { (earlier : List a_delivery) → (S.standing self.new.store).is_honest
+            → Holds self.old.building earlier (S.standing self.old.store)
+            → Runs self.old.building earlier deliveries.now result.0.items result.1 (S.standing self.new.store) }
+        ensures stands { Stands result.1 (S.standing self.old.store) (S.standing self.new.store) }
+        ensures building { self.new.building ≡ self.old.building }
+    {
+        let mut replies = Vec::new(self.alloc);
+        if replies.reserve(deliveries.len()).is_err() {
+            return (replies, Some(StoreFault::NoMemory));
+        }
+        for delivery in deliveries {
+            match self.deliver(delivery) {
+                Ok(reply) => replies.push_reserved(reply),
+                Err(fault) => return (replies, Some(fault)),
+            }
+        }
+        (replies, None)
+    }
+
+    /// What a point of the building has now; none for a name that the building lacks.
+    pub fn point(&mut self, name: &Name) -> Result<Option<PointState>, StoreFault>
+        ensures reads { Reads (result_err result) (S.standing self.old.store) (S.standing self.new.store) }
+        ensures state { (S.standing self.new.store).is_honest → IfOk result (λ state. state
+            ≡ state_of ((S.standing self.old.store).content.tables.places name.now) (point_named self.old.building.points name.now)) }
+        ensures building { self.new.building ≡ self.old.building }
+    {
+        let places = self.store.array(name)?;
+        let Some(point) = self.building.find_point(name) else {
+            return Ok(None);
+        };
+        let (present, priority) = places.present(point.relinquish_default);
+        Ok(Some(PointState {
+            places,
+            present,
+            priority,
+        }))
+    }
 }

@@ -27,9 +27,7 @@ fn rows_needed<S: Store>(
 {
     match needed {
         None => Ok(Listing::from_vec(Vec::new(alloc))),
-        Some(run) => Ok(Listing::from_vec(store.commands_run(
-            panel, run.from, run.upto,
-        )?)),
+        Some(run) => Ok(Listing::from_vec(store.commands_run(panel, run.from, run.upto)?)),
     }
 }
 

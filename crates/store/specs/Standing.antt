@@ -1,4 +1,4 @@
-use Rattle.std.specs.Prelude.{◌≡◌, ℕ, ◌-◌, ◌^◌, ◌<◌, ◌↔◌, ◌⊎◌, Bool, true, false, Option, Some, None}
+use Rattle.std.specs.Prelude.{◌≡◌, ℕ, ◌-◌, ◌^◌, ◌<◌, ◌↔◌, ◌⊎◌, Bool, false, true, Option, Some, None}
 use Rattle.std.specs.Bool.{IsTrue}
 use Rattle.store.specs.declared.change.Change.{Change}
 use Rattle.store.specs.declared.fault.StoreFault.{StoreFault}
@@ -33,6 +33,10 @@ pub record Standing : Type 1 where
 abbrev pub HasRisen : ℕ → ℕ → Type 0
 HasRisen old new = (old < new) ⊎ ((old ≡ 2 ^ 64 - 1) × (new ≡ old))
 
+-- while a store is open, a stop leaves what it holds and nothing else
+abbrev pub IsSettled : Standing → Type 0
+IsSettled standing = standing.is_honest → standing.is_shut ≡ false → (content : Content) → standing.may_leave content → content ≡ standing.content
+
 -- what each call says of the failures, of the fault that it tells or of none: S3 on a shut store and only
 -- there, S2 where the store failed in this call, which shuts it
 pub record Goes (fault : Option StoreFault) (old new : Standing) : Type 0 where
@@ -41,8 +45,7 @@ pub record Goes (fault : Option StoreFault) (old new : Standing) : Type 0 where
   pub goes_on : (fault ≡ Some Failed → ⊥) → new.is_shut ≡ old.is_shut
   pub steady : (fault ≡ Some Failed → ⊥) → new.failures ≡ old.failures
   pub failed : fault ≡ Some Failed → IsTrue new.is_shut × HasRisen old.failures new.failures
-  -- while a store is open, a stop leaves what it holds and nothing else
-  pub settled : new.is_honest → new.is_shut ≡ false → (content : Content) → new.may_leave content → content ≡ new.content
+  pub settled : IsSettled new
 
 -- a read changes nothing; a row that cannot stand is told only where there is one
 pub record Reads (fault : Option StoreFault) (old new : Standing) : Type 0 where

@@ -1,4 +1,4 @@
-use Rattle.std.proofs.Common.{◌≡◌, ◌∙◌, sym, ap}
+use Rattle.std.proofs.Common.{◌∙◌, ap}
 use Rattle.deliveries.specs.Moved.{answered_rows, places_after_each}
 use Rattle.desk.specs.Carried.{first_told}
 use Rattle.desk.proofs.CarryLemmas.{Carries-committed, change-moved, first_told-answered}

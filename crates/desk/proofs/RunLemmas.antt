@@ -1,0 +1,63 @@
+-- Deliveries one after the other.
+use Rattle.std.proofs.Common.{◌≡◌, ◌⊎◌, ℕ, suc, zero, ◌+◌, ◌<◌, ◌++◌, false, List, [], ◌∷◌, Option, Some, None, Ok, Err, take, length}
+use Rattle.std.proofs.Common.{refl, sym, ap, ◌∙◌, subst, arith, inl, inr, append_assoc}
+use Rattle.std.proofs.lemmas.Bool.{false≢true}
+use Rattle.std.proofs.lemmas.List.{append-nil}
+use Rattle.store.specs.declared.fault.StoreFault.{StoreFault}
+use Rattle.store.specs.declared.fault.StoreFault.TheVariants.{NoMemory, Failed, Shut, BadRow}
+use Rattle.store.specs.Standing.{Content, Goes, HasRisen, Standing, sound}
+use Rattle.deliveries.specs.declared.building.Building.{Building}
+use Rattle.deliveries.specs.declared.delivery.Delivery.{Delivery}
+use Rattle.deliveries.specs.declared.reply.Reply.{Reply}
+use Rattle.deliveries.specs.Reply.{reply, replies}
+use Rattle.deliveries.specs.Tables.{tables}
+use Rattle.desk.specs.Headline.{Delivers, Ends, Holds, Stands}
+
+pub replies-push : (b : Building) (E ds : List Delivery) (d : Delivery) → replies b E (ds ++ d ∷ []) ≡ replies b E ds ++ reply b (E ++ ds) d ∷ []
+replies-push b E [] d = ap (λ earlier. reply b earlier d ∷ []) (sym (append-nil E))
+replies-push b E (x ∷ ds) d =
+    ap (λ rest. reply b E x ∷ rest) (replies-push b (E ++ x ∷ []) ds d
+    ∙ ap (λ earlier. replies b (E ++ x ∷ []) ds ++ reply b earlier d ∷ []) (append_assoc E (x ∷ []) ds))
+
+-- one delivery more of a run
+pub run-more : (b : Building) (E ds more : List Delivery) (d : Delivery) (told : List Reply) (now : Standing) (one : Reply)
+    → more ≡ ds ++ d ∷ [] → told ≡ replies b E ds → Delivers b (E ++ ds) d (Ok one) now
+    → (told ++ one ∷ [] ≡ replies b E more) × Holds b (E ++ more) now
+run-more b E ds more d told now one is said delivered = (
+  (λ i. said i ++ delivered.0 i ∷ []) ∙ sym (replies-push b E ds d) ∙ ap (replies b E) (sym is),
+  delivered.1 ∙ ap (λ list. sound (tables b list)) (append_assoc E ds (d ∷ []) ∙ ap (λ rest. E ++ rest) (sym is)),
+)
+
+pub Stands-after : (fault : Option StoreFault) (first second third : Standing) → Stands None first second → Goes fault second third → Stands fault first third
+Stands-after fault first second third before after = record {
+  honest = λ honest. before.honest (after.honest honest);
+  shut = λ told. sym (before.goes_on (λ e. cc)) ∙ after.shut.0 told;
+  goes_on = λ told. after.goes_on told ∙ before.goes_on (λ e. cc);
+  steady = λ told. after.steady told ∙ before.steady (λ e. cc);
+  failed = λ told. let rises = after.failed told in (rises.0, subst (λ count. HasRisen count third.failures) (before.steady (λ e. cc)) rises.1);
+  settled = λ was. after.settled;
+}
+
+zero_or : (count : ℕ) → (count ≡ 0) ⊎ (0 < count)
+zero_or zero = inl refl
+zero_or (suc count) = inr (omega arith)
+
+-- a delivery of a run that fails
+pub ends-failed : (b : Building) (E ds : List Delivery) (d : Delivery) (count : ℕ) (fault : StoreFault) (old new : Standing) → count < length ds
+    → take (count + 1) ds ≡ take count ds ++ d ∷ [] → (0 < count → old.is_shut ≡ false) → Goes (Some fault) old new
+    → Delivers b (E ++ take count ds) d (Err fault) new → Ends b E ds count (Some fault) new
+ends-failed b E ds d count NoMemory old new within more opened goes delivered = (within, delivered)
+ends-failed b E ds d count Failed old new within more opened goes delivered = (within, λ content left. either content (delivered content left))
+  where
+    further : tables b ((E ++ take count ds) ++ d ∷ []) ≡ tables b (E ++ take (count + 1) ds)
+    further = ap (tables b) (append_assoc E (take count ds) (d ∷ []) ∙ ap (λ rest. E ++ rest) (sym more))
+
+    either : (content : Content) → (content ≡ sound (tables b (E ++ take count ds))) ⊎ (content ≡ sound (tables b ((E ++ take count ds) ++ d ∷ [])))
+        → (content ≡ sound (tables b (E ++ take count ds))) ⊎ (content ≡ sound (tables b (E ++ take (count + 1) ds)))
+    either content (inl same) = inl same
+    either content (inr same) = inr (same ∙ ap sound further)
+ends-failed b E ds d count Shut old new within more opened goes delivered = elim (zero_or count) [
+  | inl none ↦ none
+  | inr some ↦ absurd (false≢true (sym (opened some) ∙ goes.shut.0 refl))
+]
+ends-failed b E ds d count BadRow old new within more opened goes delivered = delivered

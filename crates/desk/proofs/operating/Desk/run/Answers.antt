@@ -1,0 +1,56 @@
+use Rattle.std.proofs.Common.{◌≡◌, ◌∙◌, ◌++◌, ◌∷◌, ◌+◌, [], None, take, sym, ap, subst, arith, Ok, Err}
+use Rattle.std.proofs.lemmas.List.{take_more}
+use Rattle.store.proofs.ReadLemmas.{stays_open}
+use Rattle.deliveries.specs.declared.building.Building.{Building}
+use Rattle.deliveries.specs.declared.delivery.Delivery.{Delivery}
+use Rattle.desk.specs.Headline.{Delivers, Holds}
+use Rattle.desk.proofs.RunLemmas.{ends-failed, run-more, Stands-after}
+use Rattle.desk.proofs.operating.Desk.run.Goals as goal
+
+pub returns-in-Err-clause-headline : goal.returns-in-Err-clause-headline
+returns-in-Err-clause-headline g c = λ E honest held.
+    let so_far = c.loop-delivery.invariant in
+    let b = c.args.self.now.building in
+    let at = c.loop-delivery.delivery-index in
+    let all = c.args.deliveries.now in
+    let ds = take at all in
+    let d = c.delivery-item.result in
+    let old = g.S.Store.standing c.loop-delivery.self.store in
+    let new = g.S.Store.standing c.deliver.new.self.store in
+    let before = c.in-Err.ensures.goes.honest honest in
+    let done = so_far.so_far E before held in
+    let here : Holds c.loop-delivery.self.building (E ++ ds) old = subst (λ (x : Building). Holds x (E ++ ds) old) (sym so_far.building) done.1 in
+    let delivered = subst (λ (x : Building). Delivers x (E ++ ds) d (Err c.in-Err.fault) new) so_far.building (c.in-Err.ensures.delivers (E ++ ds) honest here) in
+    let more : take (at + 1) all ≡ ds ++ d ∷ [] =
+    take_more all at d (omega (arith, c.loop-delivery-test.true)) ∙ ap (λ (x : Delivery). ds ++ x ∷ []) (sym c.delivery-item.is) in
+    record {
+      count = at;
+      within = omega (arith, c.loop-delivery-test.true);
+      replies_are = done.0;
+      ends = ends-failed b E all d at c.in-Err.fault old new (omega (arith, c.loop-delivery-test.true)) more so_far.opened c.in-Err.ensures.goes delivered;
+    }
+
+pub loop-delivery-preserved : goal.loop-delivery-preserved
+loop-delivery-preserved g c =
+    let so_far = c.loop-delivery.invariant in
+    let first = g.S.Store.standing c.args.self.now.store in
+    let old = g.S.Store.standing c.loop-delivery.self.store in
+    let new = g.S.Store.standing c.deliver.new.self.store in
+    record {
+      building = c.in-Ok.ensures.building ∙ so_far.building;
+      count = omega (arith, c.push_reserved.ensures.len, so_far.count);
+      room = omega (arith, c.push_reserved.ensures.capacity, so_far.room);
+      stands = Stands-after None first old new so_far.stands c.in-Ok.ensures.goes;
+      opened = λ some. stays_open old new c.in-Ok.ensures.goes;
+      so_far = λ E honest held.
+          let done = so_far.so_far E (c.in-Ok.ensures.goes.honest honest) held in
+          let ds = take c.loop-delivery.delivery-index c.args.deliveries.now in
+          let here : Holds c.loop-delivery.self.building (E ++ ds) old = subst (λ (x : Building). Holds x (E ++ ds) old) (sym so_far.building) done.1 in
+          let delivered = subst (λ (x : Building). Delivers x (E ++ ds) c.delivery-item.result (Ok c.in-Ok.reply) new) so_far.building
+          (c.in-Ok.ensures.delivers (E ++ ds) honest here) in
+          let more : take (c.loop-delivery.delivery-index + 1) c.args.deliveries.now ≡ ds ++ c.delivery-item.result ∷ [] =
+          take_more c.args.deliveries.now c.loop-delivery.delivery-index c.delivery-item.result (omega (arith, c.loop-delivery-test.true))
+          ∙ ap (λ (d : Delivery). ds ++ d ∷ []) (sym c.delivery-item.is) in
+          let step = run-more c.args.self.now.building E ds _ c.delivery-item.result c.loop-delivery.replies.items new c.in-Ok.reply more done.0 delivered in
+          (c.push_reserved.ensures.items ∙ step.0, step.1);
+    }
