@@ -14,7 +14,7 @@ use crate::named::are_distinct;
 use crate::panel_table::panel_at;
 use crate::point_table::point_at;
 use crate::table_fields::{has_only, text_at, value_at};
-use desk::Building;
+use deliveries::Building;
 use points::{Listing, Panel, Point};
 use std::alloc::Global;
 use texts::text_of;

@@ -2,7 +2,7 @@
 //!
 //! `read_building` reads the bytes of a TOML file: its tables by `toml`, then the points (`point_table`),
 //! then the panels beside them (`panel_table`), each value by its key (`table_fields`). What is read is a
-//! `desk::Building`; any fault refuses the whole file.
+//! `deliveries::Building`; any fault refuses the whole file.
 #![tactic(auto)]
 
 pub use building::{LONGEST_FILE, read_building};

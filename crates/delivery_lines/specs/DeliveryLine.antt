@@ -7,8 +7,8 @@ use Rattle.serde_json.specs.Data as json
 use Rattle.serde_json.specs.Data.{Data, Members, no_members, member}
 use Rattle.serde_json.specs.Find.{as_i64, as_number, as_object, as_str, get}
 use Rattle.serde_json.specs.Read.{read}
-use Rattle.desk.specs.declared.Delivery.{Delivery}
-use Rattle.desk.specs.declared.Delivery.TheVariants.{Command}
+use Rattle.deliveries.specs.declared.Delivery.{Delivery}
+use Rattle.deliveries.specs.declared.Delivery.TheVariants.{Command, Skip}
 use Rattle.texts.specs.Steps.{◌>>=◌, where_holds}
 use Rattle.texts.specs.Texts.{name_of}
 use Rattle.texts.specs.Texts.{text_of}
@@ -54,9 +54,29 @@ command_in d = do
   where_holds (has_only command_keys ms)
       (Command panel number (record { point = point; priority = priority; value = value }))
 
+-- the keys that a skip's line has
+abbrev pub skip_keys : List (List ℕ)
+skip_keys = codes "panel" ∷ codes "skip" ∷ []
+
+-- the skip that an object tells
+unfoldable pub skip_in : Data → Option Delivery
+skip_in d = do
+  ms ← as_object d
+  panel ← get (codes "panel") d >>= name_in
+  upto ← get (codes "skip") d >>= integer_in
+  where_holds (has_only skip_keys ms) (Skip panel upto)
+
+abbrev pub delivery_with : Option Data → Data → Option Delivery
+delivery_with None d = command_in d
+delivery_with (Some upto) d = skip_in d
+
+-- an object with the key `skip` tells a skip or nothing, another one a command or nothing
+unfoldable pub delivery_in : Data → Option Delivery
+delivery_in d = delivery_with (get (codes "skip") d) d
+
 -- the delivery that a line tells
 unfoldable pub delivery_of : List ℕ → Option Delivery
 delivery_of line = do
   text ← text_of line
   d ← read text
-  command_in d
+  delivery_in d

@@ -1,11 +1,12 @@
 -- What a step over a line of deliveries answers.
 use Rattle.std.specs.Prelude.{◌≡◌, Option, Some, None, Result, Ok, Err}
+use Rattle.store.specs.declared.StoreFault.TheVariants.{NoMemory}
 use Rattle.delivery_lines.specs.declared.line_fault.LineFault.{LineFault}
-use Rattle.delivery_lines.specs.declared.line_fault.LineFault.TheVariants.{NoMemory, NotDelivery}
+use Rattle.delivery_lines.specs.declared.line_fault.LineFault.TheVariants.{NotDelivery, NotDone}
 
 -- the answer is what is told, where something is, and a refusal where nothing is; memory may be
 -- refused at any time
 abbrev pub Tells : {A : Type 0} → Option A → Result A LineFault → Type 0
 Tells told (Ok value) = told ≡ Some value
 Tells told (Err NotDelivery) = told ≡ None
-Tells told (Err NoMemory) = Unit {0}
+Tells told (Err (NotDone fault)) = fault ≡ NoMemory

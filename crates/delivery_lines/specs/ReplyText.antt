@@ -4,9 +4,9 @@ use Rattle.std.specs.Fmt.{decimal, signed_decimal}
 use Rattle.points.specs.RuleCode.{code_of}
 use Rattle.points.specs.declared.Answer.{Answer}
 use Rattle.points.specs.declared.Answer.TheVariants.{Done, Refused}
-use Rattle.desk.specs.declared.Reply.{Reply}
-use Rattle.desk.specs.declared.Reply.TheVariants.{Answered, BadNumber, Differs, NoPanel}
-use Rattle.desk.specs.declared.Reply.TheVariants.{Parked, Skipped, TooFar}
+use Rattle.deliveries.specs.declared.Reply.{Reply}
+use Rattle.deliveries.specs.declared.Reply.TheVariants.{Answered, BadNumber, Differs, NoPanel}
+use Rattle.deliveries.specs.declared.Reply.TheVariants.{Forgotten, Parked, SkipDone, Skipped, TooFar}
 
 -- the text of a command's answer, with the command's number
 abbrev pub answer_text : ℤ → Answer → List ℕ
@@ -28,6 +28,9 @@ reply_text (Skipped number) =
     codes "{\"answer\":\"skipped\",\"number\":" ++ (signed_decimal number ++ codes "}")
 reply_text (TooFar next number) = codes "{\"answer\":\"too_far\",\"next\":"
     ++ (decimal next ++ (codes ",\"number\":" ++ (signed_decimal number ++ codes "}")))
+reply_text (SkipDone next) = codes "{\"answer\":\"skip\",\"next\":" ++ (decimal next ++ codes "}")
+reply_text (Forgotten number) =
+    codes "{\"answer\":\"forgotten\",\"number\":" ++ (signed_decimal number ++ codes "}")
 
 -- the text with the end of a line (LF)
 abbrev pub reply_line : Reply → List ℕ

@@ -8,15 +8,18 @@ ghost use Rattle.serde_json.specs.Errors.{IsMemory};
 ghost use Rattle.serde_json.specs.Find.{get};
 ghost use Rattle.serde_json.specs.Read.{read};
 ghost use Rattle.serde_json.specs.View.{members_view, view};
-ghost use Rattle.delivery_lines.specs.DeliveryLine.{command_in, delivery_of, has_only, integer_in, name_in};
-ghost use Rattle.delivery_lines.specs.DeliveryLine.{priority_in, value_in};
+ghost use Rattle.delivery_lines.specs.DeliveryLine.{command_in, delivery_in, delivery_of, has_only, integer_in, name_in};
+ghost use Rattle.delivery_lines.specs.DeliveryLine.{priority_in, skip_in, value_in};
 ghost use Rattle.delivery_lines.specs.LineFault.{Tells};
+ghost use Rattle.store.specs.declared.StoreFault.{StoreFault as a_fault};
+ghost use Rattle.store.specs.declared.StoreFault.TheVariants.{NoMemory};
 
 use crate::LineFault;
-use desk::Delivery;
+use deliveries::Delivery;
 use points::{Content, LOWEST_PRIORITY, Name};
 use serde_json::{Map, Value};
 use std::alloc::Global;
+use store::StoreFault;
 use texts::{is_among, name_of, text_of};
 
 /// The delivery that a line tells, without its line end.
@@ -26,25 +29,53 @@ pub(crate) fn delivery_of(alloc: Global, line: &[u8]) -> Result<Delivery, LineFa
 {
     let text = text_of(line).ok_or(LineFault::NotDelivery)?;
     let value = parsed(alloc, text)?;
-    command_in(&value).ok_or(LineFault::NotDelivery)
+    delivery_in(&value).ok_or(LineFault::NotDelivery)
 }
 
 /// The value of a JSON text.
 fn parsed(alloc: Global, text: &str) -> Result<Value, LineFault>
     ensures ok { IfOk result (λ value. read text.now ≡ Some (view value)) }
     ensures refused { result ≡ Err LineFault.NotDelivery → read text.now ≡ None }
+    ensures memory { (fault : a_fault) → result ≡ Err (LineFault.NotDone fault) → fault ≡ NoMemory }
 {
     Value::from_str(alloc, text).map_err(fault_of)
 }
 
 /// Why a text is no JSON.
 fn fault_of(error: serde_json::Error) -> LineFault
-    ensures { result ≡ LineFault.NotDelivery → ¬ IsMemory error }
+    ensures refused { result ≡ LineFault.NotDelivery → ¬ IsMemory error }
+    ensures memory { (fault : a_fault) → result ≡ LineFault.NotDone fault → fault ≡ NoMemory }
 {
     if error.is_memory() {
-        LineFault::NoMemory
+        LineFault::NotDone(StoreFault::NoMemory)
     } else {
         LineFault::NotDelivery
+    }
+}
+
+/// The delivery that an object tells.
+#[tactic(auto, unfolding(crate::specs::DeliveryLine::delivery_in))]
+fn delivery_in(value: &Value) -> Option<Delivery>
+    ensures { result ≡ delivery_in (view value.now) }
+{
+    match value.get("skip") {
+        Some(_) => skip_in(value),
+        None => command_in(value),
+    }
+}
+
+/// The skip that an object tells.
+#[tactic(auto, unfolding(crate::specs::DeliveryLine::skip_in))]
+fn skip_in(value: &Value) -> Option<Delivery>
+    ensures { result ≡ skip_in (view value.now) }
+{
+    let members = value.as_object()?;
+    let panel = name_in(value.get("panel")?)?;
+    let upto = integer_in(value.get("skip")?)?;
+    if has_only(members, &["panel", "skip"]) {
+        Some(Delivery::Skip { panel, upto })
+    } else {
+        None
     }
 }
 

@@ -1,48 +1,48 @@
 //! Why a line of a list of deliveries is not answered.
 
-use desk::DeskFault;
 use std::alloc::{AllocError, AllocFailed};
+use store::StoreFault;
 
 /// Why a line is not answered.
 #[derive(Clone, Copy, Debug, PartialEq, Eq)]
 pub enum LineFault {
     /// The line tells no delivery.
     NotDelivery,
-    /// Memory was refused.
-    NoMemory,
+    /// The delivery was not carried out, or its answer not written: memory was refused, or the store failed.
+    NotDone(StoreFault),
 }
 
 impl From<AllocError> for LineFault {
     ghost use Rattle.std.specs.Prelude.{◌≡◌};
+    ghost use Rattle.store.specs.declared.StoreFault.{StoreFault};
     ghost use Rattle.delivery_lines.specs.declared.line_fault.LineFault.{LineFault};
 
-    ghost from_gives = { λ _ fault. fault ≡ LineFault.NoMemory };
+    ghost from_gives = { λ _ fault. fault ≡ LineFault.NotDone StoreFault.NoMemory };
 
     fn from(_error: AllocError) -> LineFault {
-        LineFault::NoMemory
+        LineFault::NotDone(StoreFault::NoMemory)
     }
 }
 
 impl<T: Drop> From<AllocFailed<T>> for LineFault {
     ghost use Rattle.std.specs.Prelude.{◌≡◌};
+    ghost use Rattle.store.specs.declared.StoreFault.{StoreFault};
     ghost use Rattle.delivery_lines.specs.declared.line_fault.LineFault.{LineFault};
 
-    ghost from_gives = { λ _ fault. fault ≡ LineFault.NoMemory };
+    ghost from_gives = { λ _ fault. fault ≡ LineFault.NotDone StoreFault.NoMemory };
 
     fn from(_error: AllocFailed<T>) -> LineFault {
-        LineFault::NoMemory
+        LineFault::NotDone(StoreFault::NoMemory)
     }
 }
 
-impl From<DeskFault> for LineFault {
+impl From<StoreFault> for LineFault {
     ghost use Rattle.std.specs.Prelude.{◌≡◌};
     ghost use Rattle.delivery_lines.specs.declared.line_fault.LineFault.{LineFault};
 
-    ghost from_gives = { λ _ fault. fault ≡ LineFault.NoMemory };
+    ghost from_gives = { λ fault given. given ≡ LineFault.NotDone fault };
 
-    fn from(fault: DeskFault) -> LineFault {
-        match fault {
-            DeskFault::NoMemory => LineFault::NoMemory,
-        }
+    fn from(fault: StoreFault) -> LineFault {
+        LineFault::NotDone(fault)
     }
 }

@@ -1,6 +1,6 @@
 //! The text of a reply.
 
-use desk::Reply;
+use deliveries::Reply;
 use points::Answer;
 use std::fmt;
 
@@ -36,6 +36,10 @@ impl fmt::Display for ReplyText {
                     f,
                     "{{\"answer\":\"too_far\",\"next\":{next},\"number\":{number}}}"
                 )
+            }
+            Reply::SkipDone { next } => write!(f, "{{\"answer\":\"skip\",\"next\":{next}}}"),
+            Reply::Forgotten { number } => {
+                write!(f, "{{\"answer\":\"forgotten\",\"number\":{number}}}")
             }
         }
     }
