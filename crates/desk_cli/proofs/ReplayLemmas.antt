@@ -9,10 +9,12 @@ use Rattle.std.proofs.lemmas.Option.{same_Some}
 use Rattle.std.specs.List.{flat_map}
 use Rattle.std.specs.Io.KnownBytes.{Appends, IsAtEnd, Keeps}
 use Rattle.std.specs.Io.BufRead.{DropsThrough, drop_through, strip_last, take_through}
-use Rattle.desk.specs.declared.Building.{Building}
-use Rattle.desk.specs.declared.Delivery.{Delivery}
-use Rattle.desk.specs.Reply.{replies, reply}
-use Rattle.desk.specs.Tables.{Tables, tables}
+use Rattle.deliveries.specs.declared.Building.{Building}
+use Rattle.deliveries.specs.declared.Delivery.{Delivery}
+use Rattle.deliveries.specs.Reply.{replies, reply}
+use Rattle.deliveries.specs.Tables.{tables}
+use Rattle.store.specs.Standing.{Content, sound}
+use Rattle.store.specs.Tables.{Tables}
 use Rattle.points.specs.declared.Point.{Point}
 use Rattle.points.specs.Rights.{point_named}
 use Rattle.desk.specs.PointState.{state_of}
@@ -73,7 +75,7 @@ told_by-append (l ∷ ls) ms ds es p q = step (is_empty_line l) (delivery_of l) 
     step false (Some d) (Some ts) all e ih = rw (ih ts refl) (ap (λ (xs : List Delivery). Some (xs ++ es)) (same_Some _ _ e))
 
 -- what was printed of some lines, and then of more
-pub Prints-Prints : (b : Building) (E : List Delivery) (ls ms : List (List ℕ)) (w x y : Option (List ℕ)) (t u : Tables)
+pub Prints-Prints : (b : Building) (E : List Delivery) (ls ms : List (List ℕ)) (w x y : Option (List ℕ)) (t u : Content)
     → (first : Prints b E ls w x t) → Prints b (E ++ first.told) ms x y u → Prints b E (ls ++ ms) w y u
 Prints-Prints b E ls ms w x y t u first more = record {
   told = first.told ++ more.told;
@@ -81,7 +83,7 @@ Prints-Prints b E ls ms w x y t u first more = record {
   printed = subst (λ text. Appends w y text)
       (sym (flat_map-append reply_line (replies b E first.told) (replies b (E ++ first.told) more.told)) ∙ ap reply_lines (sym (replies-append b E first.told more.told)))
       (Appends-Appends w x y _ _ first.printed more.printed);
-  holds = more.holds ∙ ap (tables b) (append_assoc E first.told more.told);
+  holds = more.holds ∙ ap (λ list. sound (tables b list)) (append_assoc E first.told more.told);
 }
 
 -- ---- the next line
@@ -128,31 +130,31 @@ lines_of-next (x ∷ xs) h = next_line x xs
 -- ---- the way through a reader's bytes
 
 -- of all the bytes, the lines before those that are left were printed
-pub record Progress (b : Building) (E : List Delivery) (bytes : List ℕ) (left old new : Option (List ℕ)) (now : Tables) : Type 0 where
+pub record Progress (b : Building) (E : List Delivery) (bytes : List ℕ) (left old new : Option (List ℕ)) (now : Content) : Type 0 where
   pub passed : List (List ℕ)
   pub rest : List ℕ
   pub left_is : left ≡ Some rest
   pub lines_are : lines_of bytes ≡ passed ++ lines_of rest
   pub prints : Prints b E passed old new now
 
-pub Progress-start : (b : Building) (E : List Delivery) (bytes : List ℕ) (left old : Option (List ℕ)) (now : Tables)
-    → left ≡ Some bytes → now ≡ tables b E → Progress b E bytes left old old now
+pub Progress-start : (b : Building) (E : List Delivery) (bytes : List ℕ) (left old : Option (List ℕ)) (now : Content)
+    → left ≡ Some bytes → now ≡ sound (tables b E) → Progress b E bytes left old old now
 Progress-start b E bytes left old now left_is holds = record {
   passed = [];
   rest = bytes;
   left_is = left_is;
   lines_are = refl;
-  prints = record { told = []; told_is = refl; printed = Appends-nothing old; holds = holds ∙ ap (tables b) (sym (append-nil E)) };
+  prints = record { told = []; told_is = refl; printed = Appends-nothing old; holds = holds ∙ ap (λ list. sound (tables b list)) (sym (append-nil E)) };
 }
 
-pub Progress-end : (b : Building) (E : List Delivery) (bytes : List ℕ) (left old new : Option (List ℕ)) (now : Tables)
+pub Progress-end : (b : Building) (E : List Delivery) (bytes : List ℕ) (left old new : Option (List ℕ)) (now : Content)
     → Progress b E bytes left old new now → IsAtEnd left → Prints b E (lines_of bytes) old new now
 Progress-end b E bytes left old new now p end =
     let at_end : p.rest ≡ [] = subst IsAtEnd p.left_is end in
     subst (λ ls. Prints b E ls old new now) (sym (p.lines_are ∙ ap (λ r. p.passed ++ lines_of r) at_end ∙ append-nil p.passed)) p.prints
 
 -- the next line that was read, and those after it
-pub lines_of-left : (b : Building) (E : List Delivery) (bytes line : List ℕ) (left old new : Option (List ℕ)) (now : Tables)
+pub lines_of-left : (b : Building) (E : List Delivery) (bytes line : List ℕ) (left old new : Option (List ℕ)) (now : Content)
     → (p : Progress b E bytes left old new now)
     → IfSome left (λ xs. line ≡ take_through 10 xs) → 0 < length line → lines_of p.rest ≡ strip_last 10 line ∷ lines_of (drop_through 10 p.rest)
 lines_of-left b E bytes line left old new now p reads some =
@@ -160,9 +162,9 @@ lines_of-left b E bytes line left old new now p reads some =
     lines_of-next p.rest (subst (λ l. 0 < length l) line_is some) ∙ ap (λ l. strip_last 10 l ∷ lines_of (drop_through 10 p.rest)) (sym line_is)
 
 -- one more line was read and printed
-pub Progress-line : (b : Building) (E : List Delivery) (bytes line : List ℕ) (left after old mid new : Option (List ℕ)) (now then : Tables)
+pub Progress-line : (b : Building) (E : List Delivery) (bytes line : List ℕ) (left after old mid new : Option (List ℕ)) (now then : Content)
     → Progress b E bytes left old mid now → IfSome left (λ xs. line ≡ take_through 10 xs) → DropsThrough left after 10 → 0 < length line
-    → ((F : List Delivery) → now ≡ tables b F → Prints b F (strip_last 10 line ∷ []) mid new then)
+    → ((F : List Delivery) → now ≡ sound (tables b F) → Prints b F (strip_last 10 line ∷ []) mid new then)
     → Progress b E bytes after old new then
 Progress-line b E bytes line left after old mid new now then p reads drops some prints =
     let after_is : after ≡ Some (drop_through 10 p.rest) = subst (λ o. DropsThrough o after 10) p.left_is drops in
@@ -186,14 +188,14 @@ Replays-Keeps file list old mid new r kept = record {
 }
 
 -- the replies and then the points
-pub Replays-done : (file list : List ℕ) (b b' b'' : Building) (old mid new : Option (List ℕ)) (now : Tables) → building_of file ≡ Some b → b' ≡ b
-    → Prints b' [] (lines_of list) old mid now → b'' ≡ b' → Appends mid new (point_lines b'' now) → Replays file list old new
+pub Replays-done : (file list : List ℕ) (b b' b'' : Building) (old mid new : Option (List ℕ)) (now : Content) → building_of file ≡ Some b → b' ≡ b
+    → Prints b' [] (lines_of list) old mid now → b'' ≡ b' → Appends mid new (point_lines b'' now.tables) → Replays file list old new
 Replays-done file list b b' b'' old mid new now file_is same prints still points = record {
   building = b';
   told = prints.told;
   building_is = file_is ∙ ap Some (sym same);
   told_is = prints.told_is;
-  printed = Appends-Appends old mid new _ _ prints.printed (subst (λ text. Appends mid new text) (ap₂ point_lines still prints.holds) points);
+  printed = Appends-Appends old mid new _ _ prints.printed (subst (λ text. Appends mid new text) (ap₂ (λ x (held : Content). point_lines x held.tables) still prints.holds) points);
 }
 
 -- ---- points, one after another
@@ -236,7 +238,7 @@ taken_bytes remaining limit inner reader bytes start buf limit_is inner_is start
     let then : buf ≡ start ++ take limit bytes = subst (λ o. IfSome (option_map (take limit) o) (λ xs. buf ≡ start ++ xs)) known first in
     then ∙ ap₂ (λ s n. s ++ take n bytes) start_is limit_is
 
-pub Prints-same : (b b' : Building) (E : List Delivery) (line line' : List ℕ) (old new : Option (List ℕ)) (now : Tables) → b ≡ b' → line ≡ line'
+pub Prints-same : (b b' : Building) (E : List Delivery) (line line' : List ℕ) (old new : Option (List ℕ)) (now : Content) → b ≡ b' → line ≡ line'
     → Prints b E (line ∷ []) old new now → Prints b' E (line' ∷ []) old new now
 Prints-same b b' E line line' old new now b_is line_is prints =
     subst (λ c. Prints c E (line' ∷ []) old new now) b_is (subst (λ l. Prints b E (l ∷ []) old new now) line_is prints)

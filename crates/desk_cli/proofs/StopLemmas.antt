@@ -7,10 +7,11 @@ use Rattle.std.specs.List.{flat_map}
 use Rattle.std.specs.declared.alloc.Global.{Global}
 use Rattle.std.specs.Io.BufRead.{DropsThrough, drop_through, strip_last, take_through}
 use Rattle.std.specs.Io.KnownBytes.{Appends, Keeps}
-use Rattle.desk.specs.declared.Building.{Building}
-use Rattle.desk.specs.declared.Delivery.{Delivery}
-use Rattle.desk.specs.Reply.{replies, reply}
-use Rattle.desk.specs.Tables.{Tables, tables}
+use Rattle.deliveries.specs.declared.Building.{Building}
+use Rattle.deliveries.specs.declared.Delivery.{Delivery}
+use Rattle.deliveries.specs.Reply.{replies, reply}
+use Rattle.deliveries.specs.Tables.{tables}
+use Rattle.store.specs.Standing.{Content, Standing, sound}
 use Rattle.building_file.specs.BuildingFile.{building_of}
 use Rattle.delivery_lines.specs.DeliveryLine.{delivery_of}
 use Rattle.delivery_lines.specs.LineAnswer.{AnswersLine}
@@ -53,7 +54,7 @@ start-taken f xs i a b start =
 pub first-none : (b : Building) (E : List Delivery) (lines : List (List ℕ)) (a : Option (List ℕ)) → PrintsStart b E lines a a
 first-none b E lines a = record { first = []; others = lines; told = []; cut = refl; told_is = refl; printed = start-nothing a [] }
 
-pub first-all : (b : Building) (E : List Delivery) (lines : List (List ℕ)) (old new : Option (List ℕ)) (now : Tables)
+pub first-all : (b : Building) (E : List Delivery) (lines : List (List ℕ)) (old new : Option (List ℕ)) (now : Content)
     → Prints b E lines old new now → PrintsStart b E lines old new
 first-all b E lines old new now prints = record {
   first = lines;
@@ -82,7 +83,7 @@ first-of_more b E lines more old new part = record {
 }
 
 -- some lines, and the first of others
-pub first-after : (b : Building) (E : List Delivery) (lines more : List (List ℕ)) (old mid new : Option (List ℕ)) (now : Tables)
+pub first-after : (b : Building) (E : List Delivery) (lines more : List (List ℕ)) (old mid new : Option (List ℕ)) (now : Content)
     → (prints : Prints b E lines old mid now) → PrintsStart b (E ++ prints.told) more mid new → PrintsStart b E (lines ++ more) old new
 first-after b E lines more old mid new now prints part = record {
   first = lines ++ part.first;
@@ -96,7 +97,7 @@ first-after b E lines more old mid new now prints part = record {
 }
 
 -- the reply to a line, or a beginning of it
-replied : (b : Building) (E : List Delivery) (line text : List ℕ) (answered : Vec ℕ Global) (old new : Option (List ℕ)) (now : Tables) (told : Option Delivery)
+replied : (b : Building) (E : List Delivery) (line text : List ℕ) (answered : Vec ℕ Global) (old new : Option (List ℕ)) (now : Standing) (told : Option Delivery)
     → is_empty_line line ≡ false → delivery_of line ≡ told → AnswersLine b E told (Ok answered) now → text ≡ answered.items → AppendsStart old new text → PrintsStart b E (line ∷ []) old new
 replied b E line text answered old new now None some none answers is start = absurd answers
 replied b E line text answered old new now (Some d) some one answers is start = record {
@@ -108,22 +109,22 @@ replied b E line text answered old new now (Some d) some one answers is start = 
   printed = start-longer old new (reply_line (reply b E d)) [] (subst (λ t. AppendsStart old new t) (is ∙ answers.0) start);
 }
 
-pub first-replied : (b : Building) (E : List Delivery) (line text : List ℕ) (answered : Vec ℕ Global) (old new : Option (List ℕ)) (now : Tables)
+pub first-replied : (b : Building) (E : List Delivery) (line text : List ℕ) (answered : Vec ℕ Global) (old new : Option (List ℕ)) (now : Standing)
     → is_empty_line line ≡ false → AnswersLine b E (delivery_of line) (Ok answered) now → text ≡ answered.items → AppendsStart old new text → PrintsStart b E (line ∷ []) old new
 first-replied b E line text answered old new now some answers is start = replied b E line text answered old new now (delivery_of line) some refl answers is start
 
 -- ---- where the reading stops
 
 -- before the next line
-pub Progress-stops : (b : Building) (E : List Delivery) (bytes : List ℕ) (left old new : Option (List ℕ)) (now : Tables) → Progress b E bytes left old new now
+pub Progress-stops : (b : Building) (E : List Delivery) (bytes : List ℕ) (left old new : Option (List ℕ)) (now : Content) → Progress b E bytes left old new now
     → PrintsStart b E (lines_of bytes) old new
 Progress-stops b E bytes left old new now p =
     subst (λ ls. PrintsStart b E ls old new) (sym p.lines_are) (first-of_more b E p.passed (lines_of p.rest) old new (first-all b E p.passed old new now p.prints))
 
 -- at it
-pub Progress-stops-at : (b : Building) (E : List Delivery) (bytes line : List ℕ) (left after old mid new : Option (List ℕ)) (now : Tables)
+pub Progress-stops-at : (b : Building) (E : List Delivery) (bytes line : List ℕ) (left after old mid new : Option (List ℕ)) (now : Content)
     → Progress b E bytes left old mid now → IfSome left (λ xs. line ≡ take_through 10 xs) → DropsThrough left after 10 → 0 < length line
-    → ((F : List Delivery) → now ≡ tables b F → PrintsStart b F (strip_last 10 line ∷ []) mid new)
+    → ((F : List Delivery) → now ≡ sound (tables b F) → PrintsStart b F (strip_last 10 line ∷ []) mid new)
     → PrintsStart b E (lines_of bytes) old new
 Progress-stops-at b E bytes line left after old mid new now p reads drops some stops =
     let next = lines_of-left b E bytes line left old mid now p reads some in
@@ -150,8 +151,8 @@ no_more-lines file list b b' old mid new file_is same part kept = inr (
   }),
 )
 
-pub no_more-points : (file list : List ℕ) (b b' b'' : Building) (old mid new last : Option (List ℕ)) (now : Tables) → building_of file ≡ Some b → b' ≡ b
-    → Prints b' [] (lines_of list) old mid now → b'' ≡ b' → AppendsStart mid new (point_lines b'' now) → Keeps new last → PrintsNoMore file list old last
+pub no_more-points : (file list : List ℕ) (b b' b'' : Building) (old mid new last : Option (List ℕ)) (now : Content) → building_of file ≡ Some b → b' ≡ b
+    → Prints b' [] (lines_of list) old mid now → b'' ≡ b' → AppendsStart mid new (point_lines b'' now.tables) → Keeps new last → PrintsNoMore file list old last
 no_more-points file list b b' b'' old mid new last now file_is same prints still points kept = inr (
   b',
   file_is ∙ ap Some (sym same),
@@ -159,7 +160,7 @@ no_more-points file list b b' b'' old mid new last now file_is same prints still
     told = prints.told;
     told_is = prints.told_is;
     printed = start-Keeps old new last _
-        (start-after old mid new _ _ prints.printed (subst (λ text. AppendsStart mid new text) (λ i. point_lines (still i) (prints.holds i)) points)) kept;
+        (start-after old mid new _ _ prints.printed (subst (λ text. AppendsStart mid new text) (λ i. point_lines (still i) (prints.holds i).tables) points)) kept;
   }),
 )
 

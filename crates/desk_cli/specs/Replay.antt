@@ -6,13 +6,15 @@ use Rattle.std.specs.Str.{bytes_eq}
 use Rattle.std.specs.Io.KnownBytes.{Appends, Keeps}
 use Rattle.points.specs.declared.Point.{Point}
 use Rattle.points.specs.Rights.{point_named}
-use Rattle.desk.specs.declared.Building.{Building}
-use Rattle.desk.specs.declared.Delivery.{Delivery}
+use Rattle.deliveries.specs.declared.Building.{Building}
+use Rattle.deliveries.specs.declared.Delivery.{Delivery}
 use Rattle.desk.specs.declared.PointState.{PointState}
-use Rattle.desk.specs.declared.Reply.{Reply}
+use Rattle.deliveries.specs.declared.Reply.{Reply}
 use Rattle.desk.specs.PointState.{state_of}
-use Rattle.desk.specs.Reply.{replies}
-use Rattle.desk.specs.Tables.{Tables, tables}
+use Rattle.deliveries.specs.Reply.{replies}
+use Rattle.deliveries.specs.Tables.{tables}
+use Rattle.store.specs.Standing.{Content, sound}
+use Rattle.store.specs.Tables.{Tables}
 use Rattle.building_file.specs.BuildingFile.{building_of}
 use Rattle.delivery_lines.specs.DeliveryLine.{delivery_of}
 use Rattle.desk_cli.specs.PointLine.{point_line}
@@ -59,11 +61,11 @@ point_lines b now = flat_map (line_of_point b now) b.points
 
 -- after the list E the lines tell deliveries, their replies were printed, and the tables are those
 -- of E and these deliveries
-pub record Prints (b : Building) (E : List Delivery) (lines : List (List ℕ)) (old new : Option (List ℕ)) (now : Tables) : Type 0 where
+pub record Prints (b : Building) (E : List Delivery) (lines : List (List ℕ)) (old new : Option (List ℕ)) (now : Content) : Type 0 where
   pub told : List Delivery
   pub told_is : told_by lines ≡ Some told
   pub printed : Appends old new (reply_lines (replies b E told))
-  pub holds : now ≡ tables b (E ++ told)
+  pub holds : now ≡ sound (tables b (E ++ told))
 
 -- the file is a building, the list tells deliveries, and what was printed is the replies to them
 -- and then the points as they leave them

@@ -6,7 +6,8 @@
 #![tactic(auto)]
 
 pub use input::{Input, Listed};
-pub use replay_run::replay;
+pub use replay_fault::ReplayFault;
+pub use replay_run::{print_points, print_replies};
 pub use status::Status;
 
 mod input;

@@ -4,13 +4,13 @@ ghost use Rattle.std.specs.Prelude.{◌≡◌};
 
 use crate::Status;
 use building_file::FileFault;
-use desk::DeskFault;
 use std::alloc::{AllocError, Global};
 use std::{fmt, io};
+use store::StoreFault;
 
 /// Why a replay stopped. Its text is the line of the fault end, without the line end.
 #[derive(Clone, Copy, Debug, PartialEq, Eq)]
-pub(crate) enum ReplayFault<'a> {
+pub enum ReplayFault<'a> {
     /// The file of this path can't be read.
     CannotRead { path: &'a str },
     /// The building file is refused.
@@ -21,6 +21,8 @@ pub(crate) enum ReplayFault<'a> {
     OutputFailed,
     /// Memory was refused.
     NoMemory,
+    /// The store failed.
+    Store(StoreFault),
 }
 
 impl<'a> ReplayFault<'a> {
@@ -29,7 +31,7 @@ impl<'a> ReplayFault<'a> {
         ensures { (result ≡ Status.Done) → ⊥ }
     {
         match self {
-            ReplayFault::NoMemory => Status::NoMemory,
+            ReplayFault::NoMemory | ReplayFault::Store(_) => Status::Store,
             _ => Status::Fault,
         }
     }
@@ -81,6 +83,7 @@ impl fmt::Display for ReplayFault<'_> {
             ReplayFault::NotDelivery { line } => write!(f, "desk: line {line} is not a delivery"),
             ReplayFault::OutputFailed => f.write_str("desk: cannot write"),
             ReplayFault::NoMemory => f.write_str("desk: out of memory"),
+            ReplayFault::Store(fault) => write!(f, "desk: store fault {fault}"),
         }
     }
 }
@@ -108,12 +111,15 @@ impl From<FileFault> for ReplayFault<'_> {
     }
 }
 
-impl From<DeskFault> for ReplayFault<'_> {
-    ghost use Rattle.desk_cli.specs.declared.replay_fault.ReplayFault.{ReplayFault};
+impl From<StoreFault> for ReplayFault<'_> {
+    ghost use Rattle.desk_cli.specs.ReplayFault.{fault_of_store};
 
-    ghost from_gives = { λ _ fault. fault ≡ ReplayFault.NoMemory };
+    ghost from_gives = { λ fault given. given ≡ fault_of_store fault };
 
-    fn from(_fault: DeskFault) -> Self {
-        ReplayFault::NoMemory
+    fn from(fault: StoreFault) -> Self {
+        match fault {
+            StoreFault::NoMemory => ReplayFault::NoMemory,
+            _ => ReplayFault::Store(fault),
+        }
     }
 }

@@ -5,10 +5,9 @@ ghost use Rattle.std.specs.Io.BufRead.{strip_last};
 ghost use Rattle.std.specs.Io.Buffered.{reader_remaining};
 ghost use Rattle.std.specs.Io.KnownBytes.{Appends, Keeps};
 ghost use Rattle.points.specs.Rights.{point_named};
-ghost use Rattle.desk.specs.Held.{tables_held};
 ghost use Rattle.desk.specs.PointState.{state_of};
-ghost use Rattle.desk.specs.Tables.{tables};
-ghost use Rattle.desk.specs.declared.Delivery.{Delivery as a_delivery};
+ghost use Rattle.desk.specs.Headline.{Holds};
+ghost use Rattle.deliveries.specs.declared.Delivery.{Delivery as a_delivery};
 ghost use Rattle.building_file.specs.BuildingFile.{building_of};
 ghost use Rattle.desk_cli.specs.Replay.{AppendsStart, Opens, Prints, PrintsNoMore, PrintsStart, Replays, bytes_of};
 ghost use Rattle.desk_cli.specs.Replay.{is_empty_line, lines_of, point_lines, state_line};
@@ -17,88 +16,13 @@ use crate::point_line::point_line;
 use crate::replay_fault::ReplayFault;
 use crate::{Input, Listed, Status};
 use building_file::{LONGEST_FILE, read_building};
+use deliveries::Building;
 use delivery_lines::{LineFault, answer_line};
-use desk::Building;
-use desk::machine::Desk;
+use desk::Desk;
 use points::Name;
 use std::alloc::Global;
 use std::io::{self, BufRead, BufReader, Read, Write};
-
-/// Runs the deliveries of a list over the building of a file, in memory: prints each reply as a line,
-/// and then the POINT line of each point in file order. Empty lines are passed over, also with a CR.
-///
-/// The building is read, and refused, before the list is opened. A fault is told on `fault` as one line,
-/// in one write, and ends the run: the replies before it stand, and no POINT line follows a line that
-/// tells no delivery. Whatever the end, nothing else is printed: a beginning of the replies to the first
-/// lines, or of all replies and the points. `out` is flushed where no further line is at hand, and at the
-/// end of the run, whatever it was; if that loses output, this is the fault that is told.
-pub fn replay<B: Read + Drop, D: Read + Drop, O, W: Write, F: Write>(
-    alloc: Global,
-    file: Input<'_, B>,
-    deliveries: Listed<'_, O>,
-    out: &mut W,
-    fault: &mut F,
-) -> Status
-where
-    O: FnOnce() -> io::Result<BufReader<D>>,
-    requires { O.IsAlwaysCallable deliveries.open }
-    ensures done { result ≡ Status.Done → (file_bytes list_bytes : List ℕ)
-        → bytes_of B.remaining file.entry.reader ≡ Some file_bytes
-        → Opens (O.post deliveries.entry.open) (bytes_of (reader_remaining D.remaining)) list_bytes
-        → Replays file_bytes list_bytes (W.contents out.old) (W.contents out.new) }
-    ensures quiet { result ≡ Status.Done → Keeps (F.contents fault.old) (F.contents fault.new) }
-    ensures no_more { (file_bytes list_bytes : List ℕ)
-        → bytes_of B.remaining file.entry.reader ≡ Some file_bytes
-        → Opens (O.post deliveries.entry.open) (bytes_of (reader_remaining D.remaining)) list_bytes
-        → PrintsNoMore file_bytes list_bytes (W.contents out.old) (W.contents out.new) }
-{
-    match replay_over(alloc, file, deliveries, out) {
-        Ok(()) => Status::Done,
-        Err(end) => {
-            let end = end.after(out.flush());
-            tell(alloc, &end, fault);
-            end.status()
-        }
-    }
-}
-
-/// Tells a fault as one line: in one write, or where memory is refused for that, piece by piece and with the
-/// path as it is.
-fn tell<F: Write>(alloc: Global, end: &ReplayFault<'_>, fault: &mut F) {
-    let _told = match end.line(alloc) {
-        Ok(line) => fault.write_all(line.as_bytes()),
-        Err(_) => writeln!(fault, "{end}"),
-    };
-}
-
-fn replay_over<'a, B: Read + Drop, D: Read + Drop, O, W: Write>(
-    alloc: Global,
-    file: Input<'a, B>,
-    deliveries: Listed<'a, O>,
-    out: &mut W,
-) -> Result<(), ReplayFault<'a>>
-where
-    O: FnOnce() -> io::Result<BufReader<D>>,
-    requires { O.IsAlwaysCallable deliveries.open }
-    ensures done { OnOk result ((file_bytes list_bytes : List ℕ)
-        → bytes_of B.remaining file.entry.reader ≡ Some file_bytes
-        → Opens (O.post deliveries.entry.open) (bytes_of (reader_remaining D.remaining)) list_bytes
-        → Replays file_bytes list_bytes (W.contents out.old) (W.contents out.new)) }
-    ensures no_more { (file_bytes list_bytes : List ℕ)
-        → bytes_of B.remaining file.entry.reader ≡ Some file_bytes
-        → Opens (O.post deliveries.entry.open) (bytes_of (reader_remaining D.remaining)) list_bytes
-        → PrintsNoMore file_bytes list_bytes (W.contents out.old) (W.contents out.new) }
-{
-    let building = building_in(alloc, file)?;
-    let mut desk = Desk::new(alloc, building);
-    let Listed { path, open } = deliveries;
-    match open() {
-        Ok(reader) => print_replies(alloc, &mut desk, path, reader, out)?,
-        Err(error) => return Err(ReplayFault::of_read(&error, path)),
-    }
-    print_points(alloc, &mut desk, out)?;
-    flush(out)
-}
+use store::Store;
 
 /// The building of a file.
 fn building_in<'a, B: Read + Drop>(
@@ -123,22 +47,23 @@ fn building_in<'a, B: Read + Drop>(
 }
 
 /// Answers each line that the reader has left.
-fn print_replies<'a, D: Read + Drop, W: Write>(
+pub fn print_replies<'a, S: Store + Drop, D: Read + Drop, W: Write>(
     alloc: Global,
-    desk: &mut Desk,
+    desk: &mut Desk<S>,
     path: &'a str,
     mut reader: BufReader<D>,
     out: &mut W,
 ) -> Result<(), ReplayFault<'a>>
-    ensures prints { OnOk result ((bytes : List ℕ) (E : List a_delivery)
+    ensures prints { OnOk result ((bytes : List ℕ) (E : List a_delivery) → (S.standing desk.new.store).is_honest
         → reader_remaining D.remaining reader ≡ Some bytes
-        → tables_held desk.old ≡ tables desk.old.building E
+        → Holds desk.old.building E (S.standing desk.old.store)
         → Prints desk.old.building E (lines_of bytes) (W.contents out.old) (W.contents out.new)
-        (tables_held desk.new)) }
-    ensures no_more { (bytes : List ℕ) (E : List a_delivery)
+        (S.standing desk.new.store).content) }
+    ensures no_more { (bytes : List ℕ) (E : List a_delivery) → (S.standing desk.new.store).is_honest
         → reader_remaining D.remaining reader ≡ Some bytes
-        → tables_held desk.old ≡ tables desk.old.building E
+        → Holds desk.old.building E (S.standing desk.old.store)
         → PrintsStart desk.old.building E (lines_of bytes) (W.contents out.old) (W.contents out.new) }
+    ensures honest { (S.standing desk.new.store).is_honest → (S.standing desk.old.store).is_honest }
     ensures building { desk.new.building ≡ desk.old.building }
 {
     let mut line = Vec::new(alloc);
@@ -159,21 +84,22 @@ fn print_replies<'a, D: Read + Drop, W: Write>(
 
 /// Answers one line, with its number from 1, unless it is empty. Where the next line has to be waited for,
 /// what was printed is flushed, so that whoever sends it sees the reply.
-fn print_reply_and_flush<'a, W: Write>(
+fn print_reply_and_flush<'a, S: Store + Drop, W: Write>(
     alloc: Global,
-    desk: &mut Desk,
+    desk: &mut Desk<S>,
     number: u64,
     line: &[u8],
     waits: bool,
     out: &mut W,
 ) -> Result<(), ReplayFault<'a>>
-    ensures prints { OnOk result ((E : List a_delivery)
-        → tables_held desk.old ≡ tables desk.old.building E
+    ensures prints { OnOk result ((E : List a_delivery) → (S.standing desk.new.store).is_honest
+        → Holds desk.old.building E (S.standing desk.old.store)
         → Prints desk.old.building E (line.now ∷ []) (W.contents out.old) (W.contents out.new)
-        (tables_held desk.new)) }
-    ensures no_more { (E : List a_delivery)
-        → tables_held desk.old ≡ tables desk.old.building E
+        (S.standing desk.new.store).content) }
+    ensures no_more { (E : List a_delivery) → (S.standing desk.new.store).is_honest
+        → Holds desk.old.building E (S.standing desk.old.store)
         → PrintsStart desk.old.building E (line.now ∷ []) (W.contents out.old) (W.contents out.new) }
+    ensures honest { (S.standing desk.new.store).is_honest → (S.standing desk.old.store).is_honest }
     ensures building { desk.new.building ≡ desk.old.building }
 {
     print_reply(alloc, desk, number, line, out)?;
@@ -181,20 +107,21 @@ fn print_reply_and_flush<'a, W: Write>(
 }
 
 /// Answers one line, with its number from 1, unless it is empty.
-fn print_reply<'a, W: Write>(
+fn print_reply<'a, S: Store + Drop, W: Write>(
     alloc: Global,
-    desk: &mut Desk,
+    desk: &mut Desk<S>,
     number: u64,
     line: &[u8],
     out: &mut W,
 ) -> Result<(), ReplayFault<'a>>
-    ensures prints { OnOk result ((E : List a_delivery)
-        → tables_held desk.old ≡ tables desk.old.building E
+    ensures prints { OnOk result ((E : List a_delivery) → (S.standing desk.new.store).is_honest
+        → Holds desk.old.building E (S.standing desk.old.store)
         → Prints desk.old.building E (line.now ∷ []) (W.contents out.old) (W.contents out.new)
-        (tables_held desk.new)) }
-    ensures no_more { (E : List a_delivery)
-        → tables_held desk.old ≡ tables desk.old.building E
+        (S.standing desk.new.store).content) }
+    ensures no_more { (E : List a_delivery) → (S.standing desk.new.store).is_honest
+        → Holds desk.old.building E (S.standing desk.old.store)
         → PrintsStart desk.old.building E (line.now ∷ []) (W.contents out.old) (W.contents out.new) }
+    ensures honest { (S.standing desk.new.store).is_honest → (S.standing desk.old.store).is_honest }
     ensures building { desk.new.building ≡ desk.old.building }
 {
     if is_empty(line) {
@@ -203,7 +130,7 @@ fn print_reply<'a, W: Write>(
     match answer_line(alloc, desk, line) {
         Ok(text) => print_text(out, text.as_slice()),
         Err(LineFault::NotDelivery) => Err(ReplayFault::NotDelivery { line: number }),
-        Err(LineFault::NoMemory) => Err(ReplayFault::NoMemory),
+        Err(LineFault::NotDone(fault)) => Err(ReplayFault::from(fault)),
     }
 }
 
@@ -233,19 +160,19 @@ fn flush<'a, W: Write>(out: &mut W) -> Result<(), ReplayFault<'a>>
 }
 
 /// Prints the POINT line of each point, in file order.
-fn print_points<'a, W: Write>(
+pub fn print_points<'a, S: Store + Drop, W: Write>(
     alloc: Global,
-    desk: &mut Desk,
+    desk: &mut Desk<S>,
     out: &mut W,
 ) -> Result<(), ReplayFault<'a>>
-    ensures whole { OnOk result (Appends (W.contents out.old) (W.contents out.new)
-        (point_lines desk.old.building (tables_held desk.old))) }
-    ensures no_more { AppendsStart (W.contents out.old) (W.contents out.new)
-        (point_lines desk.old.building (tables_held desk.old)) }
+    ensures whole { (S.standing desk.new.store).is_honest → OnOk result (Appends (W.contents out.old) (W.contents out.new)
+        (point_lines desk.old.building (S.standing desk.old.store).content.tables)) }
+    ensures no_more { (S.standing desk.new.store).is_honest → AppendsStart (W.contents out.old) (W.contents out.new)
+        (point_lines desk.old.building (S.standing desk.old.store).content.tables) }
 {
     let count = desk.building().points.as_slice().len();
     for place in 0..count {
-        let name = desk.building().points.as_slice()[place].name.clone()?;
+        let name = desk.building().points.as_slice()[place].name;
         let text = point_text(alloc, desk, &name)?;
         print_text(out, text.as_bytes())?;
     }
@@ -253,11 +180,16 @@ fn print_points<'a, W: Write>(
 }
 
 /// The POINT line of a point, or no line where the building lacks it.
-fn point_text<'a>(alloc: Global, desk: &mut Desk, name: &Name) -> Result<String, ReplayFault<'a>>
-    ensures text { IfOk result (λ text. string_bytes text ≡ state_line name.now
-        (state_of ((tables_held desk.old).places name.now)
+fn point_text<'a, S: Store + Drop>(
+    alloc: Global,
+    desk: &mut Desk<S>,
+    name: &Name,
+) -> Result<String, ReplayFault<'a>>
+    ensures text { (S.standing desk.new.store).is_honest → IfOk result (λ text. string_bytes text ≡ state_line name.now
+        (state_of ((S.standing desk.old.store).content.tables.places name.now)
         (point_named desk.old.building.points name.now))) }
-    ensures same { tables_held desk.new ≡ tables_held desk.old }
+    ensures same { (S.standing desk.new.store).is_honest → OnOk result ((S.standing desk.new.store).content ≡ (S.standing desk.old.store).content) }
+    ensures honest { (S.standing desk.new.store).is_honest → (S.standing desk.old.store).is_honest }
     ensures building { desk.new.building ≡ desk.old.building }
 {
     match desk.point(name)? {

@@ -12,13 +12,13 @@ pub enum Status {
     Fault,
     /// The words of the command line were at fault, or asked for help.
     Words,
-    /// Memory was refused.
-    NoMemory,
+    /// The store failed, or memory was refused.
+    Store,
 }
 
 impl Status {
     /// The exit status of the program: 0 done, 1 a fault of data, files or output, 2 a fault of the words,
-    /// 3 want of memory.
+    /// 3 a failure of the store or want of memory.
     pub fn code(self) -> u8
         ensures { result ≡ code_of self }
     {
@@ -26,7 +26,7 @@ impl Status {
             Status::Done => 0,
             Status::Fault => 1,
             Status::Words => 2,
-            Status::NoMemory => 3,
+            Status::Store => 3,
         }
     }
 }

@@ -51,7 +51,7 @@ fn refuse(rt: &HostRuntime, fault: &ArgFault) -> Status {
     let _told = write!(rt.stderr(), "{fault}");
     match fault {
         ArgFault::Words(_) => Status::Words,
-        ArgFault::NoMemory => Status::NoMemory,
+        ArgFault::NoMemory => Status::Store,
     }
 }
 
@@ -60,7 +60,7 @@ fn refuse_unread(rt: &HostRuntime, error: &io::Error) -> Status {
     match error.kind() {
         io::ErrorKind::OutOfMemory => {
             let _told = eprintln!(rt; "desk: out of memory");
-            Status::NoMemory
+            Status::Store
         }
         _ => {
             let _told = eprintln!(rt; "desk: a word of the command line is not UTF-8");
@@ -98,7 +98,7 @@ fn main(rt: HostRuntime) -> ExitCode {
         Ok(status) => status,
         Err(_) => {
             let _told = eprintln!(rt; "desk: out of memory");
-            Status::NoMemory
+            Status::Store
         }
     };
     ExitCode::from(status.code())

@@ -1,15 +1,17 @@
 use Rattle.std.proofs.Common.{◌≡◌, ℕ, List, Some}
 use Rattle.std.specs.Io.Buffered.{reader_remaining}
-use Rattle.desk.specs.declared.Delivery.{Delivery}
-use Rattle.desk.specs.Held.{tables_held}
-use Rattle.desk.specs.Tables.{tables}
+use Rattle.deliveries.specs.declared.Delivery.{Delivery}
+use Rattle.desk.specs.Headline.{Holds}
 use Rattle.desk_cli.proofs.ReplayLemmas.{Progress}
 use Rattle.desk_cli.proofs.replay_run.print_replies.Given as goal
 
 abbrev pub invariant-loop-number : goal.invariant-loop-number
 invariant-loop-number g l = record {
   building : l.desk.building ≡ l.initial.desk.building;
-  so_far : (bytes : List ℕ) (E : List Delivery) → reader_remaining g.D.Read.remaining l.initial.reader ≡ Some bytes
-      → tables_held l.initial.desk ≡ tables l.initial.desk.building E
-      → Progress l.initial.desk.building E bytes (reader_remaining g.D.Read.remaining l.reader) (g.W.Write.contents l.initial.out) (g.W.Write.contents l.out) (tables_held l.desk);
+  honest : (g.S.Store.standing l.desk.store).is_honest → (g.S.Store.standing l.initial.desk.store).is_honest;
+  so_far : (bytes : List ℕ) (E : List Delivery) → (g.S.Store.standing l.desk.store).is_honest
+      → reader_remaining g.D.Read.remaining l.initial.reader ≡ Some bytes
+      → Holds l.initial.desk.building E (g.S.Store.standing l.initial.desk.store)
+      → Progress l.initial.desk.building E bytes (reader_remaining g.D.Read.remaining l.reader) (g.W.Write.contents l.initial.out) (g.W.Write.contents l.out)
+      (g.S.Store.standing l.desk.store).content;
 }
