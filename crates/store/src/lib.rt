@@ -8,10 +8,19 @@
 
 pub use change::{Change, ImportedEntry, KeptRow, NextNumber, PlaceValue, RowsBelow, ShownValue};
 pub use fault::StoreFault;
+pub use mem_store::MemStore;
 pub use names::Names;
 pub use store::Store;
 
+mod arrays;
+mod calendar_table;
+mod calendars;
 mod change;
 mod fault;
+mod mem_store;
 mod names;
+mod panel_table;
+mod panels;
+mod shown_values;
+mod spelled_entry;
 mod store;
