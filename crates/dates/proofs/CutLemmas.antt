@@ -8,7 +8,7 @@ use Rattle.std.proofs.lemmas.Bool.{not-true}
 use Rattle.std.proofs.lemmas.List.{take-append-drop}
 use Rattle.std.proofs.lemmas.Slice.Eq.{bytes_eq-Decides}
 use Rattle.std.specs.Cmp.Derive.{both_true}
-use Rattle.dates.specs.CutAt.{Text, cut_at, without_prefix}
+use Rattle.dates.specs.Notation.{Text, cut_at, without_prefix}
 
 pub starts_with-append : (mark rest : Text) → starts_with nat_eq (mark ++ rest) mark ≡ true
 starts_with-append mark rest =

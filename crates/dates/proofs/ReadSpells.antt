@@ -23,17 +23,19 @@ use Rattle.dates.specs.declared.entry.Entry.{Entry}
 use Rattle.dates.specs.declared.entry.Entry.TheVariants as entry
 use Rattle.dates.specs.declared.entry_fault.EntryFault.{EntryFault}
 use Rattle.dates.specs.declared.entry_fault.EntryFault.TheVariants as fault
-use Rattle.dates.specs.CutAt.{Text, cut_at, without_prefix, parts_at}
-use Rattle.dates.specs.DayOf.{day_of, day_with, passed, is_between-true}
-use Rattle.dates.specs.FieldAt.{years_at, months_at, month_days_at, weekday_at, weekdays_at, weeks_at}
-use Rattle.dates.specs.IsDay.{is_day}
-use Rattle.dates.specs.IsEntry.{AreYears, AreMonths, AreMonthDays, IsPattern, IsRange, IsWeekNDay}
-use Rattle.dates.specs.OneDay.{one_month, one_month_day, one_day}
-use Rattle.dates.specs.RangeEnd.{IsRangeEnd}
-use Rattle.dates.specs.Reading.{date_fields_at, date_part, weekday_part, pattern_at, full_date_at, range_end_at, range_at, week_n_day_at, dates_at, reading}
-use Rattle.dates.specs.Spelling.{spelling, weekday_suffix, date_fields_text, pattern_text, day_text, range_end_text, range_text, week_n_day_text}
-use Rattle.dates.specs.Spells.{Spells}
-use Rattle.dates.specs.Then.{◌>>=◌}
+use Rattle.dates.specs.DateFields.{one_day, date_fields_at, full_date_at, date_fields_text}
+use Rattle.dates.specs.Day.{day_of, day_with, passed, is_between-true, is_day, day_text}
+use Rattle.dates.specs.Entry.{dates_at, reading, spelling, Spells}
+use Rattle.dates.specs.EntryFault.{◌>>=◌}
+use Rattle.dates.specs.MonthDays.{month_days_at, AreMonthDays, one_month_day}
+use Rattle.dates.specs.Months.{months_at, AreMonths, one_month}
+use Rattle.dates.specs.Notation.{Text, cut_at, without_prefix, parts_at}
+use Rattle.dates.specs.Pattern.{IsPattern, date_part, weekday_part, pattern_at, weekday_suffix, pattern_text}
+use Rattle.dates.specs.Range.{IsRange, IsRangeEnd, range_end_at, range_at, range_end_text, range_text}
+use Rattle.dates.specs.Week.{weeks_at}
+use Rattle.dates.specs.WeekNDay.{IsWeekNDay, week_n_day_at, week_n_day_text}
+use Rattle.dates.specs.Weekday.{weekday_at, weekdays_at}
+use Rattle.dates.specs.Year.{years_at, AreYears}
 use Rattle.dates.proofs.CutLemmas.{cut_at-some, append-starts_with}
 use Rattle.dates.proofs.FieldTexts.{and_then-some, map-some, years_at-some, months_at-some, month_days_at-some, weekday_at-some, weekdays_at-some, weeks_at-some}
 

@@ -19,15 +19,18 @@ use Rattle.dates.specs.declared.week.Week.TheVariants.{First, Second, Third, Fou
 use Rattle.dates.specs.declared.pattern.Pattern.{Pattern}
 use Rattle.dates.specs.declared.entry.Entry.{Entry}
 use Rattle.dates.specs.declared.entry.Entry.TheVariants as entry
-use Rattle.dates.specs.CutAt.{Text, without_prefix, parts_at}
-use Rattle.dates.specs.DayOf.{day_of, day_with}
-use Rattle.dates.specs.IsDay.{IsDay}
-use Rattle.dates.specs.IsEntry.{AreYears, AreMonths, AreMonthDays, IsPattern, IsEntry}
-use Rattle.dates.specs.OneDay.{one_day}
-use Rattle.dates.specs.RangeEnd.{IsRangeEnd}
-use Rattle.dates.specs.Reading.{date_fields_at, date_part, weekday_part, pattern_at, full_date_at, range_end_at, range_at, week_n_day_at, dates_at, reading}
-use Rattle.dates.specs.Spelling.{two_digit_text, years_text, months_text, month_days_text, weekdays_text, weeks_text, weekday_suffix, date_fields_text, pattern_text, day_text, range_end_text, spelling}
-use Rattle.dates.specs.WeekdayText.{weekday_text}
+use Rattle.dates.specs.DateFields.{one_day, date_fields_at, full_date_at, date_fields_text}
+use Rattle.dates.specs.Day.{day_of, day_with, IsDay, day_text}
+use Rattle.dates.specs.Entry.{IsEntry, dates_at, reading, spelling}
+use Rattle.dates.specs.MonthDays.{AreMonthDays, month_days_text}
+use Rattle.dates.specs.Months.{AreMonths, months_text}
+use Rattle.dates.specs.Notation.{Text, without_prefix, parts_at, two_digit_text}
+use Rattle.dates.specs.Pattern.{IsPattern, date_part, weekday_part, pattern_at, weekday_suffix, pattern_text}
+use Rattle.dates.specs.Range.{IsRangeEnd, range_end_at, range_at, range_end_text}
+use Rattle.dates.specs.Week.{weeks_text}
+use Rattle.dates.specs.WeekNDay.{week_n_day_at}
+use Rattle.dates.specs.Weekday.{weekdays_text, weekday_text}
+use Rattle.dates.specs.Year.{AreYears, years_text}
 use Rattle.dates.proofs.CutLemmas.{lacks, lacks-append, starts_with-append, starts_with-other, cut_at-lacking, cut_at-absent}
 use Rattle.dates.proofs.DayLemmas.{day_of-some, is_day-IsDay, same_parts}
 use Rattle.dates.proofs.FieldLemmas.{bytes_eq-length, years_at-text, months_at-text, month_days_at-text, weekday_at-text, weekdays_at-text, weeks_at-text}

@@ -2,8 +2,7 @@ ghost use Rattle.std.specs.Prelude.{◌≡◌, ◌↔◌, pos, ◌≤ℤ◌, uns
 ghost use Rattle.std.specs.Int.{IsInRange};
 ghost use Rattle.jiff.specs.Words.{IsBetween, IsDate, IsYmd, epoch_day, weekday_of};
 ghost use Rattle.jiff_core.specs.Weekday.{monday_zero};
-ghost use Rattle.dates.specs.DaysLeft.{days_left};
-ghost use Rattle.dates.specs.IsDay.{IsDay};
+ghost use Rattle.dates.specs.Day.{days_left, IsDay};
 
 use jiff::civil::{Date, Weekday};
 use std::fmt;
@@ -85,7 +84,7 @@ impl Day {
 
 impl fmt::Display for Day {
     ghost use Rattle.std.specs.Prelude.{Some};
-    ghost use Rattle.dates.specs.Spelling.{day_text};
+    ghost use Rattle.dates.specs.Day.{day_text};
 
     ghost output = { λ x. Some (day_text x) };
 

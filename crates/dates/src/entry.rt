@@ -24,12 +24,9 @@ pub enum Entry {
 }
 
 impl Entry {
-    ghost use Rattle.dates.specs.HoldsOn.{holds_on};
-    ghost use Rattle.dates.specs.Reading.{reading};
-    ghost use Rattle.dates.specs.IsEntry.{IsEntry};
-    ghost use Rattle.dates.specs.Spells.{Spells};
+    ghost use Rattle.dates.specs.Entry.{holds_on, reading, IsEntry, Spells};
     ghost use Rattle.dates.specs.declared.entry.Entry.{Entry as Declared};
-    ghost use Rattle.dates.specs.Spelling.{spelling};
+    ghost use Rattle.dates.specs.Entry.{spelling};
 
     /// Reads an entry from exactly the texts that spell one, and takes no memory.
     ///
@@ -43,7 +40,7 @@ impl Entry {
         Entry::read_form(text)
     }
 
-    #[tactic(auto, unfolding(crate::specs::Reading::reading, crate::specs::Reading::dates_at))]
+    #[tactic(auto, unfolding(crate::specs::Entry::reading, crate::specs::Entry::dates_at))]
     fn read_form(text: &str) -> Result<Entry, EntryFault>
         ensures { result ≡ reading text.now }
     {
@@ -77,7 +74,7 @@ impl Entry {
     }
 
     /// Whether the day is one of the entry's. It takes no memory.
-    #[tactic(auto, unfolding(crate::specs::HoldsOn::holds_on))]
+    #[tactic(auto, unfolding(crate::specs::Entry::holds_on))]
     pub fn holds(&self, day: Day) -> bool
         ensures { result ≡ holds_on self.now day }
     {
@@ -91,11 +88,11 @@ impl Entry {
 
 impl fmt::Display for Entry {
     ghost use Rattle.std.specs.Prelude.{Some};
-    ghost use Rattle.dates.specs.Spelling.{spelling};
+    ghost use Rattle.dates.specs.Entry.{spelling};
 
     ghost output = { λ x. Some (spelling x) };
 
-    #[tactic(auto, unfolding(crate::specs::Spelling::spelling))]
+    #[tactic(auto, unfolding(crate::specs::Entry::spelling))]
     fn fmt<W: fmt::Write>(&self, f: &mut fmt::Formatter<W>) -> fmt::Result {
         match self {
             Entry::Pattern(pattern) => pattern.fmt(f),

@@ -1,5 +1,5 @@
 ghost use Rattle.std.specs.Prelude.{◌≡◌};
-ghost use Rattle.dates.specs.RangeEnd.{IsRangeEnd};
+ghost use Rattle.dates.specs.Range.{IsRangeEnd};
 
 use crate::date_fields::DateFields;
 use crate::{Day, EntryFault};
@@ -16,12 +16,10 @@ pub struct Range {
 }
 
 impl Range {
-    ghost use Rattle.dates.specs.HoldsOn.{in_range, is_from, is_up_to};
-    ghost use Rattle.dates.specs.Reading.{range_at, range_end_at};
-    ghost use Rattle.dates.specs.IsEntry.{IsRange};
+    ghost use Rattle.dates.specs.Range.{in_range, is_from, is_up_to, range_at, range_end_at, IsRange};
 
     /// Reads the two ends of a range.
-    #[tactic(auto, unfolding(crate::specs::Reading::range_at))]
+    #[tactic(auto, unfolding(crate::specs::Range::range_at))]
     pub(crate) fn read(left: &str, right: &str) -> Result<Range, EntryFault>
         ensures { result ≡ range_at left.now right.now }
     {
@@ -30,7 +28,7 @@ impl Range {
         Ok(Range { start, end })
     }
 
-    #[tactic(auto, unfolding(crate::specs::Reading::range_end_at))]
+    #[tactic(auto, unfolding(crate::specs::Range::range_end_at))]
     fn read_end(text: &str) -> Result<Option<Day>, EntryFault>
         ensures { result ≡ range_end_at text.now }
     {
@@ -88,7 +86,7 @@ struct RangeEnd(Option<Day>);
 
 impl fmt::Display for RangeEnd {
     ghost use Rattle.std.specs.Prelude.{Some};
-    ghost use Rattle.dates.specs.Spelling.{range_end_text};
+    ghost use Rattle.dates.specs.Range.{range_end_text};
 
     ghost output = { λ end. Some (range_end_text end.0) };
 
@@ -102,7 +100,7 @@ impl fmt::Display for RangeEnd {
 
 impl fmt::Display for Range {
     ghost use Rattle.std.specs.Prelude.{Some};
-    ghost use Rattle.dates.specs.Spelling.{range_text};
+    ghost use Rattle.dates.specs.Range.{range_text};
 
     ghost output = { λ x. Some (range_text x) };
 
