@@ -1,5 +1,6 @@
 -- What the digits of a number are.
-use Rattle.std.proofs.Common.{◌≡◌, ℕ, ◌+◌, ◌/◌, ◌%◌, ◌<◌, ◌≤◌, ◌^◌, [], ◌∷◌, ◌++◌, refl, inl, inr, ap, ◌∙◌, arith}
+use Rattle.std.proofs.Common.{◌≡◌, ℕ, ◌+◌, ◌/◌, ◌%◌, ◌<◌, ◌≤◌, ◌^◌, [], ◌∷◌, ◌++◌}
+use Rattle.std.proofs.Common.{refl, inl, inr, ap, ◌∙◌, arith}
 use Rattle.std.specs.Fmt.{decimal, styled_decimal, format_spec}
 use Rattle.std.specs.Fmt.{padded_integral, char_count}
 use Rattle.std.proofs.lemmas.Fmt.{decimal_digit, decimal_step}

@@ -1,5 +1,6 @@
 -- What reads as a field is the text of that field.
-use Rattle.std.proofs.Common.{◌≡◌, ◌≢◌, ℕ, ◌+◌, ◌-◌, ◌*◌, ◌/◌, ◌%◌, ◌<◌, Bool, true, false, cond, [], ◌∷◌, length, nat_eq, codes, Option, Some, None, option_map, refl, ap, ap₂, ◌∙◌, subst, arith}
+use Rattle.std.proofs.Common.{◌≡◌, ◌≢◌, ℕ, ◌+◌, ◌-◌, ◌*◌, ◌/◌, ◌%◌, ◌<◌, Bool, true, false, cond, [], ◌∷◌, length}
+use Rattle.std.proofs.Common.{nat_eq, codes, Option, Some, None, option_map, refl, ap, ap₂, ◌∙◌, subst, arith}
 use Rattle.std.specs.Int.{IsInRange}
 use Rattle.std.specs.Option.{option_and_then}
 use Rattle.std.specs.Str.{bytes_eq}
@@ -24,7 +25,8 @@ use Rattle.dates.specs.Year.{years_at, AreYears, years_text}
 
 -- ---- a step that answers
 
-pub and_then-some : {A B : Type 0} (f : A → Option B) (o : Option A) (y : B) → option_and_then f o ≡ Some y → (x : A) × (o ≡ Some x) × (f x ≡ Some y)
+pub and_then-some : {A B : Type 0} (f : A → Option B) (o : Option A) (y : B) → option_and_then f o ≡ Some y
+    → (x : A) × (o ≡ Some x) × (f x ≡ Some y)
 and_then-some f None y e = let bad : ⊥ = cc in absurd bad
 and_then-some f (Some x) y e = (x, refl, e)
 
@@ -104,8 +106,11 @@ four_digits-some (a ∷ b ∷ c ∷ d ∷ []) n e =
     let ea : a ≡ 48 + n / 100 / 10 = omega arith in
     let eb : b ≡ 48 + n / 100 % 10 = omega arith in
     let ec : c ≡ 48 + n % 100 / 10 = omega arith in
-    let ed : d ≡ 48 + n % 100 % 10 = omega arith in
-    (ap₂ (λ x y. x ∷ (y ∷ (c ∷ (d ∷ [])))) ea eb ∙ ap₂ (λ x y. (48 + n / 100 / 10) ∷ ((48 + n / 100 % 10) ∷ (x ∷ (y ∷ [])))) ec ed, omega arith)
+    let ed : d ≡ 48 + n % 100 % 10 = omega arith in (
+      ap₂ (λ x y. x ∷ (y ∷ (c ∷ (d ∷ [])))) ea eb
+          ∙ ap₂ (λ x y. (48 + n / 100 / 10) ∷ ((48 + n / 100 % 10) ∷ (x ∷ (y ∷ [])))) ec ed,
+      omega arith,
+    )
 four_digits-some (a ∷ b ∷ c ∷ d ∷ x ∷ rest) n e =
     let none = rw (other_length (length (a ∷ b ∷ c ∷ d ∷ x ∷ rest)) 4 (omega arith)) at e in
     let bad : ⊥ = cc in absurd bad
