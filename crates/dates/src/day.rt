@@ -15,15 +15,14 @@ pub struct Day {
 }
 
 impl Model for Day {
-    ghost use Rattle.std.specs.Prelude.{pos};
-    ghost use Rattle.jiff.specs.Words.{IsBetween};
     ghost use Rattle.jiff_core.specs.declared.civil.date.Date.{Date as Plain};
+    ghost use Rattle.dates.specs.Day.{IsOfYears};
 
     ghost Value = { Plain };
 
     ghost view = { λ d. d.date };
 
-    ghost invariant = { λ d. IsBetween (pos 1900) (pos 2154) d.date.year };
+    ghost invariant = { λ d. IsOfYears d.date };
 
     ghost inverse = { λ d. record { date = d } };
 }

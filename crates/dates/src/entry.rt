@@ -1,6 +1,6 @@
 ghost use Rattle.std.specs.Prelude.{◌≡◌, ◌↔◌, IfOk, string_bytes};
 
-use crate::{Day, EntryFault, Pattern, Range, WeekNDay, notation};
+use crate::{Day, EntryFault, Pattern, Range, WeekNDay, Year, notation};
 use std::alloc::{AllocError, Global};
 use std::fmt;
 
@@ -58,19 +58,21 @@ impl Entry {
         ensures value { IfOk result (λ text. string_bytes text ≡ spelling self.now) }
         ensures range { IsEntry self.now }
     {
-        self.in_range();
-        self.to_string(alloc)
-    }
-
-    // A law: the numbers of an entry are in range. Each comes from the type that holds it.
-    fn in_range(&self)
-        ensures { IsEntry self.now }
-    {
+        // The numbers are in range, each by the type that holds it.
         match self {
-            Entry::Pattern(pattern) => pattern.in_range(),
-            Entry::Range(range) => range.in_range(),
-            Entry::WeekNDay(week_n_day) => week_n_day.in_range(),
+            Entry::Pattern(pattern) => {
+                let year = pattern.year.map(Year::number);
+                prove!(year <= Some(2154));
+                prove!(pattern.months.number() <= Some(12));
+                prove!(pattern.days.number() <= Some(31));
+            }
+            Entry::Range(range) => {
+                let (start, end) = (range.start.map(Day::year), range.end.map(Day::year));
+                prove!(start <= Some(2154) && end <= Some(2154));
+            }
+            Entry::WeekNDay(week_n_day) => prove!(week_n_day.months.number() <= Some(12)),
         }
+        self.to_string(alloc)
     }
 
     /// Whether the day is one of the entry's. It takes no memory.

@@ -20,7 +20,7 @@ pub struct Pattern {
 }
 
 impl Pattern {
-    ghost use Rattle.dates.specs.Pattern.{in_pattern, pattern_at, IsPattern};
+    ghost use Rattle.dates.specs.Pattern.{in_pattern, pattern_at};
 
     /// Reads `Y-M-D` or `Y-M-D/W`.
     #[tactic(auto, unfolding(crate::specs::Pattern::pattern_at, crate::specs::Pattern::date_part, crate::specs::Pattern::weekday_part))]
@@ -39,17 +39,6 @@ impl Pattern {
             days,
             weekday,
         })
-    }
-
-    // A law: the numbers of a pattern are in range.
-    pub(crate) fn in_range(&self)
-        ensures { IsPattern self.now }
-    {
-        if let Some(year) = self.year {
-            year.number();
-        }
-        self.months.number();
-        self.days.number();
     }
 
     /// Whether the day is one of the pattern's.

@@ -1,5 +1,4 @@
 ghost use Rattle.std.specs.Prelude.{◌≡◌};
-ghost use Rattle.dates.specs.Range.{IsRangeEnd};
 
 use crate::date_fields::DateFields;
 use crate::{Day, EntryFault};
@@ -16,7 +15,7 @@ pub struct Range {
 }
 
 impl Range {
-    ghost use Rattle.dates.specs.Range.{in_range, is_from, is_up_to, range_at, range_end_at, IsRange};
+    ghost use Rattle.dates.specs.Range.{in_range, is_from, is_up_to, range_at, range_end_at};
 
     /// Reads the two ends of a range.
     #[tactic(auto, unfolding(crate::specs::Range::range_at))]
@@ -36,14 +35,6 @@ impl Range {
             "*" => Ok(None),
             _ => Ok(Some(DateFields::read_day(text)?)),
         }
-    }
-
-    // A law: the years of a range's ends are in range.
-    pub(crate) fn in_range(&self)
-        ensures { IsRange self.now }
-    {
-        end_in_range(self.start);
-        end_in_range(self.end);
     }
 
     /// Whether the day is one of the range's.
@@ -69,14 +60,6 @@ impl Range {
             Some(end) => day <= end,
             None => true,
         }
-    }
-}
-
-fn end_in_range(end: Option<Day>)
-    ensures { IsRangeEnd end }
-{
-    if let Some(day) = end {
-        day.year();
     }
 }
 

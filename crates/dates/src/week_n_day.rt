@@ -16,7 +16,7 @@ pub struct WeekNDay {
 }
 
 impl WeekNDay {
-    ghost use Rattle.dates.specs.WeekNDay.{in_week_n_day, week_n_day_at, IsWeekNDay};
+    ghost use Rattle.dates.specs.WeekNDay.{in_week_n_day, week_n_day_at};
 
     /// Reads `M:K:W`.
     #[tactic(auto, unfolding(crate::specs::WeekNDay::week_n_day_at))]
@@ -32,13 +32,6 @@ impl WeekNDay {
             week,
             weekday,
         })
-    }
-
-    // A law: the numbers of a week-and-day are in range.
-    pub(crate) fn in_range(&self)
-        ensures { IsWeekNDay self.now }
-    {
-        self.months.number();
     }
 
     /// Whether the day is one of these.
