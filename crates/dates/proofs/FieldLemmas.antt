@@ -1,4 +1,4 @@
--- The text of a field reads as that field, and what reads as a field is its text.
+-- The text of a field reads as that field.
 use Rattle.std.proofs.Common.{◌≡◌, ◌≢◌, ℕ, ◌+◌, ◌*◌, ◌/◌, ◌%◌, ◌<◌, refl, ap, arith}
 use Rattle.std.proofs.Common.{Bool, true, false, length, codes, Option, Some, None}
 use Rattle.std.specs.Int.{IsInRange}
