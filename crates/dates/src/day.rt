@@ -1,6 +1,6 @@
-ghost use Rattle.std.specs.Prelude.{◌≡◌, ◌↔◌, pos, ◌≤ℤ◌, unsigned_abs, IsSome, IfSome};
+ghost use Rattle.std.specs.Prelude.{◌≡◌, ◌↔◌, pos, IsSome, IfSome};
 ghost use Rattle.std.specs.Int.{IsInRange};
-ghost use Rattle.jiff.specs.Words.{IsBetween, IsDate, IsYmd, epoch_day, weekday_of};
+ghost use Rattle.jiff.specs.Words.{IsYmd, weekday_of};
 ghost use Rattle.jiff_core.specs.Weekday.{monday_zero};
 ghost use Rattle.dates.specs.Day.{days_left, IsDay};
 
