@@ -1,5 +1,6 @@
 -- Where a mark first stands in a text, and what std's searches answer.
-use Rattle.std.proofs.Common.{◌≡◌, ℕ, ◌+◌, ◌<◌, ◌≤◌, Bool, true, false, not, ◌&&◌, [], ◌∷◌, ◌++◌, length, take, drop, nat_eq, Option, Some, None, option_map, MatchOption, Bor, cond, refl, sym, ap, ◌∙◌, subst, add-one, arith}
+use Rattle.std.proofs.Common.{◌≡◌, ℕ, ◌+◌, ◌<◌, ◌≤◌, Bool, true, false, not, ◌&&◌, cond, [], ◌∷◌, ◌++◌, length, nat_eq}
+use Rattle.std.proofs.Common.{take, drop, Option, Some, None, option_map, MatchOption, Bor, refl, sym, ap, ◌∙◌, subst, add-one, arith}
 use Rattle.std.specs.Cmp.{first_so, second_so}
 use Rattle.std.specs.List.{starts_with}
 use Rattle.std.specs.Str.Pattern.{LacksTextAt, FindsText, FindsTextPrefix, SplitsAroundMatch, StripsPrefix}
@@ -8,7 +9,7 @@ use Rattle.std.proofs.lemmas.Bool.{not-true}
 use Rattle.std.proofs.lemmas.List.{take-append-drop}
 use Rattle.std.proofs.lemmas.Slice.Eq.{bytes_eq-Decides}
 use Rattle.std.specs.Cmp.Derive.{both_true}
-use Rattle.dates.specs.CutAt.{Text, cut_at, without_prefix}
+use Rattle.dates.specs.Notation.{Text, cut_at, without_prefix}
 
 pub starts_with-append : (mark rest : Text) → starts_with nat_eq (mark ++ rest) mark ≡ true
 starts_with-append mark rest =
@@ -53,6 +54,11 @@ cut_at-lacks mark (b ∷ text) lacks =
       cut_at-lacks mark text (λ i h. lacks_later mark b text i (lacks (i + 1) (omega arith))),
     )
 
+-- the text is cut into these two, if no mark stands earlier
+abbrev IsCutInto : Text → Text → Text → Text → Type 0
+IsCutInto mark before after text =
+    ((i : ℕ) → i < length before → LacksTextAt mark text i) → cut_at mark text ≡ Some (before, after)
+
 -- what `split_once` answers
 pub cut_at-split : (mark text : Text) (r : Option (Bor Text × Bor Text)) → 0 < length mark
     → MatchOption r (FindsText mark text None) (λ x. SplitsAroundMatch (FindsText mark) text x.0.now x.1.now)
@@ -66,7 +72,7 @@ cut_at-split mark text (Some x) some found =
     let back = found.4 in
     let whole : x.0.now ++ (mark ++ x.1.now) ≡ text = rw (front, back, ← split) (take-append-drop i text) in
     let len : length x.0.now ≡ i = found.6 in
-    sym (subst (λ (s : Text). ((k : ℕ) → k < length x.0.now → LacksTextAt mark s k) → cut_at mark s ≡ Some (x.0.now, x.1.now)) whole (cut_at-append mark x.0.now x.1.now some)
+    sym (subst (IsCutInto mark x.0.now x.1.now) whole (cut_at-append mark x.0.now x.1.now some)
     (λ k h. first k (omega arith)))
 
 -- what `strip_prefix` answers
@@ -97,7 +103,8 @@ pub starts_with-other : (c x : ℕ) (ms xs : Text) → not (nat_eq c x) ≡ true
 starts_with-other c x ms xs other = rw (not-true (nat_eq c x) other) refl
 
 -- what cuts a text whose front has no byte as the mark's first
-pub cut_at-lacking : (c : ℕ) (ms before after : Text) → lacks c before ≡ true → cut_at (c ∷ ms) (before ++ ((c ∷ ms) ++ after)) ≡ Some (before, after)
+pub cut_at-lacking : (c : ℕ) (ms before after : Text) → lacks c before ≡ true
+    → cut_at (c ∷ ms) (before ++ ((c ∷ ms) ++ after)) ≡ Some (before, after)
 unfolding cut_at
 cut_at-lacking c ms [] after other =
     rw (starts_with-append (c ∷ ms) after, drop-append_seam (c ∷ ms) after)

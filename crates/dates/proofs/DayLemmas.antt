@@ -1,5 +1,6 @@
 -- A day is known by its parts.
-use Rattle.std.proofs.Common.{◌≡◌, ◌↔◌, ℕ, Bool, true, false, pos, Option, Some, None, option_map, IsSome, IfSome, refl, sym, ap, ◌∙◌, arith}
+use Rattle.std.proofs.Common.{◌≡◌, ◌↔◌, ℕ, Bool, true, false, pos, refl, sym, ap, ◌∙◌, arith}
+use Rattle.std.proofs.Common.{Option, Some, None, option_map, IsSome, IfSome}
 use Rattle.std.specs.Cmp.{first_so}
 use Rattle.std.proofs.lemmas.Bool.{false≢true}
 use Rattle.std.proofs.lemmas.Bool.Decides.{nat_tests}
@@ -8,8 +9,7 @@ use Rattle.jiff_core.specs.declared.civil.date.Date.{Date}
 use Rattle.jiff_core.proofs.DateLemmas.{epoch_day_same}
 use Rattle.jiff_core.proofs.SignedLemmas.{signed_arith}
 use Rattle.jiff.proofs.Family.{same_date}
-use Rattle.dates.specs.DayOf.{day_of, day_with, passed, is_day-year, is_day-month, is_day-day, is_between-true}
-use Rattle.dates.specs.IsDay.{IsDay, is_day}
+use Rattle.dates.specs.Day.{day_of, day_with, passed, is_day-year, is_day-month, is_day-day, is_between-true, IsDay, is_day}
 
 pub IsDay-is_day : (y m d : ℕ) → is_day y m d ≡ true → IsDay (pos y) m d
 IsDay-is_day y m d e =

@@ -1,10 +1,11 @@
 -- What the digits of a number are.
-use Rattle.std.proofs.Common.{◌≡◌, ℕ, ◌+◌, ◌/◌, ◌%◌, ◌<◌, ◌≤◌, ◌^◌, [], ◌∷◌, ◌++◌, refl, inl, inr, ap, ◌∙◌, arith}
+use Rattle.std.proofs.Common.{◌≡◌, ℕ, ◌+◌, ◌/◌, ◌%◌, ◌<◌, ◌≤◌, ◌^◌, [], ◌∷◌, ◌++◌}
+use Rattle.std.proofs.Common.{refl, inl, inr, ap, ◌∙◌, arith}
 use Rattle.std.specs.Fmt.{decimal, styled_decimal, format_spec}
 use Rattle.std.specs.Fmt.{padded_integral, char_count}
 use Rattle.std.proofs.lemmas.Fmt.{decimal_digit, decimal_step}
 use Rattle.std.proofs.lemmas.Bool.{cases_lt}
-use Rattle.dates.specs.Spelling.{two_digit_text, four_digit_text}
+use Rattle.dates.specs.Notation.{two_digit_text, four_digit_text}
 
 decimal-two : (n : ℕ) → 10 ≤ n → n < 100 → decimal n ≡ two_digit_text n
 decimal-two n low high =

@@ -1,5 +1,6 @@
--- The text of a field reads as that field, and what reads as a field is its text.
-use Rattle.std.proofs.Common.{◌≡◌, ◌≢◌, ℕ, ◌+◌, ◌*◌, ◌/◌, ◌%◌, ◌<◌, Bool, true, false, length, codes, Option, Some, None, refl, ap, arith}
+-- The text of a field reads as that field.
+use Rattle.std.proofs.Common.{◌≡◌, ◌≢◌, ℕ, ◌+◌, ◌*◌, ◌/◌, ◌%◌, ◌<◌, refl, ap, arith}
+use Rattle.std.proofs.Common.{Bool, true, false, length, codes, Option, Some, None}
 use Rattle.std.specs.Int.{IsInRange}
 use Rattle.std.specs.Str.{bytes_eq}
 use Rattle.std.proofs.lemmas.Bool.Decides.{nat_tests}
@@ -13,11 +14,12 @@ use Rattle.dates.specs.declared.month_days.MonthDays.TheVariants as month_day
 use Rattle.dates.specs.declared.week.Week.{Week}
 use Rattle.dates.specs.declared.week.Week.TheVariants.{First, Second, Third, Fourth, Fifth, Last, SecondLast, ThirdLast, FourthLast}
 use Rattle.dates.specs.Between.{between}
-use Rattle.dates.specs.CutAt.{Text}
-use Rattle.dates.specs.FieldAt.{digit_at, two_digits, four_digits, years_at, months_at, month_days_at, weekday_at, weekdays_at, week_at, weeks_at}
-use Rattle.dates.specs.IsEntry.{AreYears, AreMonths, AreMonthDays}
-use Rattle.dates.specs.Spelling.{two_digit_text, four_digit_text, years_text, months_text, month_days_text, weekdays_text, weeks_text}
-use Rattle.dates.specs.WeekdayText.{weekday_text}
+use Rattle.dates.specs.MonthDays.{month_days_at, AreMonthDays, month_days_text}
+use Rattle.dates.specs.Months.{months_at, AreMonths, months_text}
+use Rattle.dates.specs.Notation.{Text, digit_at, two_digits, four_digits, two_digit_text, four_digit_text}
+use Rattle.dates.specs.Week.{week_at, weeks_at, weeks_text}
+use Rattle.dates.specs.Weekday.{weekday_at, weekdays_at, weekdays_text, weekday_text}
+use Rattle.dates.specs.Year.{years_at, AreYears, years_text}
 
 -- ---- from a field to its text and back
 

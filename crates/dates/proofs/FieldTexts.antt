@@ -1,5 +1,6 @@
 -- What reads as a field is the text of that field.
-use Rattle.std.proofs.Common.{◌≡◌, ◌≢◌, ℕ, ◌+◌, ◌-◌, ◌*◌, ◌/◌, ◌%◌, ◌<◌, Bool, true, false, cond, [], ◌∷◌, length, nat_eq, codes, Option, Some, None, option_map, refl, ap, ap₂, ◌∙◌, subst, arith}
+use Rattle.std.proofs.Common.{◌≡◌, ◌≢◌, ℕ, ◌+◌, ◌-◌, ◌*◌, ◌/◌, ◌%◌, ◌<◌, Bool, true, false, cond, [], ◌∷◌, length}
+use Rattle.std.proofs.Common.{nat_eq, codes, Option, Some, None, option_map, refl, ap, ap₂, ◌∙◌, subst, arith}
 use Rattle.std.specs.Int.{IsInRange}
 use Rattle.std.specs.Option.{option_and_then}
 use Rattle.std.specs.Str.{bytes_eq}
@@ -14,16 +15,18 @@ use Rattle.dates.specs.declared.month_days.MonthDays.TheVariants as month_day
 use Rattle.dates.specs.declared.week.Week.{Week}
 use Rattle.dates.specs.declared.week.Week.TheVariants.{First, Second, Third, Fourth, Fifth, Last, SecondLast, ThirdLast, FourthLast}
 use Rattle.dates.specs.Between.{is_between, between}
-use Rattle.dates.specs.CutAt.{Text}
-use Rattle.dates.specs.DayOf.{is_between-true}
-use Rattle.dates.specs.FieldAt.{digit_at, two_digits, four_digits, years_at, months_at, month_days_at, weekday_at, weekdays_at, week_at, weeks_at}
-use Rattle.dates.specs.IsEntry.{AreYears, AreMonths, AreMonthDays}
-use Rattle.dates.specs.Spelling.{two_digit_text, four_digit_text, years_text, months_text, month_days_text, weekdays_text, week_text, weeks_text}
-use Rattle.dates.specs.WeekdayText.{weekday_text}
+use Rattle.dates.specs.Day.{is_between-true}
+use Rattle.dates.specs.MonthDays.{month_days_at, AreMonthDays, month_days_text}
+use Rattle.dates.specs.Months.{months_at, AreMonths, months_text}
+use Rattle.dates.specs.Notation.{Text, digit_at, two_digits, four_digits, two_digit_text, four_digit_text}
+use Rattle.dates.specs.Week.{week_at, weeks_at, week_text, weeks_text}
+use Rattle.dates.specs.Weekday.{weekday_at, weekdays_at, weekdays_text, weekday_text}
+use Rattle.dates.specs.Year.{years_at, AreYears, years_text}
 
 -- ---- a step that answers
 
-pub and_then-some : {A B : Type 0} (f : A → Option B) (o : Option A) (y : B) → option_and_then f o ≡ Some y → (x : A) × (o ≡ Some x) × (f x ≡ Some y)
+pub and_then-some : {A B : Type 0} (f : A → Option B) (o : Option A) (y : B) → option_and_then f o ≡ Some y
+    → (x : A) × (o ≡ Some x) × (f x ≡ Some y)
 and_then-some f None y e = let bad : ⊥ = cc in absurd bad
 and_then-some f (Some x) y e = (x, refl, e)
 
@@ -103,8 +106,11 @@ four_digits-some (a ∷ b ∷ c ∷ d ∷ []) n e =
     let ea : a ≡ 48 + n / 100 / 10 = omega arith in
     let eb : b ≡ 48 + n / 100 % 10 = omega arith in
     let ec : c ≡ 48 + n % 100 / 10 = omega arith in
-    let ed : d ≡ 48 + n % 100 % 10 = omega arith in
-    (ap₂ (λ x y. x ∷ (y ∷ (c ∷ (d ∷ [])))) ea eb ∙ ap₂ (λ x y. (48 + n / 100 / 10) ∷ ((48 + n / 100 % 10) ∷ (x ∷ (y ∷ [])))) ec ed, omega arith)
+    let ed : d ≡ 48 + n % 100 % 10 = omega arith in (
+      ap₂ (λ x y. x ∷ (y ∷ (c ∷ (d ∷ [])))) ea eb
+          ∙ ap₂ (λ x y. (48 + n / 100 / 10) ∷ ((48 + n / 100 % 10) ∷ (x ∷ (y ∷ [])))) ec ed,
+      omega arith,
+    )
 four_digits-some (a ∷ b ∷ c ∷ d ∷ x ∷ rest) n e =
     let none = rw (other_length (length (a ∷ b ∷ c ∷ d ∷ x ∷ rest)) 4 (omega arith)) at e in
     let bad : ⊥ = cc in absurd bad

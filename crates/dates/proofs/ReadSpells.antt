@@ -1,5 +1,6 @@
 -- What reads as an entry is the spelling of that entry.
-use Rattle.std.proofs.Common.{◌≡◌, ℕ, Bool, true, false, cond, ◌++◌, length, drop, nat_eq, codes, Option, Some, None, option_map, is_some, pos, unsigned_abs, refl, sym, ap, ap₂, ◌∙◌, subst, arith}
+use Rattle.std.proofs.Common.{◌≡◌, ℕ, Bool, true, false, cond, ◌++◌, length, drop, nat_eq, codes, pos, unsigned_abs}
+use Rattle.std.proofs.Common.{Option, Some, None, option_map, is_some, refl, sym, ap, ap₂, ◌∙◌, subst, arith}
 use Rattle.std.specs.Cmp.{first_so}
 use Rattle.std.specs.Prelude.{Result, Ok, Err}
 use Rattle.std.specs.Option.{ok_or, option_map_or}
@@ -23,19 +24,22 @@ use Rattle.dates.specs.declared.entry.Entry.{Entry}
 use Rattle.dates.specs.declared.entry.Entry.TheVariants as entry
 use Rattle.dates.specs.declared.entry_fault.EntryFault.{EntryFault}
 use Rattle.dates.specs.declared.entry_fault.EntryFault.TheVariants as fault
-use Rattle.dates.specs.CutAt.{Text, cut_at, without_prefix, parts_at}
-use Rattle.dates.specs.DayOf.{day_of, day_with, passed, is_between-true}
-use Rattle.dates.specs.FieldAt.{years_at, months_at, month_days_at, weekday_at, weekdays_at, weeks_at}
-use Rattle.dates.specs.IsDay.{is_day}
-use Rattle.dates.specs.IsEntry.{AreYears, AreMonths, AreMonthDays, IsPattern, IsRange, IsWeekNDay}
-use Rattle.dates.specs.OneDay.{one_month, one_month_day, one_day}
-use Rattle.dates.specs.RangeEnd.{IsRangeEnd}
-use Rattle.dates.specs.Reading.{date_fields_at, date_part, weekday_part, pattern_at, full_date_at, range_end_at, range_at, week_n_day_at, dates_at, reading}
-use Rattle.dates.specs.Spelling.{spelling, weekday_suffix, date_fields_text, pattern_text, day_text, range_end_text, range_text, week_n_day_text}
-use Rattle.dates.specs.Spells.{Spells}
-use Rattle.dates.specs.Then.{◌>>=◌}
+use Rattle.dates.specs.DateFields.{one_day, date_fields_at, full_date_at, date_fields_text}
+use Rattle.dates.specs.Day.{IsOfYears, day_of, day_with, passed, is_between-true, is_day, day_text}
+use Rattle.dates.specs.Entry.{dates_at, reading, spelling, Spells}
+use Rattle.dates.specs.EntryFault.{◌>>=◌}
+use Rattle.dates.specs.MonthDays.{month_days_at, AreMonthDays, one_month_day}
+use Rattle.dates.specs.Months.{months_at, AreMonths, one_month}
+use Rattle.dates.specs.Notation.{Text, cut_at, without_prefix, parts_at}
+use Rattle.dates.specs.Pattern.{IsPattern, date_part, weekday_part, pattern_at, weekday_suffix, pattern_text}
+use Rattle.dates.specs.Range.{IsRange, IsRangeEnd, range_end_at, range_at, range_end_text, range_text}
+use Rattle.dates.specs.Week.{weeks_at}
+use Rattle.dates.specs.WeekNDay.{IsWeekNDay, week_n_day_at, week_n_day_text}
+use Rattle.dates.specs.Weekday.{weekday_at, weekdays_at}
+use Rattle.dates.specs.Year.{years_at, AreYears}
 use Rattle.dates.proofs.CutLemmas.{cut_at-some, append-starts_with}
-use Rattle.dates.proofs.FieldTexts.{and_then-some, map-some, years_at-some, months_at-some, month_days_at-some, weekday_at-some, weekdays_at-some, weeks_at-some}
+use Rattle.dates.proofs.FieldTexts.{and_then-some, map-some, years_at-some, months_at-some, month_days_at-some}
+use Rattle.dates.proofs.FieldTexts.{weekday_at-some, weekdays_at-some, weeks_at-some}
 
 -- ---- a step that answers
 
@@ -137,7 +141,7 @@ one_month_day-some (month_day.One k) n e = let same : k ≡ n = cc in ap month_d
 -- the day of its parts
 abbrev HasParts : ℕ → ℕ → ℕ → Date → Type 0
 HasParts y m d day =
-    (y ≡ unsigned_abs day.year) × (m ≡ day.month) × (d ≡ day.day) × IsBetween (pos 1900) (pos 2154) day.year
+    (y ≡ unsigned_abs day.year) × (m ≡ day.month) × (d ≡ day.day) × IsOfYears day
 
 day_of-is : (y m d : ℕ) (day : Date) → day_of y m d ≡ Some day → HasParts y m d day
 unfolding day_of
@@ -148,13 +152,13 @@ day_of-is y m d day e =
     let parts : HasParts y m d (day_with y m d made.0) = (refl, refl, refl, year) in
     subst (HasParts y m d) made.2 parts
 
-full_date_at-ok : (text : Text) (day : Date) → full_date_at text ≡ Ok day → (text ≡ day_text day) × IsBetween (pos 1900) (pos 2154) day.year
+full_date_at-ok : (text : Text) (day : Date) → full_date_at text ≡ Ok day → (text ≡ day_text day) × IsOfYears day
 unfolding full_date_at one_day
 full_date_at-ok text day e = by_test (is_some (cut_at (codes "/") text)) e
   where
     by_test : (test : Bool)
         → cond {A = Result Date EntryFault} test (Err fault.Shape) (date_fields_at text >>= λ date. one_day date.year date.months date.days) ≡ Ok day
-        → (text ≡ day_text day) × IsBetween (pos 1900) (pos 2154) day.year
+        → (text ≡ day_text day) × IsOfYears day
     by_test true e = let bad : ⊥ = cc in absurd bad
     by_test false e =
         let date = then-ok (date_fields_at text) (λ date. one_day date.year date.months date.days) day e in

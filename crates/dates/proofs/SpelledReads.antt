@@ -1,10 +1,10 @@
 -- The spelling of an entry reads as that entry.
-use Rattle.std.proofs.Common.{◌≡◌, ◌≢◌, ℕ, ◌+◌, ◌/◌, ◌%◌, ◌<◌, true, not, [], ◌∷◌, ◌++◌, nat_eq, codes, Option, Some, None, ℤ, pos, negsuc, ◌≤ℤ◌, unsigned_abs, refl, ap, ◌∙◌, arith}
+use Rattle.std.proofs.Common.{◌≡◌, ◌≢◌, ℕ, ◌+◌, ◌/◌, ◌%◌, ◌<◌, true, not, [], ◌∷◌, ◌++◌, nat_eq, codes}
+use Rattle.std.proofs.Common.{Option, Some, None, ℤ, pos, negsuc, ◌≤ℤ◌, unsigned_abs, refl, ap, ◌∙◌, arith}
 use Rattle.std.specs.Prelude.{Ok}
 use Rattle.std.proofs.Math.Seq.{drop-append_seam}
 use Rattle.std.proofs.lemmas.List.{append-nil}
 use Rattle.std.proofs.lemmas.Bool.Decides.{nat_tests}
-use Rattle.jiff.specs.Words.{IsBetween}
 use Rattle.jiff_core.specs.declared.civil.date.Date.{Date}
 use Rattle.jiff_core.specs.declared.civil.weekday.Weekday.{Weekday}
 use Rattle.jiff_core.specs.declared.civil.weekday.Weekday.TheVariants.{Monday, Tuesday, Wednesday, Thursday, Friday, Saturday, Sunday}
@@ -19,15 +19,18 @@ use Rattle.dates.specs.declared.week.Week.TheVariants.{First, Second, Third, Fou
 use Rattle.dates.specs.declared.pattern.Pattern.{Pattern}
 use Rattle.dates.specs.declared.entry.Entry.{Entry}
 use Rattle.dates.specs.declared.entry.Entry.TheVariants as entry
-use Rattle.dates.specs.CutAt.{Text, without_prefix, parts_at}
-use Rattle.dates.specs.DayOf.{day_of, day_with}
-use Rattle.dates.specs.IsDay.{IsDay}
-use Rattle.dates.specs.IsEntry.{AreYears, AreMonths, AreMonthDays, IsPattern, IsEntry}
-use Rattle.dates.specs.OneDay.{one_day}
-use Rattle.dates.specs.RangeEnd.{IsRangeEnd}
-use Rattle.dates.specs.Reading.{date_fields_at, date_part, weekday_part, pattern_at, full_date_at, range_end_at, range_at, week_n_day_at, dates_at, reading}
-use Rattle.dates.specs.Spelling.{two_digit_text, years_text, months_text, month_days_text, weekdays_text, weeks_text, weekday_suffix, date_fields_text, pattern_text, day_text, range_end_text, spelling}
-use Rattle.dates.specs.WeekdayText.{weekday_text}
+use Rattle.dates.specs.DateFields.{one_day, date_fields_at, full_date_at, date_fields_text}
+use Rattle.dates.specs.Day.{IsOfYears, day_of, day_with, IsDay, day_text}
+use Rattle.dates.specs.Entry.{IsEntry, dates_at, reading, spelling}
+use Rattle.dates.specs.MonthDays.{AreMonthDays, month_days_text}
+use Rattle.dates.specs.Months.{AreMonths, months_text}
+use Rattle.dates.specs.Notation.{Text, without_prefix, parts_at, two_digit_text}
+use Rattle.dates.specs.Pattern.{IsPattern, date_part, weekday_part, pattern_at, weekday_suffix, pattern_text}
+use Rattle.dates.specs.Range.{IsRangeEnd, range_end_at, range_at, range_end_text}
+use Rattle.dates.specs.Week.{weeks_text}
+use Rattle.dates.specs.WeekNDay.{week_n_day_at}
+use Rattle.dates.specs.Weekday.{weekdays_text, weekday_text}
+use Rattle.dates.specs.Year.{AreYears, years_text}
 use Rattle.dates.proofs.CutLemmas.{lacks, lacks-append, starts_with-append, starts_with-other, cut_at-lacking, cut_at-absent}
 use Rattle.dates.proofs.DayLemmas.{day_of-some, is_day-IsDay, same_parts}
 use Rattle.dates.proofs.FieldLemmas.{bytes_eq-length, years_at-text, months_at-text, month_days_at-text, weekday_at-text, weekdays_at-text, weeks_at-text}
@@ -137,7 +140,8 @@ lacks_colon-weekdays (Some Sunday) = refl
 
 -- ---- the forms
 
-parts_at-text : (c : ℕ) (x y z : Text) → lacks c x ≡ true → lacks c y ≡ true → lacks c z ≡ true → parts_at (c ∷ []) (x ++ (c ∷ (y ++ (c ∷ z)))) ≡ Some (x, y, z)
+parts_at-text : (c : ℕ) (x y z : Text) → lacks c x ≡ true → lacks c y ≡ true → lacks c z ≡ true
+    → parts_at (c ∷ []) (x ++ (c ∷ (y ++ (c ∷ z)))) ≡ Some (x, y, z)
 unfolding parts_at
 parts_at-text c x y z hx hy hz =
     rw (cut_at-lacking c [] x (y ++ (c ∷ z)) hx, cut_at-lacking c [] y z hy, cut_at-absent c [] z hz) refl
@@ -170,17 +174,25 @@ pub year_number : (year : ℤ) → pos 1900 ≤ℤ year → pos (unsigned_abs ye
 year_number (pos n) h = refl
 year_number (negsuc n) h = absurd (omega (arith, signed_arith))
 
--- a day of a year from 1900 is the day of its parts
-day_of-parts : (day : Date) → IsBetween (pos 1900) (pos 2154) day.year → day_of (unsigned_abs day.year) day.month day.day ≡ Some day
+-- the parts of a day of these years are such parts
+IsDay-parts : (day : Date) → IsOfYears day → IsDay day.year day.month day.day
+IsDay-parts day h =
+    let m = day.month_in in
+    let d = day.day_in in (
+      h,
+      (day.year_in, (omega (arith, signed_arith, m), omega (arith, signed_arith, m)), (omega (arith, signed_arith, d), omega (arith, signed_arith, d))),
+    )
+
+-- and the day is the day of its parts
+day_of-parts : (day : Date) → IsOfYears day → day_of (unsigned_abs day.year) day.month day.day ≡ Some day
 day_of-parts day h =
     let y : ℕ = unsigned_abs day.year in
     let year : pos y ≡ day.year = year_number day.year h.0 in
-    let is : IsDay (pos y) day.month day.day =
-    rw year (h, (day.year_in, (omega (arith, signed_arith, day.month_in), omega (arith, signed_arith, day.month_in)), (omega (arith, signed_arith, day.day_in), omega (arith, signed_arith, day.day_in)))) in
+    let is : IsDay (pos y) day.month day.day = rw year (IsDay-parts day h) in
     let some = day_of-some y day.month day.day (is_day-IsDay y day.month day.day is) in
     some.1 ∙ ap Some (same_parts (day_with y day.month day.day some.0) day year refl refl)
 
-pub full_date_at-text : (day : Date) → IsBetween (pos 1900) (pos 2154) day.year → full_date_at (day_text day) ≡ Ok day
+pub full_date_at-text : (day : Date) → IsOfYears day → full_date_at (day_text day) ≡ Ok day
 unfolding full_date_at one_day
 full_date_at-text day h =
     let y : Option ℕ = Some (unsigned_abs day.year) in
@@ -242,10 +254,12 @@ own_prefix mark rest = rw (starts_with-append mark rest, drop-append_seam mark r
 pub reading-text : (e : Entry) → IsEntry e → reading (spelling e) ≡ Ok e
 unfolding reading dates_at range_at spelling
 reading-text (entry.Pattern p) h =
-    let y = p.year in
+    let date = date_fields_text p.year p.months p.days in
+    let suffix = weekday_suffix p.weekday in
+    let no_dot = lacks-date_fields 46 dot (omega arith) p.year p.months p.days in
     rw (
-      other_prefix-years y _ (weekday_suffix p.weekday) h.0,
-      cut_at-absent 46 (codes ".") (pattern_text p) (lacks-append 46 (date_fields_text y p.months p.days) (weekday_suffix p.weekday) (lacks-date_fields 46 dot (omega arith) y p.months p.days) (lacks_dot-suffix p.weekday)),
+      other_prefix-years p.year _ suffix h.0,
+      cut_at-absent 46 (codes ".") (pattern_text p) (lacks-append 46 date suffix no_dot (lacks_dot-suffix p.weekday)),
       pattern_at-text p h,
     ) refl
 reading-text (entry.Range r) h =

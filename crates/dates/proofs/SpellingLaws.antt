@@ -3,11 +3,8 @@ use Rattle.std.proofs.Common.{◌≡◌, ◌↔◌, refl, sym, ◌∙◌, ap}
 use Rattle.std.specs.Prelude.{Result, Ok}
 use Rattle.dates.specs.declared.entry.Entry.{Entry}
 use Rattle.dates.specs.declared.entry_fault.EntryFault.{EntryFault}
-use Rattle.dates.specs.CutAt.{Text}
-use Rattle.dates.specs.IsEntry.{IsEntry}
-use Rattle.dates.specs.Reading.{reading}
-use Rattle.dates.specs.Spelling.{spelling}
-use Rattle.dates.specs.Spells.{Spells, HasOneSpelling}
+use Rattle.dates.specs.Entry.{IsEntry, reading, spelling, Spells, HasOneSpelling}
+use Rattle.dates.specs.Notation.{Text}
 use Rattle.dates.proofs.ReadSpells.{reading-ok}
 use Rattle.dates.proofs.SpelledReads.{reading-text}
 

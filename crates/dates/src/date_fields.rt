@@ -1,5 +1,5 @@
 ghost use Rattle.std.specs.Prelude.{◌≡◌};
-ghost use Rattle.dates.specs.OneDay.{one_day};
+ghost use Rattle.dates.specs.DateFields.{one_day};
 
 use crate::{Day, EntryFault, MonthDays, Months, Year, notation};
 
@@ -12,10 +12,10 @@ pub struct DateFields {
 }
 
 impl DateFields {
-    ghost use Rattle.dates.specs.Reading.{date_fields_at, full_date_at};
+    ghost use Rattle.dates.specs.DateFields.{date_fields_at, full_date_at};
 
     /// Reads `Y-M-D`.
-    #[tactic(auto, unfolding(crate::specs::Reading::date_fields_at))]
+    #[tactic(auto, unfolding(crate::specs::DateFields::date_fields_at))]
     pub fn read(text: &str) -> Result<DateFields, EntryFault>
         ensures { result ≡ date_fields_at text.now }
     {
@@ -27,7 +27,7 @@ impl DateFields {
     }
 
     /// Reads a date whose fields are each one number, as the day that it is.
-    #[tactic(auto, unfolding(crate::specs::Reading::full_date_at))]
+    #[tactic(auto, unfolding(crate::specs::DateFields::full_date_at))]
     pub fn read_day(text: &str) -> Result<Day, EntryFault>
         ensures { result ≡ full_date_at text.now }
     {
@@ -40,7 +40,7 @@ impl DateFields {
 }
 
 /// The day that the fields name, where each is one number.
-#[tactic(auto, unfolding(crate::specs::OneDay::one_day))]
+#[tactic(auto, unfolding(crate::specs::DateFields::one_day))]
 fn one_day(years: Option<Year>, months: Months, days: MonthDays) -> Result<Day, EntryFault>
     ensures { result ≡ one_day years months days }
 {

@@ -1,9 +1,8 @@
-ghost use Rattle.std.specs.Prelude.{◌≡◌, ◌↔◌, pos, ◌≤ℤ◌, unsigned_abs, IsSome, IfSome};
+ghost use Rattle.std.specs.Prelude.{◌≡◌, ◌↔◌, pos, IsSome, IfSome};
 ghost use Rattle.std.specs.Int.{IsInRange};
-ghost use Rattle.jiff.specs.Words.{IsBetween, IsDate, IsYmd, epoch_day, weekday_of};
+ghost use Rattle.jiff.specs.Words.{IsYmd, weekday_of};
 ghost use Rattle.jiff_core.specs.Weekday.{monday_zero};
-ghost use Rattle.dates.specs.DaysLeft.{days_left};
-ghost use Rattle.dates.specs.IsDay.{IsDay};
+ghost use Rattle.dates.specs.Day.{days_left, IsDay};
 
 use jiff::civil::{Date, Weekday};
 use std::fmt;
@@ -16,15 +15,14 @@ pub struct Day {
 }
 
 impl Model for Day {
-    ghost use Rattle.std.specs.Prelude.{pos};
-    ghost use Rattle.jiff.specs.Words.{IsBetween};
     ghost use Rattle.jiff_core.specs.declared.civil.date.Date.{Date as Plain};
+    ghost use Rattle.dates.specs.Day.{IsOfYears};
 
     ghost Value = { Plain };
 
     ghost view = { λ d. d.date };
 
-    ghost invariant = { λ d. IsBetween (pos 1900) (pos 2154) d.date.year };
+    ghost invariant = { λ d. IsOfYears d.date };
 
     ghost inverse = { λ d. record { date = d } };
 }
@@ -85,7 +83,7 @@ impl Day {
 
 impl fmt::Display for Day {
     ghost use Rattle.std.specs.Prelude.{Some};
-    ghost use Rattle.dates.specs.Spelling.{day_text};
+    ghost use Rattle.dates.specs.Day.{day_text};
 
     ghost output = { λ x. Some (day_text x) };
 

@@ -1,6 +1,6 @@
 ghost use Rattle.std.specs.Prelude.{◌≡◌, ◌↔◌, IfOk, string_bytes};
 
-use crate::{Day, EntryFault, Pattern, Range, WeekNDay, notation};
+use crate::{Day, EntryFault, Pattern, Range, WeekNDay, Year, notation};
 use std::alloc::{AllocError, Global};
 use std::fmt;
 
@@ -24,12 +24,9 @@ pub enum Entry {
 }
 
 impl Entry {
-    ghost use Rattle.dates.specs.HoldsOn.{holds_on};
-    ghost use Rattle.dates.specs.Reading.{reading};
-    ghost use Rattle.dates.specs.IsEntry.{IsEntry};
-    ghost use Rattle.dates.specs.Spells.{Spells};
+    ghost use Rattle.dates.specs.Entry.{holds_on, reading, IsEntry, Spells};
     ghost use Rattle.dates.specs.declared.entry.Entry.{Entry as Declared};
-    ghost use Rattle.dates.specs.Spelling.{spelling};
+    ghost use Rattle.dates.specs.Entry.{spelling};
 
     /// Reads an entry from exactly the texts that spell one, and takes no memory.
     ///
@@ -43,7 +40,7 @@ impl Entry {
         Entry::read_form(text)
     }
 
-    #[tactic(auto, unfolding(crate::specs::Reading::reading, crate::specs::Reading::dates_at))]
+    #[tactic(auto, unfolding(crate::specs::Entry::reading, crate::specs::Entry::dates_at))]
     fn read_form(text: &str) -> Result<Entry, EntryFault>
         ensures { result ≡ reading text.now }
     {
@@ -61,23 +58,25 @@ impl Entry {
         ensures value { IfOk result (λ text. string_bytes text ≡ spelling self.now) }
         ensures range { IsEntry self.now }
     {
-        self.in_range();
+        // The numbers are in range, each by the type that holds it.
+        match self {
+            Entry::Pattern(pattern) => {
+                let year = pattern.year.map(Year::number);
+                prove!(year <= Some(2154));
+                prove!(pattern.months.number() <= Some(12));
+                prove!(pattern.days.number() <= Some(31));
+            }
+            Entry::Range(range) => {
+                let (start, end) = (range.start.map(Day::year), range.end.map(Day::year));
+                prove!(start <= Some(2154) && end <= Some(2154));
+            }
+            Entry::WeekNDay(week_n_day) => prove!(week_n_day.months.number() <= Some(12)),
+        }
         self.to_string(alloc)
     }
 
-    // A law: the numbers of an entry are in range. Each comes from the type that holds it.
-    fn in_range(&self)
-        ensures { IsEntry self.now }
-    {
-        match self {
-            Entry::Pattern(pattern) => pattern.in_range(),
-            Entry::Range(range) => range.in_range(),
-            Entry::WeekNDay(week_n_day) => week_n_day.in_range(),
-        }
-    }
-
     /// Whether the day is one of the entry's. It takes no memory.
-    #[tactic(auto, unfolding(crate::specs::HoldsOn::holds_on))]
+    #[tactic(auto, unfolding(crate::specs::Entry::holds_on))]
     pub fn holds(&self, day: Day) -> bool
         ensures { result ≡ holds_on self.now day }
     {
@@ -91,11 +90,11 @@ impl Entry {
 
 impl fmt::Display for Entry {
     ghost use Rattle.std.specs.Prelude.{Some};
-    ghost use Rattle.dates.specs.Spelling.{spelling};
+    ghost use Rattle.dates.specs.Entry.{spelling};
 
     ghost output = { λ x. Some (spelling x) };
 
-    #[tactic(auto, unfolding(crate::specs::Spelling::spelling))]
+    #[tactic(auto, unfolding(crate::specs::Entry::spelling))]
     fn fmt<W: fmt::Write>(&self, f: &mut fmt::Formatter<W>) -> fmt::Result {
         match self {
             Entry::Pattern(pattern) => pattern.fmt(f),

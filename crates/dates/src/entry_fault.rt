@@ -23,7 +23,7 @@ pub enum EntryFault {
 
 impl fmt::Display for EntryFault {
     ghost use Rattle.std.specs.Prelude.{Some};
-    ghost use Rattle.dates.specs.FaultText.{fault_text};
+    ghost use Rattle.dates.specs.EntryFault.{fault_text};
 
     ghost output = { λ fault. Some (fault_text fault) };
 

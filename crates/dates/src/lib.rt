@@ -7,6 +7,9 @@
 //! `Months`, `MonthDays`, `Week`, `Weekday`) each name a set of days. An entry holds on the days that
 //! are in all of its fields' sets, and is written in the one text that spells it. Of a text that
 //! spells none, an `EntryFault` says why.
+//!
+//! What each type means stands in the file of `specs/` with its name: which values it has, on which days
+//! it holds, how it is read and how it is spelled. `Notation.antt` cuts texts for all of them.
 #![tactic(auto)]
 
 pub use day::Day;

@@ -55,13 +55,10 @@ pub enum MonthDays {
 }
 
 impl MonthDays {
-    ghost use Rattle.dates.specs.HoldsOn.{in_month_days};
-    ghost use Rattle.dates.specs.FieldAt.{month_days_at};
-    ghost use Rattle.dates.specs.OneDay.{one_month_day};
-    ghost use Rattle.dates.specs.IsEntry.{AreMonthDays};
+    ghost use Rattle.dates.specs.MonthDays.{in_month_days, month_days_at, one_month_day, AreMonthDays};
 
     /// Reads two digits, `last`, `odd`, `even` or `*`.
-    #[tactic(auto, unfolding(crate::specs::FieldAt::month_days_at))]
+    #[tactic(auto, unfolding(crate::specs::MonthDays::month_days_at))]
     pub(crate) fn read(text: &str) -> Option<MonthDays>
         ensures { result ≡ month_days_at text.now }
     {
@@ -101,7 +98,7 @@ impl MonthDays {
 
 impl fmt::Display for MonthDay {
     ghost use Rattle.std.specs.Prelude.{Some};
-    ghost use Rattle.dates.specs.Spelling.{two_digit_text};
+    ghost use Rattle.dates.specs.Notation.{two_digit_text};
 
     ghost output = { λ x. Some (two_digit_text x) };
 
@@ -112,7 +109,7 @@ impl fmt::Display for MonthDay {
 
 impl fmt::Display for MonthDays {
     ghost use Rattle.std.specs.Prelude.{Some};
-    ghost use Rattle.dates.specs.Spelling.{month_days_text};
+    ghost use Rattle.dates.specs.MonthDays.{month_days_text};
 
     ghost output = { λ x. Some (month_days_text x) };
 

@@ -54,13 +54,10 @@ pub enum Months {
 }
 
 impl Months {
-    ghost use Rattle.dates.specs.HoldsOn.{in_months};
-    ghost use Rattle.dates.specs.FieldAt.{months_at};
-    ghost use Rattle.dates.specs.OneDay.{one_month};
-    ghost use Rattle.dates.specs.IsEntry.{AreMonths};
+    ghost use Rattle.dates.specs.Months.{in_months, months_at, one_month, AreMonths};
 
     /// Reads two digits, `odd`, `even` or `*`.
-    #[tactic(auto, unfolding(crate::specs::FieldAt::months_at))]
+    #[tactic(auto, unfolding(crate::specs::Months::months_at))]
     pub(crate) fn read(text: &str) -> Option<Months>
         ensures { result ≡ months_at text.now }
     {
@@ -98,7 +95,7 @@ impl Months {
 
 impl fmt::Display for Month {
     ghost use Rattle.std.specs.Prelude.{Some};
-    ghost use Rattle.dates.specs.Spelling.{two_digit_text};
+    ghost use Rattle.dates.specs.Notation.{two_digit_text};
 
     ghost output = { λ x. Some (two_digit_text x) };
 
@@ -109,7 +106,7 @@ impl fmt::Display for Month {
 
 impl fmt::Display for Months {
     ghost use Rattle.std.specs.Prelude.{Some};
-    ghost use Rattle.dates.specs.Spelling.{months_text};
+    ghost use Rattle.dates.specs.Months.{months_text};
 
     ghost output = { λ x. Some (months_text x) };
 

@@ -1,7 +1,6 @@
 //! The parts of a text that the notation of entries is made of.
 ghost use Rattle.std.specs.Prelude.{◌≡◌, ◌<◌, length, option_map};
-ghost use Rattle.dates.specs.CutAt.{cut_at, without_prefix, parts_at};
-ghost use Rattle.dates.specs.FieldAt.{digit_at, two_digits, four_digits};
+ghost use Rattle.dates.specs.Notation.{cut_at, without_prefix, parts_at, digit_at, two_digits, four_digits};
 
 /// The text before the first `mark` and the text after it, where it stands in the text.
 pub fn cut_at<'a>(text: &'a str, mark: &str) -> Option<(&'a str, &'a str)>
@@ -19,7 +18,7 @@ pub fn without_prefix<'a>(text: &'a str, mark: &str) -> Option<&'a str>
 }
 
 /// The three parts of a text that has two marks.
-#[tactic(auto, unfolding(crate::specs::CutAt::parts_at))]
+#[tactic(auto, unfolding(crate::specs::Notation::parts_at))]
 pub fn parts_at<'a>(text: &'a str, mark: &str) -> Option<(&'a str, &'a str, &'a str)>
     requires { 0 < length mark.now }
     ensures { option_map (λ parts. (parts.0.now, parts.1.now, parts.2.now)) result
@@ -33,7 +32,7 @@ pub fn parts_at<'a>(text: &'a str, mark: &str) -> Option<(&'a str, &'a str, &'a 
     }
 }
 
-#[tactic(auto, unfolding(crate::specs::FieldAt::digit_at))]
+#[tactic(auto, unfolding(crate::specs::Notation::digit_at))]
 fn digit(byte: u8) -> Option<u8>
     ensures { result ≡ digit_at byte }
 {
@@ -44,7 +43,7 @@ fn digit(byte: u8) -> Option<u8>
 }
 
 /// The number that two digits write.
-#[tactic(auto, unfolding(crate::specs::FieldAt::two_digits, crate::specs::FieldAt::digit_at))]
+#[tactic(auto, unfolding(crate::specs::Notation::two_digits, crate::specs::Notation::digit_at))]
 pub fn two_digits(text: &str) -> Option<u8>
     ensures { result ≡ two_digits text.now }
 {
@@ -55,7 +54,7 @@ pub fn two_digits(text: &str) -> Option<u8>
 }
 
 /// The number that four digits write.
-#[tactic(auto, unfolding(crate::specs::FieldAt::four_digits, crate::specs::FieldAt::digit_at))]
+#[tactic(auto, unfolding(crate::specs::Notation::four_digits, crate::specs::Notation::digit_at))]
 pub fn four_digits(text: &str) -> Option<u16>
     ensures { result ≡ four_digits text.now }
 {

@@ -20,12 +20,10 @@ pub struct Pattern {
 }
 
 impl Pattern {
-    ghost use Rattle.dates.specs.HoldsOn.{in_pattern};
-    ghost use Rattle.dates.specs.Reading.{pattern_at};
-    ghost use Rattle.dates.specs.IsEntry.{IsPattern};
+    ghost use Rattle.dates.specs.Pattern.{in_pattern, pattern_at};
 
     /// Reads `Y-M-D` or `Y-M-D/W`.
-    #[tactic(auto, unfolding(crate::specs::Reading::pattern_at, crate::specs::Reading::date_part, crate::specs::Reading::weekday_part))]
+    #[tactic(auto, unfolding(crate::specs::Pattern::pattern_at, crate::specs::Pattern::date_part, crate::specs::Pattern::weekday_part))]
     pub(crate) fn read(text: &str) -> Result<Pattern, EntryFault>
         ensures { result ≡ pattern_at text.now }
     {
@@ -43,17 +41,6 @@ impl Pattern {
         })
     }
 
-    // A law: the numbers of a pattern are in range.
-    pub(crate) fn in_range(&self)
-        ensures { IsPattern self.now }
-    {
-        if let Some(year) = self.year {
-            year.number();
-        }
-        self.months.number();
-        self.days.number();
-    }
-
     /// Whether the day is one of the pattern's.
     pub fn holds(&self, day: Day) -> bool
         ensures { result ≡ in_pattern self.now day }
@@ -67,7 +54,7 @@ impl Pattern {
 
 impl fmt::Display for Pattern {
     ghost use Rattle.std.specs.Prelude.{Some};
-    ghost use Rattle.dates.specs.Spelling.{pattern_text};
+    ghost use Rattle.dates.specs.Pattern.{pattern_text};
 
     ghost output = { λ x. Some (pattern_text x) };
 

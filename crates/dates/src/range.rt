@@ -1,5 +1,4 @@
 ghost use Rattle.std.specs.Prelude.{◌≡◌};
-ghost use Rattle.dates.specs.RangeEnd.{IsRangeEnd};
 
 use crate::date_fields::DateFields;
 use crate::{Day, EntryFault};
@@ -16,12 +15,10 @@ pub struct Range {
 }
 
 impl Range {
-    ghost use Rattle.dates.specs.HoldsOn.{in_range, is_from, is_up_to};
-    ghost use Rattle.dates.specs.Reading.{range_at, range_end_at};
-    ghost use Rattle.dates.specs.IsEntry.{IsRange};
+    ghost use Rattle.dates.specs.Range.{in_range, is_from, is_up_to, range_at, range_end_at};
 
     /// Reads the two ends of a range.
-    #[tactic(auto, unfolding(crate::specs::Reading::range_at))]
+    #[tactic(auto, unfolding(crate::specs::Range::range_at))]
     pub(crate) fn read(left: &str, right: &str) -> Result<Range, EntryFault>
         ensures { result ≡ range_at left.now right.now }
     {
@@ -30,7 +27,7 @@ impl Range {
         Ok(Range { start, end })
     }
 
-    #[tactic(auto, unfolding(crate::specs::Reading::range_end_at))]
+    #[tactic(auto, unfolding(crate::specs::Range::range_end_at))]
     fn read_end(text: &str) -> Result<Option<Day>, EntryFault>
         ensures { result ≡ range_end_at text.now }
     {
@@ -38,14 +35,6 @@ impl Range {
             "*" => Ok(None),
             _ => Ok(Some(DateFields::read_day(text)?)),
         }
-    }
-
-    // A law: the years of a range's ends are in range.
-    pub(crate) fn in_range(&self)
-        ensures { IsRange self.now }
-    {
-        end_in_range(self.start);
-        end_in_range(self.end);
     }
 
     /// Whether the day is one of the range's.
@@ -74,21 +63,13 @@ impl Range {
     }
 }
 
-fn end_in_range(end: Option<Day>)
-    ensures { IsRangeEnd end }
-{
-    if let Some(day) = end {
-        day.year();
-    }
-}
-
 /// An end of a range, as it is written.
 #[derive(Clone, Copy)]
 struct RangeEnd(Option<Day>);
 
 impl fmt::Display for RangeEnd {
     ghost use Rattle.std.specs.Prelude.{Some};
-    ghost use Rattle.dates.specs.Spelling.{range_end_text};
+    ghost use Rattle.dates.specs.Range.{range_end_text};
 
     ghost output = { λ end. Some (range_end_text end.0) };
 
@@ -102,7 +83,7 @@ impl fmt::Display for RangeEnd {
 
 impl fmt::Display for Range {
     ghost use Rattle.std.specs.Prelude.{Some};
-    ghost use Rattle.dates.specs.Spelling.{range_text};
+    ghost use Rattle.dates.specs.Range.{range_text};
 
     ghost output = { λ x. Some (range_text x) };
 

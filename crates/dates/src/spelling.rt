@@ -1,10 +1,8 @@
 //! Laws of the notation: entries and the texts that spell them go one to one.
 ghost use Rattle.std.specs.Prelude.{◌≡◌, ◌↔◌, Ok};
 ghost use Rattle.dates.specs.declared.entry.Entry.{Entry};
-ghost use Rattle.dates.specs.CutAt.{Text};
-ghost use Rattle.dates.specs.IsEntry.{IsEntry};
-ghost use Rattle.dates.specs.Reading.{reading};
-ghost use Rattle.dates.specs.Spells.{Spells, HasOneSpelling};
+ghost use Rattle.dates.specs.Entry.{IsEntry, reading, Spells, HasOneSpelling};
+ghost use Rattle.dates.specs.Notation.{Text};
 
 /// A law: a text reads as an entry exactly where it spells it.
 pub fn reading_is_spelling()

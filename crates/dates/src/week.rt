@@ -29,11 +29,10 @@ pub enum Week {
 }
 
 impl Week {
-    ghost use Rattle.dates.specs.HoldsOn.{in_week, in_weeks};
-    ghost use Rattle.dates.specs.FieldAt.{week_at, weeks_at};
+    ghost use Rattle.dates.specs.Week.{in_week, in_weeks, week_at, weeks_at};
 
     /// Reads one digit.
-    #[tactic(auto, unfolding(crate::specs::FieldAt::week_at))]
+    #[tactic(auto, unfolding(crate::specs::Week::week_at))]
     fn read(text: &str) -> Option<Week>
         ensures { result ≡ week_at text.now }
     {
@@ -71,7 +70,7 @@ impl Week {
     }
 
     /// Reads one digit, or `*` for any week.
-    #[tactic(auto, unfolding(crate::specs::FieldAt::weeks_at))]
+    #[tactic(auto, unfolding(crate::specs::Week::weeks_at))]
     pub(crate) fn read_or_any(text: &str) -> Option<Option<Week>>
         ensures { result ≡ weeks_at text.now }
     {
@@ -94,7 +93,7 @@ impl Week {
 
 impl fmt::Display for Week {
     ghost use Rattle.std.specs.Prelude.{Some};
-    ghost use Rattle.dates.specs.Spelling.{week_text};
+    ghost use Rattle.dates.specs.Week.{week_text};
 
     ghost output = { λ x. Some (week_text x) };
 
@@ -119,7 +118,7 @@ pub(crate) struct WeekOrAny(pub(crate) Option<Week>);
 
 impl fmt::Display for WeekOrAny {
     ghost use Rattle.std.specs.Prelude.{Some};
-    ghost use Rattle.dates.specs.Spelling.{weeks_text};
+    ghost use Rattle.dates.specs.Week.{weeks_text};
 
     ghost output = { λ x. Some (weeks_text x.0) };
 

@@ -16,12 +16,10 @@ pub struct WeekNDay {
 }
 
 impl WeekNDay {
-    ghost use Rattle.dates.specs.HoldsOn.{in_week_n_day};
-    ghost use Rattle.dates.specs.Reading.{week_n_day_at};
-    ghost use Rattle.dates.specs.IsEntry.{IsWeekNDay};
+    ghost use Rattle.dates.specs.WeekNDay.{in_week_n_day, week_n_day_at};
 
     /// Reads `M:K:W`.
-    #[tactic(auto, unfolding(crate::specs::Reading::week_n_day_at))]
+    #[tactic(auto, unfolding(crate::specs::WeekNDay::week_n_day_at))]
     pub(crate) fn read(text: &str) -> Result<WeekNDay, EntryFault>
         ensures { result ≡ week_n_day_at text.now }
     {
@@ -36,13 +34,6 @@ impl WeekNDay {
         })
     }
 
-    // A law: the numbers of a week-and-day are in range.
-    pub(crate) fn in_range(&self)
-        ensures { IsWeekNDay self.now }
-    {
-        self.months.number();
-    }
-
     /// Whether the day is one of these.
     pub fn holds(&self, day: Day) -> bool
         ensures { result ≡ in_week_n_day self.now day }
@@ -55,7 +46,7 @@ impl WeekNDay {
 
 impl fmt::Display for WeekNDay {
     ghost use Rattle.std.specs.Prelude.{Some};
-    ghost use Rattle.dates.specs.Spelling.{week_n_day_text};
+    ghost use Rattle.dates.specs.WeekNDay.{week_n_day_text};
 
     ghost output = { λ x. Some (week_n_day_text x) };
 

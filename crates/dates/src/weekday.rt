@@ -1,7 +1,5 @@
 ghost use Rattle.std.specs.Prelude.{◌≡◌};
-ghost use Rattle.dates.specs.HoldsOn.{in_weekdays};
-ghost use Rattle.dates.specs.FieldAt.{weekday_at, weekdays_at};
-ghost use Rattle.dates.specs.WeekdayText.{weekday_text};
+ghost use Rattle.dates.specs.Weekday.{in_weekdays, weekday_at, weekdays_at, weekday_text};
 
 use crate::{Day, Weekday};
 use std::fmt;
@@ -22,7 +20,7 @@ pub fn weekday_name(weekday: Weekday) -> &'static str
 }
 
 /// Reads the three letters of a weekday.
-#[tactic(auto, unfolding(crate::specs::FieldAt::weekday_at))]
+#[tactic(auto, unfolding(crate::specs::Weekday::weekday_at))]
 pub(crate) fn read_weekday(text: &str) -> Option<Weekday>
     ensures { result ≡ weekday_at text.now }
 {
@@ -39,7 +37,7 @@ pub(crate) fn read_weekday(text: &str) -> Option<Weekday>
 }
 
 /// Reads the three letters of a weekday, or `*` for any.
-#[tactic(auto, unfolding(crate::specs::FieldAt::weekdays_at))]
+#[tactic(auto, unfolding(crate::specs::Weekday::weekdays_at))]
 pub(crate) fn read_weekday_or_any(text: &str) -> Option<Option<Weekday>>
     ensures { result ≡ weekdays_at text.now }
 {
@@ -65,7 +63,7 @@ pub(crate) struct WeekdayOrAny(pub(crate) Option<Weekday>);
 
 impl fmt::Display for WeekdayOrAny {
     ghost use Rattle.std.specs.Prelude.{Some};
-    ghost use Rattle.dates.specs.Spelling.{weekdays_text};
+    ghost use Rattle.dates.specs.Weekday.{weekdays_text};
 
     ghost output = { λ x. Some (weekdays_text x.0) };
 

@@ -22,8 +22,7 @@ impl Model for Year {
 }
 
 impl Year {
-    ghost use Rattle.dates.specs.HoldsOn.{in_years};
-    ghost use Rattle.dates.specs.FieldAt.{years_at};
+    ghost use Rattle.dates.specs.Year.{in_years, years_at};
 
     /// The year with this number, where it is 1900 to 2154.
     pub fn new(number: u16) -> Option<Year>
@@ -46,7 +45,7 @@ impl Year {
     }
 
     /// Reads four digits, or `*` for any year.
-    #[tactic(auto, unfolding(crate::specs::FieldAt::years_at))]
+    #[tactic(auto, unfolding(crate::specs::Year::years_at))]
     pub(crate) fn read_or_any(text: &str) -> Option<Option<Year>>
         ensures { result ≡ years_at text.now }
     {
@@ -69,7 +68,7 @@ impl Year {
 
 impl fmt::Display for Year {
     ghost use Rattle.std.specs.Prelude.{Some};
-    ghost use Rattle.dates.specs.Spelling.{four_digit_text};
+    ghost use Rattle.dates.specs.Notation.{four_digit_text};
 
     ghost output = { λ x. Some (four_digit_text x) };
 
@@ -84,7 +83,7 @@ pub(crate) struct YearOrAny(pub(crate) Option<Year>);
 
 impl fmt::Display for YearOrAny {
     ghost use Rattle.std.specs.Prelude.{Some};
-    ghost use Rattle.dates.specs.Spelling.{years_text};
+    ghost use Rattle.dates.specs.Year.{years_text};
 
     ghost output = { λ x. Some (years_text x.0) };
 

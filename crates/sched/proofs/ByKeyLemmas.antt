@@ -28,15 +28,19 @@ module _ {B : Type 0} (passes : B → Bool) (gives_way : B → B → Bool) where
     | inr fails ↦ rw fails (best_from-filter (Some best) xs)
   ]
 
+-- of two, the one that an ordering picks
+abbrev Picks : Type 0 → Type 0
+Picks A = Ordering → A → A → A
+
 -- the ordering of two keys says which element gives way
-pub record Orders {A B K : Type 0} (v : A → B) (key : B → K) (gives_way : B → B → Bool) (pick : Ordering → A → A → A) (pick-key : Ordering → K → K → K)
+pub record Orders {A B K : Type 0} (v : A → B) (key : B → K) (gives_way : B → B → Bool) (pick : Picks A) (pick-key : Picks K)
     (cmp : K → K → Ordering) : Type 0 where
   pub takes : (a b : A) → gives_way (v a) (v b) ≡ true
       → (pick (cmp (key (v a)) (key (v b))) a b ≡ b) × (pick-key (cmp (key (v a)) (key (v b))) (key (v a)) (key (v b)) ≡ key (v b))
   pub keeps : (a b : A) → gives_way (v a) (v b) ≡ false
       → (pick (cmp (key (v a)) (key (v b))) a b ≡ a) × (pick-key (cmp (key (v a)) (key (v b))) (key (v a)) (key (v b)) ≡ key (v a))
 
-module _ {A B F K : Type 0} (v : A → B) (key : B → K) (gives_way : B → B → Bool) (pick : Ordering → A → A → A) (pick-key : Ordering → K → K → K)
+module _ {A B F K : Type 0} (v : A → B) (key : B → K) (gives_way : B → B → Bool) (pick : Picks A) (pick-key : Picks K)
     (g : Mut F (Bor A × Unit {0}) K) (cmp : K → K → Ordering) (f : F) (orders : Orders v key gives_way pick pick-key cmp)
     (calls : (x : A) (k : K) (q : F) → CalledAt g f x k q → (q ≡ f) × (k ≡ key (v x))) where
   -- a state has the best item with its key
@@ -121,14 +125,16 @@ copied_map (Some x) = refl
 
 -- over references
 module _ {B F K S : Type 0} (key : B → K) {gives_way : B → B → Bool} (settles : Settles gives_way) (passes : B → Bool) (xs : List B)
-    {steps : S → Option (Bor B) → S → Type 0} {g : Mut F (Bor (Bor B) × Unit {0}) K} (cmp : K → K → Ordering) {s : S} {f : F} (r : Option (Bor B)) where
+    {steps : S → Option (Bor B) → S → Type 0} {g : Mut F (Bor (Bor B) × Unit {0}) K} (cmp : K → K → Ordering) {s : S} {f : F}
+    (r : Option (Bor B)) where
   pub chosen-max_by_key : PicksMaxByKey steps g cmp s f r → YieldsList steps (λ x. x.now) s (filter passes xs)
       → ((x : Bor B) (k : K) (q : F) → CalledAt g f x k q → (q ≡ f) × (k ≡ key x.now))
       → ((x y : B) → gives_way x y ≡ is_le (cmp (key x) (key y)))
       → option_copied r ≡ chosen passes gives_way xs
   chosen-max_by_key d gives calls agrees =
+      let orders = orders_max (λ x. x.now) key gives_way cmp agrees in
       copied_map r
-      ∙ picked (λ x. x.now) key gives_way max_by_ordering max_by_ordering g cmp f (orders_max (λ x. x.now) key gives_way cmp agrees) calls steps s (filter passes xs) r d gives
+      ∙ picked (λ x. x.now) key gives_way max_by_ordering max_by_ordering g cmp f orders calls steps s (filter passes xs) r d gives
       ∙ best_from-filter passes gives_way None xs ∙ sym (chosen-best_from passes gives_way settles xs)
 
   pub chosen-min_by_key : PicksMinByKey steps g cmp s f r → YieldsList steps (λ x. x.now) s (filter passes xs)
@@ -136,6 +142,7 @@ module _ {B F K S : Type 0} (key : B → K) {gives_way : B → B → Bool} (sett
       → ((x y : B) → gives_way x y ≡ is_gt (cmp (key x) (key y)))
       → option_copied r ≡ chosen passes gives_way xs
   chosen-min_by_key d gives calls agrees =
+      let orders = orders_min (λ x. x.now) key gives_way cmp agrees in
       copied_map r
-      ∙ picked (λ x. x.now) key gives_way min_by_ordering min_by_ordering g cmp f (orders_min (λ x. x.now) key gives_way cmp agrees) calls steps s (filter passes xs) r d gives
+      ∙ picked (λ x. x.now) key gives_way min_by_ordering min_by_ordering g cmp f orders calls steps s (filter passes xs) r d gives
       ∙ best_from-filter passes gives_way None xs ∙ sym (chosen-best_from passes gives_way settles xs)

@@ -1,5 +1,6 @@
 -- One pass that keeps the best so far finds the chosen element.
-use Rattle.std.proofs.Common.{◌≡◌, Bool, true, false, not, ◌&&◌, ◌||◌, if◌then◌else◌, List, [], ◌∷◌, ◌++◌, Option, Some, None, refl, sym, ap, ◌∙◌, subst, inl, inr, ⊎_elim, append_assoc}
+use Rattle.std.proofs.Common.{◌≡◌, Bool, true, false, not, ◌&&◌, ◌||◌, if◌then◌else◌, List, [], ◌∷◌, ◌++◌, append_assoc}
+use Rattle.std.proofs.Common.{Option, Some, None, refl, sym, ap, ◌∙◌, subst, inl, inr, ⊎_elim}
 use Rattle.std.specs.List.{list_all}
 use Rattle.std.proofs.lemmas.Bool.{and_from, and_left, and_parts, cases_Bool, false≢true, not_from_false, not-true, or_cases, or_left, or_right}
 use Rattle.std.proofs.lemmas.List.{append-nil}
@@ -11,7 +12,8 @@ module _ {A : Type 0} where
   list_all-push test xs x all here = list_all-append test xs (x ∷ []) ∙ and_from _ _ all (and_from _ _ here refl)
 
   -- one test follows from another
-  list_all-follows : (one two : A → Bool) (xs : List A) → ((x : A) → one x ≡ true → two x ≡ true) → list_all one xs ≡ true → list_all two xs ≡ true
+  list_all-follows : (one two : A → Bool) (xs : List A) → ((x : A) → one x ≡ true → two x ≡ true) → list_all one xs ≡ true
+      → list_all two xs ≡ true
   list_all-follows one two [] follows all = refl
   list_all-follows one two (x ∷ xs) follows all = and_from _ _ (follows x (and_parts _ _ all).0) (list_all-follows one two xs follows (and_parts _ _ all).1)
 
@@ -80,6 +82,16 @@ module _ {A : Type 0} (passes : A → Bool) (gives_way : A → A → Bool) (sett
     later_ones = list_all-push (later passes gives_way best) is.after x is.later_ones stays;
   }
 
+  -- what gave way to it, or failed, does so to the next one
+  still_gives : (best x : A) → gives_way best x ≡ true → (q : A) → earlier passes gives_way best q ≡ true → earlier passes gives_way x q ≡ true
+  still_gives best x gives q e =
+      ⊎_elim (λ fails. or_left _ _ fails) (λ gave. or_right _ _ (settles.onward q best x gave gives)) (or_cases _ _ e)
+
+  -- and so does what it did not give way to
+  gives_at_last : (best x : A) → gives_way best x ≡ true → (q : A) → later passes gives_way best q ≡ true → earlier passes gives_way x q ≡ true
+  gives_at_last best x gives q e =
+      ⊎_elim (λ fails. or_left _ _ fails) (λ stood. or_right _ _ (settles.past best q x (not-true _ stood) gives)) (or_cases _ _ e)
+
   -- or it gives way
   Best-gives : (seen : List A) (best x : A) → passes x ≡ true → gives_way best x ≡ true → IsBest passes gives_way seen best
       → IsBest passes gives_way (seen ++ x ∷ []) x
@@ -90,11 +102,9 @@ module _ {A : Type 0} (passes : A → Bool) (gives_way : A → A → Bool) (sett
     passes_it = passed;
     earlier_ones = ap (list_all (earlier passes gives_way x)) is.split ∙ list_all-append (earlier passes gives_way x) is.before (best ∷ is.after)
         ∙ and_from _ _
-        (list_all-follows (earlier passes gives_way best) (earlier passes gives_way x) is.before
-        (λ q e. ⊎_elim (λ fails. or_left _ _ fails) (λ gave. or_right _ _ (settles.onward q best x gave gives)) (or_cases _ _ e)) is.earlier_ones)
+        (list_all-follows (earlier passes gives_way best) (earlier passes gives_way x) is.before (still_gives best x gives) is.earlier_ones)
         (and_from _ _ (or_right _ _ gives)
-        (list_all-follows (later passes gives_way best) (earlier passes gives_way x) is.after
-        (λ q e. ⊎_elim (λ fails. or_left _ _ fails) (λ stood. or_right _ _ (settles.past best q x (not-true _ stood) gives)) (or_cases _ _ e)) is.later_ones));
+        (list_all-follows (later passes gives_way best) (earlier passes gives_way x) is.after (gives_at_last best x gives) is.later_ones));
     later_ones = refl;
   }
 
@@ -185,7 +195,8 @@ module _ {A : Type 0} (one two : A → Bool) (gives_way : A → A → Bool) wher
   kept-agree None x e = rw e refl
   kept-agree (Some best) x e = rw e refl
 
-  best_from-agree : (agree : A → Bool) → ((x : A) → agree x ≡ true → one x ≡ two x) → (best : Option A) (xs : List A) → list_all agree xs ≡ true
+  best_from-agree : (agree : A → Bool) → ((x : A) → agree x ≡ true → one x ≡ two x)
+      → (best : Option A) (xs : List A) → list_all agree xs ≡ true
       → best_from one gives_way best xs ≡ best_from two gives_way best xs
   best_from-agree agree follows best [] all = refl
   best_from-agree agree follows best (x ∷ xs) all =
@@ -193,7 +204,8 @@ module _ {A : Type 0} (one two : A → Bool) (gives_way : A → A → Bool) wher
       ∙ best_from-agree agree follows (kept two gives_way best x) xs (and_parts _ _ all).1
 
   -- two tests that agree on a list choose the same element
-  pub chosen-agree : Settles gives_way → (agree : A → Bool) → ((x : A) → agree x ≡ true → one x ≡ two x) → (xs : List A) → list_all agree xs ≡ true
+  pub chosen-agree : Settles gives_way → (agree : A → Bool) → ((x : A) → agree x ≡ true → one x ≡ two x)
+      → (xs : List A) → list_all agree xs ≡ true
       → chosen one gives_way xs ≡ chosen two gives_way xs
   chosen-agree settles agree follows xs all =
       chosen-best_from one gives_way settles xs ∙ best_from-agree agree follows None xs all ∙ sym (chosen-best_from two gives_way settles xs)

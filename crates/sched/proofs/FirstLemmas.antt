@@ -1,5 +1,6 @@
 -- The chosen element of a list is the one whose pair goes before that of each other one that passes.
-use Rattle.std.proofs.Common.{◌≡◌, ℕ, zero, suc, ◌+◌, ◌-◌, ◌<◌, Bool, true, false, not, ◌||◌, List, [], ◌∷◌, ◌++◌, length, Option, Some, None, slice_get, refl, sym, ap, ◌∙◌, subst, ⊎_elim, arith}
+use Rattle.std.proofs.Common.{◌≡◌, ℕ, zero, suc, ◌+◌, ◌-◌, ◌<◌, Bool, true, false, not, ◌||◌, List, [], ◌∷◌, ◌++◌, length}
+use Rattle.std.proofs.Common.{Option, Some, None, slice_get, refl, sym, ap, ◌∙◌, subst, ⊎_elim, arith}
 use Rattle.std.specs.List.{list_all}
 use Rattle.std.proofs.lemmas.Bool.{and_parts, cases_eq, cases_lt, false≢true, not-true, or_cases}
 use Rattle.std.proofs.lemmas.Option.{none-some, same_Some}
@@ -36,10 +37,12 @@ pub record Orders {A : Type 0} (gives_way : A → A → Bool) (Before : A → �
   pub stood : (x y : A) (i k : ℕ) → i < k → gives_way x y ≡ false → Before x i y k
   pub one_way : (x y : A) (i k : ℕ) → Before x i y k → Before y k x i → ⊥
 
-module _ {A : Type 0} (passes : A → Bool) (gives_way : A → A → Bool) (Before : A → ℕ → A → ℕ → Type 0) (orders : Orders gives_way Before) where
+module _ {A : Type 0} (passes : A → Bool) (gives_way : A → A → Bool) (Before : A → ℕ → A → ℕ → Type 0)
+    (orders : Orders gives_way Before) where
   -- a test that is passed, or something else
   else_of : (y : A) (other : Bool) → passes y ≡ true → (not (passes y) || other) ≡ true → other ≡ true
-  else_of y other passed e = ⊎_elim (λ fails. absurd (false≢true (sym (not-true (passes y) fails) ∙ passed))) (λ is. is) (or_cases (not (passes y)) other e)
+  else_of y other passed e =
+      ⊎_elim (λ fails. absurd (false≢true (sym (not-true (passes y) fails) ∙ passed))) (λ is. is) (or_cases (not (passes y)) other e)
 
   goes_first : (xs : List A) (x : A) → IsBest passes gives_way xs x → GoesFirst passes Before xs x
   goes_first xs x is = record {

@@ -1,5 +1,6 @@
 -- The segments up to a time are those that begin below the hundredth after it.
-use Rattle.std.proofs.Common.{◌≡◌, ℕ, zero, suc, ◌+◌, ◌-◌, ◌<◌, ◌≤◌, ◌&&◌, nat_le, nat_lt, Bool, true, false, cond, List, [], ◌∷◌, ◌++◌, filter, Option, Some, ℤ, refl, sym, ap, ◌∙◌, arith}
+use Rattle.std.proofs.Common.{◌≡◌, ℕ, zero, suc, ◌+◌, ◌-◌, ◌<◌, ◌≤◌, ℤ, nat_le, nat_lt, Bool, true, false, ◌&&◌, cond}
+use Rattle.std.proofs.Common.{List, [], ◌∷◌, ◌++◌, filter, Option, Some, refl, sym, ap, ◌∙◌, arith}
 use Rattle.std.specs.List.{list_any}
 use Rattle.std.proofs.lemmas.Bool.{or_parts}
 use Rattle.std.proofs.lemmas.Bool.Decides.{nat_tests}
@@ -14,8 +15,12 @@ abbrev up_to : ℕ → TimeValue → Bool
 up_to c segment = nat_le segment.time c
 
 module _ (value : ℕ → Option ℤ) (c : ℕ) where
+  -- the segment at a hundredth, if one begins there
+  abbrev if_begins : ℕ → Bool → List TimeValue
+  if_begins n begins = cond begins (record { time = n; value = value n } ∷ []) []
+
   filter-segment_at : (n : ℕ) (kept : Bool) → nat_le n c ≡ kept → filter (up_to c) (segment_at value n) ≡ cond kept (segment_at value n) []
-  filter-segment_at n kept e = elim (begins_at value n) as (λ b. filter (up_to c) (cond b (record { time = n; value = value n } ∷ []) []) ≡ cond kept (cond b (record { time = n; value = value n } ∷ []) []) []) [
+  filter-segment_at n kept e = elim (begins_at value n) as (λ b. filter (up_to c) (if_begins n b) ≡ cond kept (if_begins n b) []) [
     | true ↦ rw e refl
     | false ↦ none kept
   ]
@@ -68,4 +73,6 @@ some_is x y e = cc
 pub stands_between : (value : ℕ → Option ℤ) (a c : ℕ) → a ≤ c → c < HUNDREDTHS_A_DAY
     → list_any (λ segment. nat_lt a segment.time && nat_le segment.time c) (segments_of value) ≡ false → value c ≡ value a
 stands_between value a c h within none =
-    some_is _ _ (sym (last_segment value c within) ∙ ap last_value (filter-same a c (segments_of value) h none) ∙ last_segment value a (omega (arith, h, within)))
+    let earlier : a < HUNDREDTHS_A_DAY = omega (arith, h, within) in
+    let same = filter-same a c (segments_of value) h none in
+    some_is _ _ (sym (last_segment value c within) ∙ ap last_value same ∙ last_segment value a earlier)

@@ -1,5 +1,6 @@
 -- Where no list of the day names a hundredth, the value is that of the hundredth before.
-use Rattle.std.proofs.Common.{◌≡◌, ℕ, suc, ◌==◌, ◌||◌, nat_le, Bool, true, false, not, List, [], ◌∷◌, Option, Some, None, is_some, option_and_then, refl, sym, ap, ◌∙◌, arith, inl, inr}
+use Rattle.std.proofs.Common.{◌≡◌, ℕ, suc, ◌==◌, nat_le, Bool, true, false, not, ◌||◌, List, [], ◌∷◌}
+use Rattle.std.proofs.Common.{Option, Some, None, is_some, option_and_then, refl, sym, ap, ◌∙◌, arith, inl, inr}
 use Rattle.std.specs.List.{list_all, flat_map}
 use Rattle.std.specs.List.Sorted.{IsPermutation, IsSorted}
 use Rattle.std.specs.Ordering.{nat_cmp}
@@ -68,28 +69,35 @@ all_quiet calendars day c (x ∷ xs) none =
     (all_quiet calendars day c xs (or_parts (is_among c (exception_times calendars day x)) _ parts).1)
 
 exception_now-quiet : (calendars : List Calendar) (day : Date) (c : ℕ) (exceptions : List Exception)
-    → list_all (quiet_at calendars day (suc c)) exceptions ≡ true → exception_now calendars day (suc c) exceptions ≡ exception_now calendars day c exceptions
+    → list_all (quiet_at calendars day (suc c)) exceptions ≡ true
+    → exception_now calendars day (suc c) exceptions ≡ exception_now calendars day c exceptions
 unfolding exception_now
 exception_now-quiet calendars day c exceptions quiet =
     chosen-agree (speaks calendars day (suc c)) (speaks calendars day c) gives_way_to_lower settles_lower (quiet_at calendars day (suc c))
     (speaks-quiet calendars day c) exceptions quiet
 
+-- the list of an exception has one value at both
+abbrev says_the_same : ℕ → Exception → Bool
+says_the_same c x = value_eq (list_value x.times (suc c)) (list_value x.times c)
+
 -- the exception that counts says the same at both
-same_said : (calendars : List Calendar) (day : Date) (c : ℕ) (exceptions : List Exception) → list_all (quiet_at calendars day (suc c)) exceptions ≡ true
-    → holds_if (λ (x : Exception). value_eq (list_value x.times (suc c)) (list_value x.times c)) (exception_now calendars day c exceptions) ≡ true
+same_said : (calendars : List Calendar) (day : Date) (c : ℕ) (exceptions : List Exception)
+    → list_all (quiet_at calendars day (suc c)) exceptions ≡ true
+    → holds_if (says_the_same c) (exception_now calendars day c exceptions) ≡ true
 unfolding exception_now
 same_said calendars day c exceptions quiet =
-    chosen-holds (speaks calendars day c) gives_way_to_lower settles_lower (quiet_at calendars day (suc c)) (λ (x : Exception). value_eq (list_value x.times (suc c)) (list_value x.times c))
+    chosen-holds (speaks calendars day c) gives_way_to_lower settles_lower (quiet_at calendars day (suc c)) (says_the_same c)
     (λ x quiet_x speaks_x.
     let same = in_effect-quiet calendars day c x (and_parts (in_effect calendars day x) _ speaks_x).0 quiet_x in
     rw same (value_eq-same (list_value x.times c))) exceptions quiet
 
-same_value_of : (chosen : Option Exception) (c : ℕ) → holds_if (λ (x : Exception). value_eq (list_value x.times (suc c)) (list_value x.times c)) chosen ≡ true
+same_value_of : (chosen : Option Exception) (c : ℕ) → holds_if (says_the_same c) chosen ≡ true
     → option_and_then (λ (x : Exception). list_value x.times (suc c)) chosen ≡ option_and_then (λ (x : Exception). list_value x.times c) chosen
 same_value_of None c e = refl
 same_value_of (Some x) c e = same_values _ _ e
 
-exceptional-quiet : (calendars : List Calendar) (day : Date) (c : ℕ) (exceptions : List Exception) → list_all (quiet_at calendars day (suc c)) exceptions ≡ true
+exceptional-quiet : (calendars : List Calendar) (day : Date) (c : ℕ) (exceptions : List Exception)
+    → list_all (quiet_at calendars day (suc c)) exceptions ≡ true
     → exceptional_value calendars day (suc c) exceptions ≡ exceptional_value calendars day c exceptions
 exceptional-quiet calendars day c exceptions quiet =
     ap (option_and_then (λ (x : Exception). list_value x.times (suc c))) (exception_now-quiet calendars day c exceptions quiet)
@@ -104,7 +112,8 @@ schedule_value-quiet schedule calendars day c none =
     let exceptions = flat_map (exception_times calendars day) schedule.exceptions in
     let parts : (is_among (suc c) weekday || is_among (suc c) exceptions) ≡ false =
     sym (list_any-append (λ t. t == suc c) weekday exceptions) ∙ (or_parts (0 == suc c) _ none).1 in
-    let first = exceptional-quiet calendars day c schedule.exceptions (all_quiet calendars day (suc c) schedule.exceptions (or_parts (is_among (suc c) weekday) _ parts).1) in
+    let all = all_quiet calendars day (suc c) schedule.exceptions (or_parts (is_among (suc c) weekday) _ parts).1 in
+    let first = exceptional-quiet calendars day c schedule.exceptions all in
     let second = list_value-quiet (weekday_list schedule day) c (or_parts (is_among (suc c) weekday) _ parts).0 in
     λ i. first_value (first i) (first_value (second i) schedule.default)
 
@@ -114,6 +123,8 @@ pub Rises-sorted : (schedule : Schedule) (calendars : List Calendar) (day : Date
     → Rises (λ c. schedule_value schedule calendars day c) times
 Rises-sorted schedule calendars day times permuted sorted = record {
   midnight = sym (list_any-IsPermutation (λ t. t == 0) (named_times schedule calendars day) times permuted);
-  quiet = λ c none. schedule_value-quiet schedule calendars day c (list_any-IsPermutation (λ t. t == suc c) (named_times schedule calendars day) times permuted ∙ none);
+  quiet = λ c none.
+      let named = list_any-IsPermutation (λ t. t == suc c) (named_times schedule calendars day) times permuted in
+      schedule_value-quiet schedule calendars day c (named ∙ none);
   up = λ i j h within. IsNonDecreasingBy-from_sort (λ t. t) times sorted i j 0 h within;
 }

@@ -1,5 +1,7 @@
 -- One value at each named time, in rising order, gives the segments of the day.
-use Rattle.std.proofs.Common.{◌≡◌, ◌≢◌, ℕ, zero, suc, ◌+◌, ◌-◌, ◌<◌, ◌≤◌, ◌==◌, Bool, true, false, cond, not, List, [], ◌∷◌, ◌++◌, length, get_or, Option, Some, None, option_map, slice_get, ℤ, refl, sym, ap, ◌∙◌, arith, inl, inr, ⊎_elim, ◌⊎◌, length-append}
+use Rattle.std.proofs.Common.{◌≡◌, ◌≢◌, ◌⊎◌, inl, inr, ⊎_elim, ℕ, zero, suc, ◌+◌, ◌-◌, ◌<◌, ◌≤◌, ◌==◌, ℤ}
+use Rattle.std.proofs.Common.{Bool, true, false, cond, not, List, [], ◌∷◌, ◌++◌, length, length-append, get_or}
+use Rattle.std.proofs.Common.{Option, Some, None, option_map, slice_get, refl, sym, ap, ◌∙◌, arith}
 use Rattle.std.specs.List.{list_any}
 use Rattle.std.proofs.lemmas.Bool.{cases_Bool, cases_eq, cases_lt, false≢true}
 use Rattle.std.proofs.lemmas.Bool.Decides.{nat_tests, Decides-int_eq}
@@ -87,8 +89,9 @@ module _ (value : ℕ → Option ℤ) where
         let stays : segments_below value (suc (suc c)) ≡ segments_below value (suc c) = rw same (append-nil (segments_below value (suc c))) in
         ap last_value stays ∙ last_value-below c ∙ ap Some (same_values (value c) (value (suc c)) same)
     | inr other ↦
-        let grows : segments_below value (suc (suc c)) ≡ segments_below value (suc c) ++ record { time = suc c; value = value (suc c) } ∷ [] = rw other refl in
-        ap last_value grows ∙ last_value-push (segments_below value (suc c)) (record { time = suc c; value = value (suc c) })
+        let next : TimeValue = record { time = suc c; value = value (suc c) } in
+        let grows : segments_below value (suc (suc c)) ≡ segments_below value (suc c) ++ next ∷ [] = rw other refl in
+        ap last_value grows ∙ last_value-push (segments_below value (suc c)) next
   ]
 
   -- the step at the hundredth after those that are covered
@@ -102,7 +105,8 @@ module _ (value : ℕ → Option ℤ) where
   change-again c = rw (last_value-below c, value_eq-same (value c)) refl
 
   -- no segment begins where none does
-  segments_below-gap : (a k : ℕ) → ((c : ℕ) → a ≤ c → c < a + k → begins_at value c ≡ false) → segments_below value (a + k) ≡ segments_below value a
+  segments_below-gap : (a k : ℕ) → ((c : ℕ) → a ≤ c → c < a + k → begins_at value c ≡ false)
+      → segments_below value (a + k) ≡ segments_below value a
   segments_below-gap a zero none = let e : a + 0 ≡ a = omega arith in ap (segments_below value) e
   segments_below-gap a (suc k) none =
       let e : a + suc k ≡ suc (a + k) = omega arith in
@@ -110,7 +114,8 @@ module _ (value : ℕ → Option ℤ) where
       let stays : segments_below value (suc (a + k)) ≡ segments_below value (a + k) = rw here (append-nil (segments_below value (a + k))) in
       ap (segments_below value) e ∙ stays ∙ segments_below-gap a k (λ c from below. none c from (omega arith))
 
-  segments_below-to : (a b : ℕ) → a ≤ b → ((c : ℕ) → a ≤ c → c < b → begins_at value c ≡ false) → segments_below value b ≡ segments_below value a
+  segments_below-to : (a b : ℕ) → a ≤ b → ((c : ℕ) → a ≤ c → c < b → begins_at value c ≡ false)
+      → segments_below value b ≡ segments_below value a
   segments_below-to a b h none =
       let e : b ≡ a + (b - a) = omega arith in
       ap (segments_below value) e ∙ segments_below-gap a (b - a) (λ c from below. none c from (omega arith))
@@ -127,8 +132,10 @@ module _ (value : ℕ → Option ℤ) where
         (λ after. let h = rises.up (suc j) k (omega (arith, after)) inside in λ e. omega (arith, h, e))
         (cases_le k j)))
 
+    -- each time with its value gives the segments up to it
     pub change-time : (i : ℕ) → i < length times
-        → with_change (segments_below value (covered times i)) (record { time = get_or times i 0; value = value (get_or times i 0) }) ≡ segments_below value (covered times (suc i))
+        → with_change (segments_below value (covered times i)) (record { time = get_or times i 0; value = value (get_or times i 0) })
+        ≡ segments_below value (covered times (suc i))
     change-time zero within =
         let place = place_of times 0 rises.midnight in
         let h = rises.up 0 place.at (omega arith) place.within in

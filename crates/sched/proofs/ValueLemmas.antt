@@ -1,5 +1,6 @@
 -- The value of a list and of a schedule, by pairs and cases.
-use Rattle.std.proofs.Common.{◌≡◌, ◌≢◌, ◌⊎◌, ℕ, ◌<◌, Bool, true, false, nat_le, nat_lt, List, Option, Some, None, ℤ, is_some, option_and_then, refl, sym, ap, ◌∙◌, inl, inr, ⊎_elim, arith}
+use Rattle.std.proofs.Common.{◌≡◌, ◌≢◌, ◌⊎◌, inl, inr, ⊎_elim, ℕ, ◌<◌, nat_le, nat_lt, ℤ, Bool, true, false}
+use Rattle.std.proofs.Common.{List, Option, Some, None, is_some, option_and_then, refl, sym, ap, ◌∙◌, arith}
 use Rattle.std.proofs.lemmas.Bool.{and_parts, cases_lt, false≢true}
 use Rattle.std.proofs.lemmas.Bool.Decides.{nat_tests}
 use Rattle.std.proofs.lemmas.Option.{none-some}
@@ -42,12 +43,19 @@ later_orders = record {
   one_way = λ x y i k one two. not_both y.time x.time i k one two;
 }
 
+-- a pair that is less, with its equation turned
+turned : (s t i k : ℕ) → (s < t) ⊎ ((s ≡ t) × (i < k)) → (s < t) ⊎ ((t ≡ s) × (i < k))
+turned s t i k less = ⊎_elim (λ below. inl below) (λ same. inr (sym same.0, same.1)) less
+
 higher_orders : Orders gives_way_to_lower IsHigher
 higher_orders = record {
   settles = settles_lower;
   gave = λ y x k i below gives. inl (below_of x.event_priority y.event_priority gives);
   stood = λ x y i k below stays. ⊎_elim (λ less. inl less) (λ same. inr (same, below)) (not_below x.event_priority y.event_priority stays);
-  one_way = λ x y i k one two. not_both x.event_priority y.event_priority k i (⊎_elim (λ a. inl a) (λ a. inr (sym a.0, a.1)) one) (⊎_elim (λ a. inl a) (λ a. inr (sym a.0, a.1)) two);
+  one_way = λ x y i k one two.
+      let m = x.event_priority in
+      let n = y.event_priority in
+      not_both m n k i (turned m n i k one) (turned n m k i two);
 }
 
 -- ---- a list
@@ -55,7 +63,11 @@ higher_orders = record {
 abbrev by_then : ℕ → TimeValue → Bool
 by_then time x = nat_le x.time time
 
-of_latest : (list : List TimeValue) (time : ℕ) (v : Option ℤ) (o : Option TimeValue) → latest list time ≡ o → option_and_then (λ (x : TimeValue). x.value) o ≡ v
+-- the value of an element, if there is one
+abbrev value_of : Option TimeValue → Option ℤ
+value_of o = option_and_then (λ (x : TimeValue). x.value) o
+
+of_latest : (list : List TimeValue) (time : ℕ) (v : Option ℤ) (o : Option TimeValue) → latest list time ≡ o → value_of o ≡ v
     → IsListValue list time v
 unfolding latest
 of_latest list time v None none is = inr (chosen-none_passes (by_then time) gives_way_later IsLater later_orders list none, sym is)
@@ -66,8 +78,8 @@ unfolding latest
 list_value-latest list time v = (
   of_latest list time v (latest list time) refl,
   ⊎_elim
-      (λ one. ap (option_and_then (λ (x : TimeValue). x.value)) (goes_first-chosen (by_then time) gives_way_later IsLater later_orders list one.0 one.1) ∙ one.2)
-      (λ none. ap (option_and_then (λ (x : TimeValue). x.value)) (none_passes-chosen (by_then time) gives_way_later IsLater later_orders list none.0) ∙ sym none.1),
+      (λ one. ap value_of (goes_first-chosen (by_then time) gives_way_later IsLater later_orders list one.0 one.1) ∙ one.2)
+      (λ none. ap value_of (none_passes-chosen (by_then time) gives_way_later IsLater later_orders list none.0) ∙ sym none.1),
 )
 
 -- ---- a schedule
@@ -114,7 +126,8 @@ no_exception : (schedule : Schedule) (calendars : List Calendar) (day : Date) (t
     → schedule_value schedule calendars day time ≡ first_value (list_value (weekday_list schedule day) time) schedule.default
 unfolding exception_now schedule_value
 no_exception schedule calendars day time none =
-    ap (λ o. first_value (option_and_then (λ (y : Exception). list_value y.times time) o) (first_value (list_value (weekday_list schedule day) time) schedule.default))
+    let rest = first_value (list_value (weekday_list schedule day) time) schedule.default in
+    ap (λ o. first_value (option_and_then (λ (y : Exception). list_value y.times time) o) rest)
     (none_passes-chosen (speaks calendars day time) gives_way_to_lower IsHigher higher_orders schedule.exceptions none)
 
 by_weekday : (schedule : Schedule) (calendars : List Calendar) (day : Date) (time : ℕ) (v : Option ℤ) → ByWeekday schedule calendars day time v

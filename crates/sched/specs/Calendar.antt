@@ -1,7 +1,7 @@
 use Rattle.std.specs.Prelude.{Bool}
 use Rattle.std.specs.List.{list_any}
 use Rattle.jiff_core.specs.declared.civil.date.Date.{Date}
-use Rattle.dates.specs.HoldsOn.{holds_on}
+use Rattle.dates.specs.Entry.{holds_on}
 use Rattle.sched.specs.declared.calendar.Calendar.{Calendar}
 
 -- a calendar holds on the days of its entries, all together

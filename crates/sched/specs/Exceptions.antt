@@ -1,7 +1,7 @@
 use Rattle.std.specs.Prelude.{ℕ, Bool, false, ◌&&◌, nat_lt, List, Option, ℤ, is_some, option_and_then, slice_get}
 use Rattle.std.specs.Option.{option_map_or}
 use Rattle.jiff_core.specs.declared.civil.date.Date.{Date}
-use Rattle.dates.specs.HoldsOn.{holds_on}
+use Rattle.dates.specs.Entry.{holds_on}
 use Rattle.sched.specs.declared.calendar.Calendar.{Calendar}
 use Rattle.sched.specs.declared.exception.Exception.{Exception}
 use Rattle.sched.specs.declared.exception.Period.{Period}

@@ -1,6 +1,6 @@
 -- The text of a time of day.
 use Rattle.std.specs.Prelude.{ℕ, ◌/◌, ◌%◌, List, ◌++◌, codes}
-use Rattle.dates.specs.Spelling.{two_digit_text}
+use Rattle.dates.specs.Notation.{two_digit_text}
 
 -- hours, minutes, seconds and hundredths, two digits each: HH:MM:SS.hh
 abbrev pub time_text : ℕ → List ℕ

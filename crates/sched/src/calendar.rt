@@ -1,6 +1,5 @@
 //! Calendars.
 ghost use Rattle.std.specs.Prelude.{◌≡◌};
-ghost use Rattle.dates.specs.HoldsOn.{holds_on};
 ghost use Rattle.sched.specs.Calendar.{calendar_holds};
 
 use dates::{Day, Entry};

@@ -1,5 +1,5 @@
 //! The segments of a schedule's day.
-ghost use Rattle.std.specs.Prelude.{◌≡◌, ◌++◌, map, not, Some, IfOk, OnOk};
+ghost use Rattle.std.specs.Prelude.{◌≡◌, ◌++◌, not, Some, IfOk, OnOk};
 ghost use Rattle.std.specs.List.{flat_map};
 ghost use Rattle.std.specs.Option.{option_eq};
 ghost use Rattle.sched.specs.Named.{exception_times, named_times, times_of};

@@ -3,7 +3,7 @@ use Rattle.std.proofs.Common.{rules, arith, ◌∙◌, ap, w32, FitsSigned}
 use Rattle.std.specs.Option.{ok_or}
 use Rattle.std.proofs.lemmas.Int.{to_z-of_z}
 use Rattle.jiff_core.proofs.SignedLemmas.{signed_arith}
-use Rattle.dates.specs.OneDay.{one_day}
+use Rattle.dates.specs.DateFields.{one_day}
 use Rattle.dates.specs.declared.entry_fault.EntryFault.TheVariants.{Day}
 use Rattle.dates.proofs.DayLemmas.{day_of-new}
 use Rattle.dates.proofs.date_fields.one_day.Goals as goal

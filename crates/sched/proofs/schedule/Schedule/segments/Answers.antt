@@ -21,8 +21,9 @@ rises_from schedule calendars day gathered sorted times named permuted rising sa
     subst (Rises (λ c. schedule_value schedule calendars day c)) (sym same)
     (Rises-sorted schedule calendars day sorted (subst (λ (g : List ℕ). IsPermutation g sorted) named permuted) rising)
 
-stepped : (value : ℕ → Option ℤ) (times : List ℕ) (rises : Rises value times) (i item : ℕ) (here : Option ℤ) (before after : List TimeValue) → i < length times
-    → item ≡ get_or times i 0 → here ≡ value item → before ≡ segments_below value (covered times i)
+stepped : (value : ℕ → Option ℤ) (times : List ℕ) (rises : Rises value times) (i item : ℕ) (here : Option ℤ)
+    (before after : List TimeValue) → i < length times → item ≡ get_or times i 0
+    → here ≡ value item → before ≡ segments_below value (covered times i)
     → after ≡ with_change before (record { time = item; value = here }) → after ≡ segments_below value (covered times (i + 1))
 stepped value times rises i item here before after within is valued so_far pushed =
     pushed
@@ -38,10 +39,13 @@ loop-time-preserved c =
     let is = get_or_read times i c.time-item.result within c.time-item.is 0 in
     let rises = rises_from c.args.self.now c.args.calendars.now c.args.day c.in_ok-times.times.items c.sort.new.self.items times
     c.in_ok-times.ensures c.in_ok-sort.ensures.permutation c.in_ok-sort.ensures.sorted c.deref-time-items.ensures.value in
+    let before = c.loop-time.segments.items in
+    let after = c.push_change.new.segments.items in
+    let on_the_day = rw c.hundredths.ensures.value at c.hundredths.ensures.within in
     record {
       so_far = stepped (λ t. schedule_value c.args.self.now c.args.calendars.now c.args.day t) times rises i c.time-item.result c.value_now-value.result
-          c.loop-time.segments.items c.push_change.new.segments.items within is c.value_now-value.ensures c.loop-time.invariant.so_far c.in_ok-push_change.ensures;
-      in_day = below_more _ _ c.loop-time.invariant.in_day (subst (λ t. t < HUNDREDTHS_A_DAY) is (rw c.hundredths.ensures.value at c.hundredths.ensures.within));
+          before after within is c.value_now-value.ensures c.loop-time.invariant.so_far c.in_ok-push_change.ensures;
+      in_day = below_more _ _ c.loop-time.invariant.in_day (subst (λ t. t < HUNDREDTHS_A_DAY) is on_the_day);
     }
 
 pub returns : goal.returns

@@ -11,6 +11,7 @@ returns-clause-writes g c = λ plain ok.
     let minute = styled_decimal-two (c.hundredths-hundredths.result / 6_000 % 60) (omega arith) in
     let second = styled_decimal-two (c.hundredths-hundredths.result / 100 % 60) (omega arith) in
     let rest = styled_decimal-two (c.hundredths-hundredths.result % 100) (omega arith) in
+    let number = c.hundredths-hundredths.ensures.value in
     has_written_of_eq _ _ _ _ _
-    (rw (c.laid_out.ensures, c.laid_out-2.ensures, c.laid_out-3.ensures, c.laid_out-4.ensures, hour, minute, second, rest, c.hundredths-hundredths.ensures.value) refl)
+    (rw (c.laid_out.ensures, c.laid_out-2.ensures, c.laid_out-3.ensures, c.laid_out-4.ensures, hour, minute, second, rest, number) refl)
     (c.write.ensures.writes plain ok)

@@ -1,15 +1,42 @@
--- The day with these parts, if there is one.
-use Rattle.std.specs.Prelude.{◌≡◌, ℕ, ◌≤◌, Bool, true, false, pos, Option, Some, None, option_map, refl}
+-- A civil day of a year from 1900 to 2154.
+use Rattle.std.specs.Prelude.{◌≡◌, ℕ, ◌-◌, ◌≤◌, Bool, true, false, ◌&&◌, ◌++◌, ℤ, pos, unsigned_abs, codes, refl}
+use Rattle.std.specs.Prelude.{Option, Some, None, option_map}
 use Rattle.std.specs.Cmp.{first_so, second_so}
 use Rattle.std.specs.Int.{IsInRange}
 use Rattle.std.proofs.Common.{lit≤}
 use Rattle.std.proofs.Math.Nat.{le_trans}
 use Rattle.std.proofs.lemmas.Bool.{leb-true, le-leb}
 use Rattle.std.proofs.lemmas.Float.{T_from_true}
-use Rattle.jiff.specs.Words.{IsYear, days_in_month}
+use Rattle.jiff.specs.Words.{IsBetween, IsDate, IsYear, days_in_month, month_length}
 use Rattle.jiff_core.specs.declared.civil.date.Date.{Date}
 use Rattle.dates.specs.Between.{is_between}
-use Rattle.dates.specs.IsDay.{is_day}
+use Rattle.dates.specs.Notation.{Text, two_digit_text, four_digit_text}
+
+-- the parts of a day that the calendar has, in such a year
+abbrev pub IsDay : ℤ → ℕ → ℕ → Type 0
+IsDay year month day = IsBetween (pos 1900) (pos 2154) year × IsDate year (pos month) (pos day)
+
+-- the same, as a test
+abbrev pub is_day : ℕ → ℕ → ℕ → Bool
+is_day year month day =
+    is_between 1900 2154 year
+    && (is_between 1 12 month && is_between 1 (days_in_month (pos year) month) day)
+
+-- a date of the calendar in such a year
+abbrev pub IsOfYears : Date → Type 0
+IsOfYears day = IsBetween (pos 1900) (pos 2154) day.year
+
+-- how many days follow a day in its month
+abbrev pub days_left : Date → ℕ
+days_left date = month_length date - date.day
+
+-- YYYY-MM-DD
+abbrev pub day_text : Date → Text
+day_text day =
+    four_digit_text (unsigned_abs day.year)
+    ++ (codes "-" ++ (two_digit_text day.month ++ (codes "-" ++ two_digit_text day.day)))
+
+-- ---- the day with these parts, if there is one
 
 -- that a test passes, if it does
 abbrev pub passed : (test : Bool) → Option (test ≡ true)

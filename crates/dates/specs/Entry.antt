@@ -1,0 +1,50 @@
+-- An entry: the days that it holds on (ANSI/ASHRAE 135-2016, clause 21), and the one text that spells it.
+use Rattle.std.specs.Prelude.{◌≡◌, Bool, codes, Result, Ok}
+use Rattle.std.specs.Option.{option_map_or}
+use Rattle.jiff_core.specs.declared.civil.date.Date.{Date}
+use Rattle.dates.specs.declared.entry.Entry.{Entry}
+use Rattle.dates.specs.declared.entry.Entry.TheVariants.{Pattern, Range, WeekNDay}
+use Rattle.dates.specs.declared.entry_fault.EntryFault.{EntryFault}
+use Rattle.dates.specs.EntryFault.{◌>>=◌}
+use Rattle.dates.specs.Notation.{Text, cut_at, without_prefix}
+use Rattle.dates.specs.Pattern.{IsPattern, in_pattern, pattern_at, pattern_text}
+use Rattle.dates.specs.Range.{IsRange, in_range, range_at, range_text}
+use Rattle.dates.specs.WeekNDay.{IsWeekNDay, in_week_n_day, week_n_day_at, week_n_day_text}
+
+-- the numbers are in range, as those of each value that the program holds
+abbrev pub IsEntry : Entry → Type 0
+IsEntry (Pattern p) = IsPattern p
+IsEntry (Range r) = IsRange r
+IsEntry (WeekNDay w) = IsWeekNDay w
+
+-- the days of an entry, as the test of its members
+unfoldable pub holds_on : Entry → Date → Bool
+holds_on (Pattern p) day = in_pattern p day
+holds_on (Range r) day = in_range r day
+holds_on (WeekNDay w) day = in_week_n_day w day
+
+-- a text that does not begin with `wnd:`
+unfoldable pub dates_at : Text → Result Entry EntryFault
+dates_at text = option_map_or (λ ends. range_at ends.0 ends.1 >>= λ r. Ok (Range r))
+    (cut_at (codes "..") text) (pattern_at text >>= λ p. Ok (Pattern p))
+
+-- what a text reads as: an entry, or the first fault in the order of the notation
+unfoldable pub reading : Text → Result Entry EntryFault
+reading text = option_map_or (λ parts. week_n_day_at parts >>= λ w. Ok (WeekNDay w))
+    (without_prefix (codes "wnd:") text) (dates_at text)
+
+-- the one text that spells an entry, by the forms of the notation
+unfoldable pub spelling : Entry → Text
+spelling (Pattern p) = pattern_text p
+spelling (Range r) = range_text r
+spelling (WeekNDay w) = week_n_day_text w
+
+-- the text spells the entry
+abbrev pub Spells : Text → Entry → Type 0
+Spells text e = (text ≡ spelling e) × IsEntry e
+
+-- one text spells the entry, and no other does
+pub record HasOneSpelling (e : Entry) : Type 0 where
+  pub text : Text
+  pub spells : Spells text e
+  pub only : (other : Text) → Spells other e → other ≡ text
