@@ -1,2 +1,3 @@
+pub mod EmptyLemmas
 pub mod ReplayLemmas
 pub mod StopLemmas

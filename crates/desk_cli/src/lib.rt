@@ -6,8 +6,7 @@
 #![tactic(auto)]
 
 pub use input::{Input, Listed};
-pub use replay_fault::ReplayFault;
-pub use replay_run::{print_points, print_replies};
+pub use replay_run::replay;
 pub use status::Status;
 
 mod input;

@@ -10,7 +10,7 @@ use store::StoreFault;
 
 /// Why a replay stopped. Its text is the line of the fault end, without the line end.
 #[derive(Clone, Copy, Debug, PartialEq, Eq)]
-pub enum ReplayFault<'a> {
+pub(crate) enum ReplayFault<'a> {
     /// The file of this path can't be read.
     CannotRead { path: &'a str },
     /// The building file is refused.

@@ -16,13 +16,90 @@ use crate::point_line::point_line;
 use crate::replay_fault::ReplayFault;
 use crate::{Input, Listed, Status};
 use building_file::{LONGEST_FILE, read_building};
-use deliveries::Building;
 use delivery_lines::{LineFault, answer_line};
+use deliveries::Building;
 use desk::Desk;
 use points::Name;
 use std::alloc::Global;
 use std::io::{self, BufRead, BufReader, Read, Write};
-use store::Store;
+use store::{MemStore, Store};
+
+/// Runs the deliveries of a list over the building of a file, in memory: prints each reply as a line,
+/// and then the POINT line of each point in file order. Empty lines are passed over, also with a CR.
+///
+/// The building is read, and refused, before the list is opened. A fault is told on `fault` as one line,
+/// in one write, and ends the run: the replies before it stand, and no POINT line follows a line that
+/// tells no delivery. Whatever the end, nothing else is printed: a beginning of the replies to the first
+/// lines, or of all replies and the points. `out` is flushed where no further line is at hand, and at the
+/// end of the run, whatever it was; if that loses output, this is the fault that is told.
+pub fn replay<B: Read + Drop, D: Read + Drop, O, W: Write, F: Write>(
+    alloc: Global,
+    file: Input<'_, B>,
+    deliveries: Listed<'_, O>,
+    out: &mut W,
+    fault: &mut F,
+) -> Status
+where
+    O: FnOnce() -> io::Result<BufReader<D>>,
+    requires { O.IsAlwaysCallable deliveries.open }
+    ensures done { result ≡ Status.Done → (file_bytes list_bytes : List ℕ)
+        → bytes_of B.remaining file.entry.reader ≡ Some file_bytes
+        → Opens (O.post deliveries.entry.open) (bytes_of (reader_remaining D.remaining)) list_bytes
+        → Replays file_bytes list_bytes (W.contents out.old) (W.contents out.new) }
+    ensures quiet { result ≡ Status.Done → Keeps (F.contents fault.old) (F.contents fault.new) }
+    ensures no_more { (file_bytes list_bytes : List ℕ)
+        → bytes_of B.remaining file.entry.reader ≡ Some file_bytes
+        → Opens (O.post deliveries.entry.open) (bytes_of (reader_remaining D.remaining)) list_bytes
+        → PrintsNoMore file_bytes list_bytes (W.contents out.old) (W.contents out.new) }
+{
+    match replay_over(alloc, file, deliveries, out) {
+        Ok(()) => Status::Done,
+        Err(end) => {
+            let end = end.after(out.flush());
+            tell(alloc, &end, fault);
+            end.status()
+        }
+    }
+}
+
+/// Tells a fault as one line: in one write, or where memory is refused for that, piece by piece and with the
+/// path as it is.
+fn tell<F: Write>(alloc: Global, end: &ReplayFault<'_>, fault: &mut F) {
+    let _told = match end.line(alloc) {
+        Ok(line) => fault.write_all(line.as_bytes()),
+        Err(_) => writeln!(fault, "{end}"),
+    };
+}
+
+fn replay_over<'a, B: Read + Drop, D: Read + Drop, O, W: Write>(
+    alloc: Global,
+    file: Input<'a, B>,
+    deliveries: Listed<'a, O>,
+    out: &mut W,
+) -> Result<(), ReplayFault<'a>>
+where
+    O: FnOnce() -> io::Result<BufReader<D>>,
+    requires { O.IsAlwaysCallable deliveries.open }
+    ensures done { OnOk result ((file_bytes list_bytes : List ℕ)
+        → bytes_of B.remaining file.entry.reader ≡ Some file_bytes
+        → Opens (O.post deliveries.entry.open) (bytes_of (reader_remaining D.remaining)) list_bytes
+        → Replays file_bytes list_bytes (W.contents out.old) (W.contents out.new)) }
+    ensures no_more { (file_bytes list_bytes : List ℕ)
+        → bytes_of B.remaining file.entry.reader ≡ Some file_bytes
+        → Opens (O.post deliveries.entry.open) (bytes_of (reader_remaining D.remaining)) list_bytes
+        → PrintsNoMore file_bytes list_bytes (W.contents out.old) (W.contents out.new) }
+{
+    let building = building_in(alloc, file)?;
+    let store = MemStore::new(alloc);
+    let mut desk = Desk::new(alloc, building, store);
+    let Listed { path, open } = deliveries;
+    match open() {
+        Ok(reader) => print_replies(alloc, &mut desk, path, reader, out)?,
+        Err(error) => return Err(ReplayFault::of_read(&error, path)),
+    }
+    print_points(alloc, &mut desk, out)?;
+    flush(out)
+}
 
 /// The building of a file.
 fn building_in<'a, B: Read + Drop>(
@@ -47,7 +124,7 @@ fn building_in<'a, B: Read + Drop>(
 }
 
 /// Answers each line that the reader has left.
-pub fn print_replies<'a, S: Store + Drop, D: Read + Drop, W: Write>(
+fn print_replies<'a, S: Store + Drop, D: Read + Drop, W: Write>(
     alloc: Global,
     desk: &mut Desk<S>,
     path: &'a str,
@@ -160,7 +237,7 @@ fn flush<'a, W: Write>(out: &mut W) -> Result<(), ReplayFault<'a>>
 }
 
 /// Prints the POINT line of each point, in file order.
-pub fn print_points<'a, S: Store + Drop, W: Write>(
+fn print_points<'a, S: Store + Drop, W: Write>(
     alloc: Global,
     desk: &mut Desk<S>,
     out: &mut W,

@@ -1,7 +1,7 @@
 use Rattle.std.specs.Prelude.{ℕ, ◌≤◌, Bool, ◌&&◌, ◌||◌, nat_lt, ◌==◌, if◌then◌else◌, List, [], ◌∷◌, Option, Some, None, ℤ}
 use Rattle.std.specs.List.{All}
 use Rattle.std.specs.Str.{bytes_eq}
-use Rattle.dates.specs.Spelling.{spelling}
+use Rattle.dates.specs.Entry.{spelling}
 use Rattle.points.specs.declared.answer.Answer.TheVariants.{Done, Refused}
 use Rattle.points.specs.declared.command_row.CommandState.{CommandState}
 use Rattle.points.specs.declared.command_row.CommandState.TheVariants.{Parked, Answered}

@@ -2,7 +2,7 @@
 use Rattle.std.specs.Prelude.{◌≡◌, List, false, None, IsSome}
 use Rattle.std.specs.FinMap.{empty}
 use Rattle.std.specs.List.{All}
-use Rattle.dates.specs.Spelling.{spelling}
+use Rattle.dates.specs.Entry.{spelling}
 use Rattle.store.specs.declared.change.Change.{Change}
 use Rattle.store.specs.declared.mem_store.MemStore.{MemStore}
 use Rattle.store.specs.declared.spelled_entry.SpelledEntry.{SpelledEntry}

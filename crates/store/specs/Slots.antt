@@ -4,7 +4,7 @@ use Rattle.std.specs.Bool.{IsTrue}
 use Rattle.std.specs.List.{list_any}
 use Rattle.std.specs.declared.string.String.{String}
 use Rattle.dates.specs.declared.entry.Entry.{Entry}
-use Rattle.dates.specs.Spelling.{spelling}
+use Rattle.dates.specs.Entry.{spelling}
 use Rattle.store.specs.Tables.{Text}
 
 -- what an entry holds, if there is one and it holds something

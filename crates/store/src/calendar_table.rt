@@ -3,7 +3,7 @@ ghost use Rattle.std.specs.Prelude.{◌≡◌, ◌||◌, IfOk, IsSome, OnOk, Non
 ghost use Rattle.std.proofs.Props.{props};
 ghost use Rattle.std.specs.Bool.{IsTrue};
 ghost use Rattle.std.specs.Str.{bytes_eq};
-ghost use Rattle.dates.specs.Spelling.{spelling};
+ghost use Rattle.dates.specs.Entry.{spelling};
 ghost use Rattle.store.specs.Listed.{AreTexts};
 ghost use Rattle.store.specs.Slots.{AreSpelled, entry_slot, has_entries, has_text};
 ghost use Rattle.store.specs.Tables.{Text};

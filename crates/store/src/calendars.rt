@@ -2,7 +2,7 @@
 ghost use Rattle.std.specs.Prelude.{◌≡◌, IfOk, IsSome, OnOk, None, map, string_bytes};
 ghost use Rattle.std.specs.Bool.{IsTrue};
 ghost use Rattle.std.specs.List.{All};
-ghost use Rattle.dates.specs.Spelling.{spelling};
+ghost use Rattle.dates.specs.Entry.{spelling};
 ghost use Rattle.store.specs.Change.{with_each, with_imported};
 ghost use Rattle.store.specs.Held.{calendar_at, calendar_slot, imported_of, stands_calendar};
 ghost use Rattle.store.specs.Listed.{AreTexts};

@@ -1,6 +1,6 @@
 //! An entry to be imported, with the text that spells it.
 ghost use Rattle.std.specs.Prelude.{◌≡◌, IfOk, map, string_bytes};
-ghost use Rattle.dates.specs.Spelling.{spelling};
+ghost use Rattle.dates.specs.Entry.{spelling};
 
 use crate::change::ImportedEntry;
 use std::alloc::{AllocError, Global};

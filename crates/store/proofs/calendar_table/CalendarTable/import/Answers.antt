@@ -2,7 +2,7 @@ use Rattle.std.proofs.Common.{◌≡◌, ◌∙◌, ◌||◌, sym, ap, refl, tru
 use Rattle.std.specs.BTreeMap as tree
 use Rattle.std.specs.Str.{bytes_eq}
 use Rattle.std.proofs.lemmas.Map.Text.{btree_map_updates_text}
-use Rattle.dates.specs.Spelling.{spelling}
+use Rattle.dates.specs.Entry.{spelling}
 use Rattle.store.specs.Slots.{flatten, has_text}
 use Rattle.store.proofs.HeldLemmas.{changed, changed_at, true_or, written}
 use Rattle.store.proofs.calendar_table.CalendarTable.import.Goals as goal

@@ -2,7 +2,7 @@ use Rattle.std.proofs.Common.{◌≡◌, ◌∙◌, ◌++◌, List, append-nil, 
 use Rattle.std.specs.Bool.{IsTrue}
 use Rattle.std.specs.BTreeMap.{get_by_text}
 use Rattle.dates.specs.declared.entry.Entry.{Entry}
-use Rattle.dates.specs.Spelling.{spelling}
+use Rattle.dates.specs.Entry.{spelling}
 use Rattle.store.specs.Listed.{AreTexts}
 use Rattle.store.specs.Slots.{IsStanding, flatten, has_text, standing_keys}
 use Rattle.store.proofs.TextLemmas.{AreTexts-by, AreTexts-standing, kept, standing_some, texts-kept}

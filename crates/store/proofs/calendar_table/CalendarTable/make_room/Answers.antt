@@ -6,7 +6,7 @@ use Rattle.std.specs.Ordering.{nat_cmp}
 use Rattle.std.specs.Str.{bytes_eq}
 use Rattle.dates.specs.declared.entry.Entry.{Entry}
 use Rattle.std.proofs.lemmas.Map.Text.{btree_map_updates_text}
-use Rattle.dates.specs.Spelling.{spelling}
+use Rattle.dates.specs.Entry.{spelling}
 use Rattle.store.specs.Slots.{flatten}
 use Rattle.store.proofs.HeldLemmas.{changed, either_result, is_none, stands_for_none}
 use Rattle.store.proofs.calendar_table.CalendarTable.make_room.Goals as goal

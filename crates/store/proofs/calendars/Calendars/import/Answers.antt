@@ -3,7 +3,7 @@ use Rattle.std.specs.BTreeMap as tree
 use Rattle.std.specs.Cmp.Lexicographic.{slice_cmp}
 use Rattle.std.specs.Ordering.{nat_cmp}
 use Rattle.std.specs.Str.{bytes_eq}
-use Rattle.dates.specs.Spelling.{spelling}
+use Rattle.dates.specs.Entry.{spelling}
 use Rattle.store.specs.Held.{text_slot}
 use Rattle.store.specs.Slots.{flatten}
 use Rattle.store.proofs.HeldLemmas.{by_bytes, changed, first_or, written}

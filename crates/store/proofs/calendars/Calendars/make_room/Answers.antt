@@ -1,7 +1,7 @@
 use Rattle.std.proofs.Common.{◌∙◌, ◌<◌, IsSome, length, subst, arith}
 use Rattle.store.specs.declared.spelled_entry.SpelledEntry.{SpelledEntry}
 use Rattle.store.specs.Held.{calendar_slot}
-use Rattle.dates.specs.Spelling.{spelling}
+use Rattle.dates.specs.Entry.{spelling}
 use Rattle.store.proofs.HeldLemmas.{room-step}
 use Rattle.store.proofs.calendars.Calendars.make_room.Goals as goal
 

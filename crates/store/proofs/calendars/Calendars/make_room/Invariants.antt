@@ -2,7 +2,7 @@ use Rattle.std.proofs.Common.{◌≡◌, ℕ, ◌<◌, IsSome, get_or}
 use Rattle.store.specs.Held.{calendar_slot, imported_of}
 use Rattle.store.specs.Tables.{Text}
 use Rattle.store.proofs.calendars.Calendars.make_room.Given as goal
-use Rattle.dates.specs.Spelling.{spelling}
+use Rattle.dates.specs.Entry.{spelling}
 
 abbrev pub invariant-loop-entry : goal.invariant-loop-entry
 invariant-loop-entry l = record {

@@ -4,7 +4,7 @@ use Rattle.store.specs.declared.spelled_entry.SpelledEntry.{SpelledEntry}
 use Rattle.store.specs.Change.{with_each, with_imported}
 use Rattle.store.specs.Held.{calendar_slot, imported_of}
 use Rattle.store.proofs.HeldLemmas.{at-item, each-step}
-use Rattle.dates.specs.Spelling.{spelling}
+use Rattle.dates.specs.Entry.{spelling}
 use Rattle.store.specs.Tables.{Text}
 use Rattle.store.proofs.calendars.Calendars.put.Goals as goal
 
