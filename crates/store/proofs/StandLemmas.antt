@@ -1,5 +1,6 @@
 -- What stands in tables: a test of an entry against what the tables tell.
-use Rattle.std.proofs.Common.{◌≡◌, ℕ, ◌↔◌, ◌⊎◌, ◌==◌, ◌||◌, Bool, true, false, not, List, [], ◌∷◌, Option, Some, None, IsSome, is_some, unwrap_or, string_bytes, refl, sym, ap, ◌∙◌, inl, inr}
+use Rattle.std.proofs.Common.{◌≡◌, ℕ, ◌↔◌, ◌⊎◌, ◌==◌, ◌||◌, Bool, true, false, not, List, [], ◌∷◌, Option, Some, None, IsSome, is_some, unwrap_or}
+use Rattle.std.proofs.Common.{string_bytes, refl, sym, ap, ◌∙◌, inl, inr}
 use Rattle.std.specs.Bool.{IsTrue}
 use Rattle.std.specs.BTreeMap.{keys}
 use Rattle.std.specs.Cmp.{unsigned_tied}
@@ -108,6 +109,7 @@ calendar_stands (Some table) = (
       (string_bytes key.0, key.1)),
   (λ some.
       found_any (λ k. is_eq (slice_cmp nat_cmp some.0 (string_bytes k))) (λ k. has_text table.entries (string_bytes k))
-      (λ k same. ap (has_text table.entries) (sym ((bytes_eq-Decides some.0 (string_bytes k)).0 (sym (is_eq-slice_cmp some.0 (string_bytes k)) ∙ same))) ∙ some.1)
+      (λ k same. ap (has_text table.entries) (sym ((bytes_eq-Decides some.0 (string_bytes k)).0 (sym (is_eq-slice_cmp some.0
+      (string_bytes k)) ∙ same))) ∙ some.1)
       table.entries.entries (some_of_flat (entry_slot table.entries some.0) some.1)),
 )

@@ -1,5 +1,6 @@
 -- Lists of names and of texts, as a table's entries give them.
-use Rattle.std.proofs.Common.{◌≡◌, suc, ◌<◌, ◌↔◌, Bool, true, false, cond, List, [], ◌∷◌, ◌++◌, append-nil, option_to_list, Option, Some, None, IfSome, is_some, map, refl, sym, ap, ◌∙◌, subst, inl, inr, arith}
+use Rattle.std.proofs.Common.{◌≡◌, suc, ◌<◌, ◌↔◌, Bool, true, false, cond, List, [], ◌∷◌, ◌++◌, append-nil, option_to_list, Option, Some, None}
+use Rattle.std.proofs.Common.{IfSome, is_some, map, refl, sym, ap, ◌∙◌, subst, inl, inr, arith}
 use Rattle.std.specs.declared.cmp.Ordering.TheVariants.{Less}
 use Rattle.std.specs.Bool.{IsTrue}
 use Rattle.std.specs.Cmp.Lexicographic.{slice_cmp}
@@ -41,7 +42,8 @@ module _ {K X : Type 0} (f : K → Text) (stands : X → Bool) where
       → AllByRecursion (λ y. slice_cmp nat_cmp x y ≡ Less) (map f (standing_keys stands es))
   above x [] all = tt
   above x (e ∷ es) all =
-      elim (stands e.1) as (λ b. AllByRecursion (λ y. slice_cmp nat_cmp x y ≡ Less) (map f (cond b (e.0 ∷ standing_keys stands es) (standing_keys stands es)))) [
+      elim (stands e.1) as (λ b. AllByRecursion (λ y. slice_cmp nat_cmp x y ≡ Less) (map f (cond b (e.0 ∷ standing_keys stands es)
+      (standing_keys stands es)))) [
         | true ↦ (all.0, above x es all.1)
         | false ↦ above x es all.1
       ]
@@ -111,7 +113,8 @@ module _ {K X : Type 0} (f : K → Text) (stands : X → Bool) where
   AreTexts-standing es sorted = record { rise = rises es sorted; each = finds_each es sorted }
 
 -- names that were collected
-pub AreTexts-names : {X : Type 0} (stands : X → Bool) (names : List Text) (rest es : List (Text × X)) → names ++ standing_keys stands rest ≡ standing_keys stands es
+pub AreTexts-names : {X : Type 0} (stands : X → Bool) (names : List Text) (rest es : List
+    (Text × X)) → names ++ standing_keys stands rest ≡ standing_keys stands es
     → rest ≡ [] → IsStrictlySortedBy (slice_cmp nat_cmp) (keys_of es)
     → AreTexts (λ text. IsStanding stands (lookup (λ k. is_eq (slice_cmp nat_cmp text k)) es)) names
 AreTexts-names stands names rest es is none sorted =

@@ -36,7 +36,8 @@ has_none places sixteen none =
     rw e (rw (len-empty nat_cmp ℤ) refl)
 
 pub returns-then-is_some : goal.returns-then-is_some
-returns-then-is_some c = has_some c.args.array.now c.loop-priority.priority (ap is_some (sym c.value_at.ensures.value) ∙ sym c.is_some.ensures ∙ c.if-is_some.true)
+returns-then-is_some c = has_some c.args.array.now c.loop-priority.priority (ap is_some
+    (sym c.value_at.ensures.value) ∙ sym c.is_some.ensures ∙ c.if-is_some.true)
 
 pub returns : goal.returns
 returns c = has_none c.args.array.now (c.loop-priority.invariant.places (omega arith)) (λ p least most. c.loop-priority.invariant.none p least (omega arith))

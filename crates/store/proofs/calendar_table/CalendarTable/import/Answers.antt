@@ -18,7 +18,8 @@ invariant_of-self c = record {
       let there : old bs ≡ Some c.in-Some.slot.now = sym c.in-Some.ensures.value in
       let is : now ≡ cond (bytes_eq bs q) (Some made) (old q) =
       btree_map_updates_text bs c.args.self.now.entries (c.get_mut.follows.lender made) (Some made) ((c.get_mut.follows.holds made).3 (ap is_some there)) q in
-      changed_at (λ o n. IfSome (flatten o) (λ x. spelling x ≡ q) → IfSome (flatten n) (λ x. spelling x ≡ q)) (Some c.in-Some.slot.now) made bs q old now there is
+      changed_at (λ o n. IfSome (flatten o) (λ x. spelling x ≡ q) → IfSome (flatten n) (λ x. spelling x ≡ q))
+      (Some c.in-Some.slot.now) made bs q old now there is
       (λ same was. sym c.args.spelled.now.spells ∙ same) (λ o was. was) (c.args.self.now.are_spelled q);
 }
 

@@ -18,7 +18,8 @@ returns-in-Some-clause-stays c = λ q text.
     let there : old calendar ≡ Some was = sym c.in-Some.ensures.value in
     let is : now ≡ cond (bytes_eq calendar q) (Some made) (old q) =
     by_bytes (Some made) (old q) calendar q now (((c.get_mut.follows.holds made).3 (ap is_some there)).0 q) in
-    changed (λ o n. IsSome (text_slot o text) → IsSome (text_slot n text)) (Some was) made calendar q old now there is (c.make_room.ensures.stays text) (λ o here. here)
+    changed (λ o n. IsSome (text_slot o text) → IsSome (text_slot n text)) (Some was) made calendar q old now there is
+    (c.make_room.ensures.stays text) (λ o here. here)
 
 pub returns-in-Some-clause-same : goal.returns-in-Some-clause-same
 returns-in-Some-clause-same c = λ q text.

@@ -8,7 +8,8 @@ use Rattle.store.proofs.panels.Panels.put_nexts.Goals as goal
 pub set_next-requires : goal.set_next-requires
 set_next-requires c =
     let below : c.loop-item.item-index < length c.args.nexts.now = omega arith in
-    c.loop-item.invariant.room.tables _ (at-item (λ (x : NextNumber). IsSome (table_at c.args.self.now x.panel)) c.args.nexts.now c.loop-item.item-index c.item-item.result below c.item-item.is c.requires)
+    c.loop-item.invariant.room.tables _ (at-item (λ (x : NextNumber). IsSome
+    (table_at c.args.self.now x.panel)) c.args.nexts.now c.loop-item.item-index c.item-item.result below c.item-item.is c.requires)
 
 pub loop-item-preserved : goal.loop-item-preserved
 loop-item-preserved c =

@@ -8,7 +8,8 @@ use Rattle.store.proofs.panels.Panels.put_rows.Goals as goal
 pub set_row-requires : goal.set_row-requires
 set_row-requires c =
     let below : c.loop-item.item-index < length c.args.rows.now = omega arith in
-    c.loop-item.invariant.room.slots _ _ (at-item (λ (x : KeptRow). IsSome (slot_of c.args.self.now x.panel x.number)) c.args.rows.now c.loop-item.item-index c.item-item.result below c.item-item.is c.requires)
+    c.loop-item.invariant.room.slots _ _ (at-item (λ (x : KeptRow). IsSome
+    (slot_of c.args.self.now x.panel x.number)) c.args.rows.now c.loop-item.item-index c.item-item.result below c.item-item.is c.requires)
 
 pub loop-item-preserved : goal.loop-item-preserved
 loop-item-preserved c =

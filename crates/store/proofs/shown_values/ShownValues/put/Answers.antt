@@ -8,7 +8,8 @@ use Rattle.store.proofs.shown_values.ShownValues.put.Goals as goal
 pub set_shown-requires : goal.set_shown-requires
 set_shown-requires c =
     let below : c.loop-item.item-index < length c.args.shown.now = omega arith in
-    c.loop-item.invariant.room _ (at-item (λ (x : ShownValue). IsSome (shown_slot c.args.self.now x.schedule)) c.args.shown.now c.loop-item.item-index c.item-item.result below c.item-item.is c.requires)
+    c.loop-item.invariant.room _ (at-item (λ (x : ShownValue). IsSome
+    (shown_slot c.args.self.now x.schedule)) c.args.shown.now c.loop-item.item-index c.item-item.result below c.item-item.is c.requires)
 
 pub loop-item-preserved : goal.loop-item-preserved
 loop-item-preserved c =

@@ -1,0 +1,71 @@
+//! What is kept of points and schedules, and the last tick.
+use points::Name;
+use std::test::Fail;
+use store::{Change, MemStore, PlaceValue, ShownValue, Store};
+
+#[test]
+fn values_stand_in_places(rt: HostRuntime) -> Result<(), Fail> {
+    let mut store = MemStore::new(rt.alloc());
+    let point = Name::read("LIGHT")?;
+    let mut change = Change::new(rt.alloc());
+    change.places.push(PlaceValue {
+        point,
+        priority: 8,
+        value: Some(1),
+    })?;
+    change.places.push(PlaceValue {
+        point,
+        priority: 3,
+        value: Some(7),
+    })?;
+    change.places.push(PlaceValue {
+        point,
+        priority: 8,
+        value: None,
+    })?;
+    change.places.push(PlaceValue {
+        point: Name::read("DOOR")?,
+        priority: 1,
+        value: None,
+    })?;
+    store.commit(&change)?;
+    let array = store.array(&point)?;
+    assert_eq!(rt; array.value_at(3), Some(7));
+    assert_eq!(rt; array.value_at(8), None);
+    assert_eq!(rt; store.array(&Name::read("DOOR")?)?.value_at(1), None);
+    let names = store.names()?;
+    assert_eq!(rt; names.points.len(), 1);
+    assert_eq!(rt; names.points[0].as_str(), "LIGHT");
+    Ok(())
+}
+
+#[test]
+fn schedules_show_values(rt: HostRuntime) -> Result<(), Fail> {
+    let mut store = MemStore::new(rt.alloc());
+    let schedule = Name::read("OFFICE")?;
+    let quiet = Name::read("HALL")?;
+    let mut change = Change::new(rt.alloc());
+    change.shown.push(ShownValue {
+        schedule,
+        shown: Some(None),
+    })?;
+    change.shown.push(ShownValue {
+        schedule: quiet,
+        shown: Some(Some(3)),
+    })?;
+    change.last_tick = Some(-60);
+    store.commit(&change)?;
+    let mut change = Change::new(rt.alloc());
+    change.shown.push(ShownValue {
+        schedule: quiet,
+        shown: None,
+    })?;
+    store.commit(&change)?;
+    assert_eq!(rt; store.shown(&schedule)?, Some(None));
+    assert_eq!(rt; store.shown(&quiet)?, None);
+    assert_eq!(rt; store.last_tick()?, Some(-60));
+    let names = store.names()?;
+    assert_eq!(rt; names.schedules.len(), 1);
+    assert_eq!(rt; names.schedules[0].as_str(), "OFFICE");
+    Ok(())
+}
