@@ -1,7 +1,9 @@
-"""Compares the program with the plain slow desk, on random lists over small buildings.
+"""Compares the program with the plain slow desk: on random lists over small buildings, short ones over few
+numbers and long ones past 1,000 of them, and on every list of a few deliveries.
 
 Usage: compare.py PROGRAM [SEED [LISTS]]
 """
+import itertools
 import json
 import pathlib
 import random
@@ -10,10 +12,12 @@ import sys
 import tempfile
 from concurrent.futures import ThreadPoolExecutor
 
-from slow_desk import Building, Command, Content, Panel, Point, printed
+from slow_desk import LAST_NUMBER, REMEMBERED, WINDOW, Building, Command, Content, Panel, Point, Skip, printed
 
 LISTS = 3000
 LONGEST = 24
+LONG_LISTS = 12
+SHORT = 3
 NAMES = ["R101-SET", "LIGHT", "MODE", "fan_2.a"]
 PRIORITIES = [1, 2, 5, 8, 9, 10, 15, 16]
 
@@ -44,18 +48,40 @@ def some_content(rng):
     return Content(rng.choice(NAMES), priority, value)
 
 
-def some_deliveries(rng, building):
-    """A list of few numbers and contents, so that repeats, other contents and gaps are common."""
+def some_delivery(rng, panel, next_number, contents):
+    """A delivery near the next number that its panel would come to in order, or far from it."""
+    near = [next_number, next_number, next_number, next_number - 1, next_number + 1, next_number + 2]
+    edges = [next_number + WINDOW - 1, next_number + WINDOW, next_number - REMEMBERED, next_number - REMEMBERED - 1]
+    number = rng.choice(near + [rng.choice(edges), rng.randint(-1, 9), rng.choice([LAST_NUMBER, LAST_NUMBER + 1])])
+    if rng.random() < 0.15:
+        return Skip(panel, rng.choice([number, number + 1, number + 3, LAST_NUMBER + 2]))
+    return Command(panel, number, rng.choice(contents))
+
+
+def some_deliveries(rng, building, longest=LONGEST):
+    """A list of few numbers and contents, so that repeats, other contents, gaps and skips are common."""
     contents = [some_content(rng) for _ in range(4)]
     panels = [panel.name for panel in building.panels] + ["P9"]
-    numbers = list(range(-1, 9)) + [10**12, 10**12 + 1]
     deliveries, nexts = [], dict.fromkeys(panels, 1)
-    for _ in range(rng.randint(0, LONGEST)):
+    for _ in range(rng.randint(0, longest)):
         panel = rng.choice(panels)
-        number = rng.choice([nexts[panel], nexts[panel], nexts[panel] - 1, rng.choice(numbers)])
-        nexts[panel] += number == nexts[panel]
-        deliveries.append(Command(panel, number, rng.choice(contents)))
+        delivery = some_delivery(rng, panel, nexts[panel], contents)
+        nexts[panel] += isinstance(delivery, Command) and delivery.number == nexts[panel]
+        deliveries.append(delivery)
     return deliveries
+
+
+def long_deliveries(rng, building):
+    """A list that passes 1,000 numbers of one panel, mostly in order, and then asks for old ones."""
+    contents, panel = [some_content(rng) for _ in range(4)], building.panels[0].name
+    deliveries = [Command(panel, number, rng.choice(contents)) for number in range(1, REMEMBERED + rng.randint(0, 90))]
+    for _ in range(60):
+        place = rng.randrange(len(deliveries) - 30)
+        later = place + rng.randint(1, 30)
+        deliveries[place], deliveries[later] = deliveries[later], deliveries[place]
+    last = max(delivery.number for delivery in deliveries)
+    asked = [Command(panel, rng.randint(1, last), rng.choice(contents)) for _ in range(60)]
+    return deliveries + [Skip(panel, last + rng.randint(-40, 64))] + asked
 
 
 def toml_of(building):
@@ -73,9 +99,12 @@ def toml_of(building):
     return text
 
 
-def line_of(rng, command):
-    """The line of a command: its keys in any order, and the lowest priority left out at times."""
-    content = command.content
+def line_of(rng, delivery):
+    """The line of a delivery: its keys in any order, and the lowest priority left out at times."""
+    if isinstance(delivery, Skip):
+        keys = rng.sample(["panel", "skip"], 2)
+        return json.dumps({key: {"panel": delivery.panel, "skip": delivery.upto}[key] for key in keys}) + "\n"
+    command, content = delivery, delivery.content
     members = {"number": command.number, "panel": command.panel, "point": content.point, "value": content.value}
     if content.priority != 16 or rng.random() < 0.5:
         members["priority"] = content.priority
@@ -85,36 +114,57 @@ def line_of(rng, command):
     return json.dumps({key: members[key] for key in keys}) + rng.choice(["\n", "\n", "\r\n", "\n\n"])
 
 
-def disagreement(program, folder, seed, index):
+def differs(program, folder, name, rng, building, deliveries):
     """Where the program and the definitions differ on one list, or None."""
-    rng = random.Random(f"{seed} {index}")
-    building = some_building(rng)
-    deliveries = some_deliveries(rng, building)
-    file, listed = folder / f"{index}.toml", folder / f"{index}.jsonl"
+    file, listed = folder / f"{name}.toml", folder / f"{name}.jsonl"
     file.write_text(toml_of(building))
-    listed.write_text("".join(line_of(rng, command) for command in deliveries))
+    listed.write_text("".join(line_of(rng, delivery) for delivery in deliveries))
     ran = subprocess.run([program, "replay", file, listed], capture_output=True, text=True, timeout=60)
     wanted = printed(building, deliveries)
     if (ran.returncode, ran.stdout, ran.stderr) == (0, wanted, ""):
         file.unlink()
         listed.unlink()
         return None
-    return f"list {index}: {file.read_text()}{listed.read_text()}wanted:\n{wanted}printed:\n{ran.stdout}{ran.stderr}"
+    return f"list {name}: {file.read_text()}{listed.read_text()}wanted:\n{wanted}printed:\n{ran.stdout}{ran.stderr}"
+
+
+def disagreement(program, folder, seed, index):
+    rng = random.Random(f"{seed} {index}")
+    building = some_building(rng)
+    deliveries = long_deliveries(rng, building) if index < LONG_LISTS else some_deliveries(rng, building)
+    return differs(program, folder, index, rng, building, deliveries)
+
+
+SMALL = Building((Point("LIGHT", "binary", 0, 1, 0),), (Panel("P1", ("LIGHT",), (8, 9)), Panel("P2", ("LIGHT",), (8,))))
+
+
+def short_lists():
+    """Every list of a few deliveries, of two panels with numbers 1 to 3, two contents, and skips."""
+    on, off = Content("LIGHT", 8, 1), Content("LIGHT", 9, 0)
+    one = [Command("P1", number, content) for number in (1, 2, 3) for content in (on, off)]
+    some = one + [Command("P2", 1, on), Skip("P1", 2), Skip("P1", 3), Skip("P1", 65)]
+    return [list(few) for count in range(SHORT + 1) for few in itertools.product(some, repeat=count)]
 
 
 def compare(program, seed, lists=LISTS):
     """How many lists agreed, and what was told of those that did not."""
+    short = short_lists()
     with tempfile.TemporaryDirectory(prefix="desk-compare-") as room, ThreadPoolExecutor(4) as pool:
-        told = list(pool.map(lambda index: disagreement(program, pathlib.Path(room), seed, index), range(lists)))
+        folder = pathlib.Path(room)
+        told = list(pool.map(lambda index: disagreement(program, folder, seed, index), range(lists)))
+        told += pool.map(
+            lambda place: differs(program, folder, f"short {place}", random.Random(place), SMALL, short[place]),
+            range(len(short)),
+        )
     differing = [text for text in told if text is not None]
-    return lists - len(differing), differing
+    return len(told) - len(differing), differing
 
 
 def main(words):
     seed = int(words[2]) if len(words) > 2 else random.randrange(10**9)
     lists = int(words[3]) if len(words) > 3 else LISTS
     agreed, differing = compare(words[1], seed, lists)
-    print(f"{agreed} of {lists} random lists print what the definitions say (seed {seed})")
+    print(f"{agreed} lists print what the definitions say, {lists} random ones among them (seed {seed})")
     for text in differing[:3]:
         print(text)
     return 1 if differing else 0

@@ -1,11 +1,13 @@
 """The desk by its definitions: a plain slow program over the whole list of deliveries.
 
-It shares no code with the desk and keeps no state from one delivery to the next. What was accepted, which
-commands were applied, what the priority machine has and what is replied are each computed anew, from the list.
+It shares no code with the desk and keeps no tables. What was accepted of a panel after each beginning of the
+list, which commands were applied there, what the priority machine has and what is replied are each computed
+from the list by their definitions.
 """
 from dataclasses import dataclass
 
-WINDOW = 1
+WINDOW = 64
+REMEMBERED = 1000
 LAST_NUMBER = 10**12
 LOWEST_PRIORITY = 16
 
@@ -55,52 +57,65 @@ class Command:
     content: Content
 
 
+@dataclass(frozen=True)
+class Skip:
+    panel: str
+    upto: int
+
+
 # ---- what was accepted of a panel
 
 
-def accepted(building, deliveries, panel):
-    """The accepted numbers of a panel, each with its content."""
-    keys = {}
+@dataclass(frozen=True)
+class Taken:
+    """The accepted commands of a panel under their numbers, and the greatest `upto` of its accepted skips, or 1."""
+
+    keys: dict
+    upto: int
+
+    def front(self):
+        """The least number that is at least `upto` and no key."""
+        number = self.upto
+        while number in self.keys:
+            number += 1
+        return number
+
+    def after(self, delivery):
+        front = self.front()
+        if isinstance(delivery, Skip):
+            accepted = 1 <= delivery.upto <= LAST_NUMBER + 1 and front + 1 <= delivery.upto <= front + WINDOW
+            return Taken(self.keys, max(self.upto, delivery.upto)) if accepted else self
+        number = delivery.number
+        accepted = 1 <= number <= LAST_NUMBER and number not in self.keys and front <= number <= front + WINDOW - 1
+        return Taken({**self.keys, number: delivery.content}, self.upto) if accepted else self
+
+
+def taken_along(building, deliveries, panel):
+    """What was accepted of a panel before each delivery of a list, and after the last one."""
+    along = [Taken({}, 1)]
     for delivery in deliveries:
-        if building.panel(panel) is None or delivery.panel != panel:
-            continue
-        next_number = front_of(keys)
-        in_window = next_number <= delivery.number <= next_number + WINDOW - 1
-        if 1 <= delivery.number <= LAST_NUMBER and delivery.number not in keys and in_window:
-            keys[delivery.number] = delivery.content
-    return keys
-
-
-def front_of(keys):
-    """The least number from 1 on that is no key."""
-    number = 1
-    while number in keys:
-        number += 1
-    return number
-
-
-def front(building, deliveries, panel):
-    return front_of(accepted(building, deliveries, panel))
+        asked = building.panel(panel) is not None and delivery.panel == panel
+        along.append(along[-1].after(delivery) if asked else along[-1])
+    return along
 
 
 # ---- the priority machine
 
 
-def applied(building, earlier, delivery):
-    """The commands that a delivery after earlier ones applies, by rising number."""
-    panel = delivery.panel
-    if building.panel(panel) is None:
-        return []
-    keys = accepted(building, earlier + [delivery], panel)
-    first, end = front(building, earlier, panel), front(building, earlier + [delivery], panel)
-    return [Command(panel, number, keys[number]) for number in range(first, end) if number in keys]
+def applied(old, new):
+    """The numbers that the front passes, with what was accepted under them, by rising number."""
+    return [(number, new.keys[number]) for number in range(old.front(), new.front()) if number in new.keys]
 
 
-def events(building, deliveries):
+def events_along(building, deliveries):
+    """The commands that each delivery of a list applies."""
+    panels = {delivery.panel for delivery in deliveries}
+    along = {panel: taken_along(building, deliveries, panel) for panel in panels}
     told = []
     for index, delivery in enumerate(deliveries):
-        told += applied(building, deliveries[:index], delivery)
-    return told
+        old, new = along[delivery.panel][index : index + 2]
+        told.append([] if new is old else [Command(delivery.panel, *entry) for entry in applied(old, new)])
+    return along, told
 
 
 def rule(building, panel, content):
@@ -125,10 +140,10 @@ def present(building, places, name):
     return places[name, min(priorities)], min(priorities)
 
 
-def machine(building, deliveries):
-    """The places and the answers after the events of a list."""
+def machine(building, events):
+    """The places and the answers after a list of events."""
     places, answers = {}, {}
-    for event in events(building, deliveries):
+    for event in events:
         content, against = event.content, rule(building, event.panel, event.content)
         if against is not None:
             answers[event.panel, event.number] = ("refused", against)
@@ -149,27 +164,36 @@ def answer_text(number, answer):
     return f'{{"answer":"done","number":{number},"present":{answer[1]},"priority":{answer[2]}}}'
 
 
-def reply(building, earlier, delivery):
-    """The text of the reply to a delivery after earlier ones: the first case that holds."""
-    panel, number = delivery.panel, delivery.number
-    if building.panel(panel) is None:
+def reply_to_skip(old, new, upto):
+    if not 1 <= upto <= LAST_NUMBER + 1:
+        return '{"answer":"bad_number"}'
+    if upto > old.front() + WINDOW:
+        return f'{{"answer":"too_far","next":{old.front()},"number":{upto}}}'
+    return f'{{"answer":"skip","next":{new.front()}}}'
+
+
+def reply(building, old, new, delivery, answers):
+    """The text of the reply to a delivery, with the machine's answers after it: the first case that holds."""
+    if building.panel(delivery.panel) is None:
         return '{"answer":"no_panel"}'
+    if isinstance(delivery, Skip):
+        return reply_to_skip(old, new, delivery.upto)
+    number, next_number = delivery.number, old.front()
     if not 1 <= number <= LAST_NUMBER:
         return '{"answer":"bad_number"}'
-    keys, next_number = accepted(building, earlier, panel), front(building, earlier, panel)
-    if number in keys and keys[number] != delivery.content:
+    if number < next_number - REMEMBERED:
+        return f'{{"answer":"forgotten","number":{number}}}'
+    if number in old.keys and old.keys[number] != delivery.content:
         return f'{{"answer":"differs","number":{number}}}'
-    if number in keys and number < next_number:
-        return answer_text(number, machine(building, earlier)[1][panel, number])
-    if number in keys:
+    if number in old.keys and number > next_number:
         return f'{{"answer":"parked","next":{next_number},"number":{number}}}'
-    if number < next_number:
+    if number < next_number and number not in old.keys:
         return f'{{"answer":"skipped","number":{number}}}'
     if number >= next_number + WINDOW:
         return f'{{"answer":"too_far","next":{next_number},"number":{number}}}'
-    if number == next_number:
-        return answer_text(number, machine(building, earlier + [delivery])[1][panel, number])
-    return f'{{"answer":"parked","next":{next_number},"number":{number}}}'
+    if number > next_number:
+        return f'{{"answer":"parked","next":{next_number},"number":{number}}}'
+    return answer_text(number, answers[delivery.panel, number])
 
 
 def point_line(building, places, point):
@@ -178,8 +202,12 @@ def point_line(building, places, point):
 
 
 def printed(building, deliveries):
-    """What a replay of the list prints."""
-    replies = [reply(building, deliveries[:index], delivery) for index, delivery in enumerate(deliveries)]
-    places = machine(building, deliveries)[0]
+    """What a replay of the list prints. An answer is told once and stays, so those of the whole list serve."""
+    along, events = events_along(building, deliveries)
+    places, answers = machine(building, [event for told in events for event in told])
+    replies = [
+        reply(building, *along[delivery.panel][index : index + 2], delivery, answers)
+        for index, delivery in enumerate(deliveries)
+    ]
     points = [point_line(building, places, point) for point in building.points]
     return "".join(line + "\n" for line in replies + points)

@@ -104,7 +104,12 @@ LINES_REFUSED = [
     b'{"number":"2","panel":"P1","point":"LIGHT","value":1}',
     b'{"number":2,"panel":"P 1","point":"LIGHT","value":1}',
     b'{"number":2,"panel":"P1","point":"","value":1}',
-    b'{"panel":"P1","skip":4}',
+    b'{"panel":"P1","skip":"4"}',
+    b'{"panel":"P1","skip":4.0}',
+    b'{"panel":"P1","skip":null}',
+    b'{"skip":4}',
+    b'{"panel":"P1","skip":4,"x":1}',
+    b'{"number":1,"panel":"P1","skip":4}',
     b'{"number":2,"panel":"P1","point":"LIGHT","value":1}{}',
 ]
 

@@ -1,9 +1,10 @@
 //! A run of a list of deliveries, with ample memory.
-use desk::machine::Desk;
-use desk::{Building, Delivery, Reply};
+use deliveries::{Building, Delivery, Reply};
+use desk::Desk;
 use points::{Answer, Content, Kind, Listing, Name, Panel, Point, Rule};
 use std::alloc::Global;
 use std::test::Fail;
+use store::MemStore;
 
 /// LIGHT, which P1 may write at 8.
 fn building(alloc: Global) -> Result<Building, Fail> {
@@ -45,7 +46,8 @@ fn a_run_answers_each_delivery_in_order(rt: HostRuntime) -> Result<(), Fail> {
     deliveries.push(command(1, 8)?)?;
     deliveries.push(command(1, 8)?)?;
     deliveries.push(command(2, 6)?)?;
-    let mut desk = Desk::new(rt.alloc(), building(rt.alloc())?);
+    let store = MemStore::new(rt.alloc());
+    let mut desk = Desk::new(rt.alloc(), building(rt.alloc())?, store);
     let (replies, fault) = desk.run(deliveries.as_slice());
     let done = Answer::Done {
         present: 1,
@@ -62,5 +64,20 @@ fn a_run_answers_each_delivery_in_order(rt: HostRuntime) -> Result<(), Fail> {
         };
         assert_eq!(rt; *reply, wanted);
     }
+    Ok(())
+}
+
+#[test]
+fn a_skip_frees_what_waits_and_the_point_shows_it(rt: HostRuntime) -> Result<(), Fail> {
+    let panel = Name::read("P1")?;
+    let store = MemStore::new(rt.alloc());
+    let mut desk = Desk::new(rt.alloc(), building(rt.alloc())?, store);
+    let parked = Reply::Parked { next: 1, number: 2 };
+    assert_eq!(rt; desk.deliver(&command(2, 8)?)?, parked);
+    let skip = Delivery::Skip { panel, upto: 2 };
+    assert_eq!(rt; desk.deliver(&skip)?, Reply::SkipDone { next: 3 });
+    let light = desk.point(&Name::read("LIGHT")?)?;
+    assert!(rt; light.is_some_and(|state| state.present == 1 && state.priority == 8));
+    assert!(rt; desk.point(&Name::read("NONE")?)?.is_none());
     Ok(())
 }
