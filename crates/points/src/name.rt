@@ -3,7 +3,10 @@ ghost use Rattle.std.specs.Prelude.{◌≡◌, ◌<◌, ◌≤◌, ◌↔◌, []
 ghost use Rattle.std.specs.Ordering.{nat_cmp};
 ghost use Rattle.std.specs.Cmp.{partial_equiv_from_equiv};
 ghost use Rattle.std.specs.Cmp.Lexicographic.{pointwise, slice_cmp, nat_list_eq_equiv, nat_list_cmp_total, texts_ties, texts_po};
+ghost use Rattle.std.specs.Cmp.Rules.{hashing};
+ghost use Rattle.std.specs.Hash as fed;
 ghost use Rattle.std.specs.List.{list_all};
+ghost use Rattle.std.proofs.Common.{rules};
 ghost use Rattle.points.specs.Name.{IsName, is_name_byte};
 ghost use Rattle.points.specs.NameHeld.{padded};
 ghost use Rattle.points.specs.declared.name.TheConstants.{LONGEST};
@@ -12,6 +15,7 @@ use std::cmp::Ordering;
 use std::convert::AsStr;
 use std::error::Error;
 use std::fmt;
+use std::hash::{Hash, Hasher};
 use std::marker::Model;
 
 /// How many bytes a name has at most.
@@ -165,6 +169,16 @@ impl Ord for Name {
 
     fn cmp(&self, other: &Name) -> Ordering {
         self.as_bytes().cmp(other.as_bytes())
+    }
+}
+
+impl Hash for Name {
+    ghost hash_input = { fed.str };
+
+    ghost respects_eq = { Prim.search (hashing, rules) };
+
+    fn hash<H: Hasher>(&self, state: &mut H) {
+        self.as_str().hash(state);
     }
 }
 

@@ -1,4 +1,5 @@
 pub mod HeldLemmas
+pub mod NameLemmas
 pub mod PanelLemmas
 pub mod ReadLemmas
 pub mod StandLemmas

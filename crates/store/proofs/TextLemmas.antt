@@ -18,16 +18,16 @@ use Rattle.store.specs.Listed.{AreTexts}
 use Rattle.store.specs.Slots.{IsStanding, standing_keys, flatten}
 use Rattle.store.specs.Tables.{Text}
 
-contains_first : (x : Text) (xs : List Text) → Contains (x ∷ xs) x
+pub contains_first : (x : Text) (xs : List Text) → Contains (x ∷ xs) x
 contains_first x xs = Contains-append_left (x ∷ []) xs x (Contains-push [] x)
 
-contains_rest : (x : Text) (xs : List Text) (t : Text) → Contains xs t → Contains (x ∷ xs) t
+pub contains_rest : (x : Text) (xs : List Text) (t : Text) → Contains xs t → Contains (x ∷ xs) t
 contains_rest x xs t here = Contains-append_right (x ∷ []) xs t here
 
-contains_none : (t : Text) → Contains [] t → ⊥
+pub contains_none : (t : Text) → Contains [] t → ⊥
 contains_none t here = let below : here.0 < 0 = here.1 in omega arith
 
-contains_other : (x : Text) (xs : List Text) (t : Text) → (x ≡ t → ⊥) → Contains (x ∷ xs) t → Contains xs t
+pub contains_other : (x : Text) (xs : List Text) (t : Text) → (x ≡ t → ⊥) → Contains (x ∷ xs) t → Contains xs t
 contains_other x xs t apart here =
     elim (Contains-append_cases (x ∷ []) xs t here) [
       | inl first ↦ elim (Contains-push_cases [] x t first) [

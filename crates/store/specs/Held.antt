@@ -1,10 +1,12 @@
 -- What the tables in memory hold. An entry may hold nothing, and is then room for what is to come.
 use Rattle.std.specs.Prelude.{◌≡◌, ℕ, ◌==◌, Bool, not, ◌||◌, Option, Some, None, IsSome, is_some, unwrap_or, ℤ}
 use Rattle.std.specs.BTreeMap.{get, keys}
+use Rattle.std.specs.HashMap as hash
 use Rattle.std.specs.Cmp.Lexicographic.{slice_cmp}
 use Rattle.std.specs.FinMap.{empty, len}
 use Rattle.std.specs.List.{list_any}
 use Rattle.std.specs.Ordering.{nat_cmp}
+use Rattle.std.specs.Str.{bytes_eq}
 use Rattle.dates.specs.declared.entry.Entry.{Entry}
 use Rattle.points.specs.declared.command_row.CommandRow.{CommandRow}
 use Rattle.points.specs.PriorityArray.{Places}
@@ -32,7 +34,7 @@ abbrev pub stands_panel : PanelTable → Bool
 stands_panel table = not (table.next == 1) || list_any (λ number. is_some (kept_rows table number)) (keys table.rows)
 
 abbrev pub table_at : Panels → Text → Option PanelTable
-table_at panels panel = get (slice_cmp nat_cmp) panels.tables panel
+table_at panels panel = hash.get bytes_eq panels.tables panel
 
 abbrev pub next_in : Option PanelTable → ℕ
 next_in None = 1
@@ -68,7 +70,7 @@ abbrev pub stands_point : Places → Bool
 stands_point places = not (len places == 0)
 
 abbrev pub array_at : Arrays → Text → Option Places
-array_at arrays point = get (slice_cmp nat_cmp) arrays.arrays point
+array_at arrays point = hash.get bytes_eq arrays.arrays point
 
 abbrev pub places_of : Arrays → Text → Places
 places_of arrays point = unwrap_or (array_at arrays point) empty

@@ -10,12 +10,12 @@ ghost use Rattle.store.specs.Tables.{Text};
 use crate::change::PlaceValue;
 use points::{LOWEST_PRIORITY, Name, PriorityArray};
 use std::alloc::{AllocError, Global};
-use std::collections::BTreeMap;
+use std::collections::HashMap;
 
 /// The priority arrays of points. A point without values may have an array too, which makes room for them.
 #[derive(Debug, Drop)]
 pub struct Arrays {
-    arrays: BTreeMap<Name, PriorityArray>,
+    arrays: HashMap<Name, PriorityArray>,
 }
 
 fn has_value(array: &PriorityArray) -> bool
@@ -35,7 +35,7 @@ impl Arrays {
         ensures { (point : Text) → array_at result point ≡ None }
     {
         Arrays {
-            arrays: BTreeMap::new(alloc),
+            arrays: HashMap::new(alloc),
         }
     }
 
@@ -59,6 +59,7 @@ impl Arrays {
                 names.push(*name)?;
             }
         }
+        names.sort_unstable();
         Ok(names)
     }
 

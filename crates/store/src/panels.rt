@@ -12,13 +12,13 @@ use crate::change::{KeptRow, NextNumber, RowsBelow};
 use crate::panel_table::PanelTable;
 use points::{CommandRow, Name, NumberedRow};
 use std::alloc::{AllocError, Global};
-use std::collections::BTreeMap;
+use std::collections::HashMap;
 
 /// The next numbers of panels and the rows of their commands. A panel of which nothing is kept may have a
 /// table too, which makes room for it.
 #[derive(Debug, Drop)]
 pub struct Panels {
-    tables: BTreeMap<Name, PanelTable>,
+    tables: HashMap<Name, PanelTable>,
 }
 
 impl Panels {
@@ -27,7 +27,7 @@ impl Panels {
         ensures { (panel : Text) → table_at result panel ≡ None }
     {
         Panels {
-            tables: BTreeMap::new(alloc),
+            tables: HashMap::new(alloc),
         }
     }
 
@@ -79,6 +79,7 @@ impl Panels {
                 names.push(*name)?;
             }
         }
+        names.sort_unstable();
         Ok(names)
     }
 

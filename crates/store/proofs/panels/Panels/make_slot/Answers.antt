@@ -1,11 +1,9 @@
 use Rattle.std.proofs.Common.{◌≡◌, ℕ, List, sym, ap, refl, Some, IsSome, is_some, cond}
-use Rattle.std.specs.BTreeMap as tree
-use Rattle.std.specs.Cmp.Lexicographic.{slice_cmp}
-use Rattle.std.specs.Ordering.{nat_cmp}
+use Rattle.std.specs.HashMap as hash
 use Rattle.std.specs.Str.{bytes_eq}
 use Rattle.store.specs.Held.{next_in, slot_in}
 use Rattle.store.specs.Slots.{flatten}
-use Rattle.store.proofs.HeldLemmas.{by_bytes, changed}
+use Rattle.store.proofs.HeldLemmas.{changed}
 use Rattle.store.proofs.panels.Panels.make_slot.Goals as goal
 
 pub returns-in-Some-clause-grows : goal.returns-in-Some-clause-grows
@@ -13,11 +11,11 @@ returns-in-Some-clause-grows c =
     let panel = c.args.panel.now in
     let made = c.make_room.new.self in
     let was = c.in-Some.table.now in
-    let old = tree.get (slice_cmp nat_cmp) c.args.self.now.tables in
-    let now = tree.get (slice_cmp nat_cmp) (c.get_mut.follows.lender made) in
+    let old = hash.get bytes_eq c.args.self.now.tables in
+    let now = hash.get bytes_eq (c.get_mut.follows.lender made) in
     let there : old panel ≡ Some was = sym c.in-Some.ensures.value in
     let is : (q : List ℕ) → now q ≡ cond (bytes_eq panel q) (Some made) (old q) =
-    λ q. by_bytes (Some made) (old q) panel q (now q) (((c.get_mut.follows.holds made).3 (ap is_some there)).0 q) in
+    λ q. ((c.get_mut.follows.holds made).3 (ap is_some there)).0 q in
     record {
       room = record {
         tables = λ q. changed (λ o n. IsSome o → IsSome n) (Some was) made panel q old (now q) there (is q) (λ here. refl) (λ o here. here);

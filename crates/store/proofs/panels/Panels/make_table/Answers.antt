@@ -1,22 +1,20 @@
 use Rattle.std.proofs.Common.{◌≡◌, ◌∙◌, ℕ, List, sym, ap, refl, Some, None, IsSome, is_some, cond}
-use Rattle.std.specs.BTreeMap as tree
-use Rattle.std.specs.Cmp.Lexicographic.{slice_cmp}
-use Rattle.std.specs.Ordering.{nat_cmp}
+use Rattle.std.specs.HashMap as hash
 use Rattle.std.specs.Str.{bytes_eq}
 use Rattle.store.specs.Held.{next_in, slot_in}
 use Rattle.store.specs.Slots.{flatten}
-use Rattle.store.proofs.HeldLemmas.{by_bytes, is_none, stands_for_none, changed}
+use Rattle.store.proofs.HeldLemmas.{is_none, stands_for_none, changed}
 use Rattle.store.proofs.panels.Panels.make_table.Goals as goal
 
 pub returns-in_ok-insert-clause-grows : goal.returns-in_ok-insert-clause-grows
 returns-in_ok-insert-clause-grows c =
     let panel = c.args.panel.now in
     let made = c.new.result in
-    let old = tree.get (slice_cmp nat_cmp) c.args.self.now.tables in
-    let now = tree.get (slice_cmp nat_cmp) c.insert.new.self in
+    let old = hash.get bytes_eq c.args.self.now.tables in
+    let now = hash.get bytes_eq c.insert.new.self in
     let none : old panel ≡ None = is_none _ (sym c.contains_key.ensures ∙ c.if-not-contains_key.true) in
     let is : (q : List ℕ) → now q ≡ cond (bytes_eq panel q) (Some made) (old q) =
-    λ q. by_bytes (Some made) (old q) panel q (now q) (c.in_ok-insert.ensures.updates.0 q) in
+    λ q. c.in_ok-insert.ensures.updates.0 q in
     record {
       room = record {
         tables = λ q. changed (λ o n. IsSome o → IsSome n) None made panel q old (now q) none (is q) (λ here. refl) (λ o here. here);
