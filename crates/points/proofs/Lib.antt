@@ -1,3 +1,4 @@
 pub mod PlacesLemmas
 pub mod ContentLemmas
+pub mod NamesLemmas
 pub mod RunLemmas

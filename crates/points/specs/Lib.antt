@@ -2,6 +2,7 @@ pub mod ContentEq
 pub mod Kind
 pub mod Name
 pub mod NameFaultText
+pub mod Names
 pub mod Numbered
 pub mod PriorityArray
 pub mod Rights

@@ -6,6 +6,9 @@ ghost use Rattle.std.specs.Cmp.Lexicographic.{pointwise, slice_cmp, nat_list_eq_
 ghost use Rattle.std.specs.List.{list_all};
 ghost use Rattle.points.specs.Name.{IsName, is_name_byte};
 ghost use Rattle.points.specs.declared.name.TheConstants.{LONGEST};
+ghost use Rattle.std.proofs.Common.{rules};
+ghost use Rattle.std.specs.Cmp.Rules.{hashing};
+ghost use Rattle.std.specs.Hash as fed;
 
 use arrayvec::ArrayString;
 use std::alloc::AllocError;
@@ -13,6 +16,7 @@ use std::cmp::Ordering;
 use std::convert::AsStr;
 use std::error::Error;
 use std::fmt;
+use std::hash::{Hash, Hasher};
 use std::marker::Model;
 
 /// How many bytes a name has at most.
@@ -143,6 +147,16 @@ impl Ord for Name {
 
     fn cmp(&self, other: &Name) -> Ordering {
         self.as_str().cmp(other.as_str())
+    }
+}
+
+impl Hash for Name {
+    ghost hash_input = { λ name. fed.str name };
+
+    ghost respects_eq = { Prim.search (hashing, rules) };
+
+    fn hash<H: Hasher>(&self, state: &mut H) {
+        self.as_str().hash(state);
     }
 }
 
