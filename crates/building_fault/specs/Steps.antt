@@ -15,3 +15,8 @@ or_fault fault (Some value) = Ok value
 -- the value where the test holds, else the fault
 abbrev pub where_holds : {A : Type 0} → Bool → FileFault → A → Result A FileFault
 where_holds test fault value = if test then Ok value else Err fault
+
+-- the result, with its value seen by a function
+abbrev pub result_map : {A B E : Type 0} → (A → B) → Result A E → Result B E
+result_map f (Ok value) = Ok (f value)
+result_map f (Err fault) = Err fault

@@ -1,0 +1,166 @@
+//! A table of a building file, and what stands at its keys.
+
+ghost use Rattle.std.specs.Prelude.{◌≡◌, option_map, string_bytes};
+ghost use Rattle.std.specs.BTreeMap.{keys};
+ghost use Rattle.std.specs.List.{list_all, list_any};
+ghost use Rattle.building_fault.specs.Steps.{result_map};
+ghost use Rattle.std.specs.Str.{bytes_eq};
+ghost use Rattle.toml.specs.Data.{get_member};
+ghost use Rattle.toml.specs.View.{items_view, table_view, view};
+ghost use Rattle.building_fault.specs.FaultAt.{fault_at};
+ghost use Rattle.building_fault.specs.FaultLine.{key_text};
+ghost use Rattle.toml_fields.specs.Fields.{has_only, integer_at, known_keys, list_at, list_in};
+ghost use Rattle.toml_fields.specs.Fields.{optional_integer_at, optional_list_at, optional_text_at};
+ghost use Rattle.toml_fields.specs.Fields.{integer_in, required_at, text_at, text_in};
+
+use building_fault::{Cause, FileFault, Key, Location};
+use toml::{Table, Value};
+
+/// A table of a building file, and where it stands.
+#[derive(Clone, Copy)]
+pub struct Fields<'a> {
+    pub table: &'a Table,
+    pub location: Location,
+}
+
+impl<'a> Fields<'a> {
+    /// The fault at a key.
+    pub fn fault(&self, key: Key, cause: Cause) -> FileFault
+        ensures { result ≡ fault_at self.now.location key cause }
+    {
+        self.location.fault(key, cause)
+    }
+
+    /// The value at a key.
+    pub fn value(&self, key: Key) -> Option<&'a Value>
+        ensures { option_map (λ v. view v.now) result
+            ≡ get_member (key_text key) (table_view self.now.table.now) }
+    {
+        value_at(self.table, key.as_str())
+    }
+
+    /// Refuses a table that has a key beside these (B2).
+    pub fn has_only(&self, known: &[Key]) -> Result<(), FileFault>
+        ensures { result ≡ known_keys self.now.location known.now (table_view self.now.table.now) }
+    {
+        if has_only(self.table, known) {
+            Ok(())
+        } else {
+            Err(self.fault(Key::Unknown, Cause::UnknownKey))
+        }
+    }
+
+    /// The text at a key, which has to be there (B3, B4).
+    pub fn text(&self, key: Key) -> Result<&'a str, FileFault>
+        ensures { result_map (λ s. s.now) result
+            ≡ text_at self.now.location key (table_view self.now.table.now) }
+    {
+        self.text_in(key, self.required(key)?)
+    }
+
+    /// The number at a key, which has to be there (B3, B4).
+    pub fn integer(&self, key: Key) -> Result<i64, FileFault>
+        ensures { result ≡ integer_at self.now.location key (table_view self.now.table.now) }
+    {
+        self.integer_in(key, self.required(key)?)
+    }
+
+    /// The list at a key, which has to be there (B3, B4).
+    pub fn list(&self, key: Key) -> Result<&'a [Value], FileFault>
+        ensures { result_map (λ vs. items_view vs.now) result
+            ≡ list_at self.now.location key (table_view self.now.table.now) }
+    {
+        self.list_in(key, self.required(key)?)
+    }
+
+    /// The text at a key that may be missing (B4).
+    pub fn optional_text(&self, key: Key) -> Result<Option<&'a str>, FileFault>
+        ensures { result_map (option_map (λ s. s.now)) result
+            ≡ optional_text_at self.now.location key (table_view self.now.table.now) }
+    {
+        match self.value(key) {
+            None => Ok(None),
+            Some(value) => Ok(Some(self.text_in(key, value)?)),
+        }
+    }
+
+    /// The number at a key that may be missing (B4).
+    pub fn optional_integer(&self, key: Key) -> Result<Option<i64>, FileFault>
+        ensures { result ≡ optional_integer_at self.now.location key (table_view self.now.table.now) }
+    {
+        match self.value(key) {
+            None => Ok(None),
+            Some(value) => Ok(Some(self.integer_in(key, value)?)),
+        }
+    }
+
+    /// The list at a key that may be missing (B4).
+    pub fn optional_list(&self, key: Key) -> Result<Option<&'a [Value]>, FileFault>
+        ensures { result_map (option_map (λ vs. items_view vs.now)) result
+            ≡ optional_list_at self.now.location key (table_view self.now.table.now) }
+    {
+        match self.value(key) {
+            None => Ok(None),
+            Some(value) => Ok(Some(self.list_in(key, value)?)),
+        }
+    }
+
+    /// A value at a key as text (B4).
+    pub fn text_in<'b>(&self, key: Key, value: &'b Value) -> Result<&'b str, FileFault>
+        ensures { result_map (λ s. s.now) result ≡ text_in self.now.location key (view value.now) }
+    {
+        value.as_str().ok_or(self.fault(key, Cause::WrongType))
+    }
+
+    /// A value at a key as a number (B4).
+    pub fn integer_in(&self, key: Key, value: &Value) -> Result<i64, FileFault>
+        ensures { result ≡ integer_in self.now.location key (view value.now) }
+    {
+        value.as_integer().ok_or(self.fault(key, Cause::WrongType))
+    }
+
+    /// A value at a key as a list (B4).
+    pub fn list_in<'b>(&self, key: Key, value: &'b Value) -> Result<&'b [Value], FileFault>
+        ensures { result_map (λ vs. items_view vs.now) result
+            ≡ list_in self.now.location key (view value.now) }
+    {
+        match value.as_array() {
+            Some(items) => Ok(items.as_slice()),
+            None => Err(self.fault(key, Cause::WrongType)),
+        }
+    }
+
+    fn required(&self, key: Key) -> Result<&'a Value, FileFault>
+        ensures { result_map (λ v. view v.now) result
+            ≡ required_at self.now.location key (table_view self.now.table.now) }
+    {
+        self.value(key).ok_or(self.fault(key, Cause::MissingKey))
+    }
+}
+
+/// The value at a key.
+fn value_at<'a>(table: &'a Table, key: &str) -> Option<&'a Value>
+    ensures { option_map (λ v. view v.now) result ≡ get_member key.now (table_view table.now) }
+{
+    table.get(key)
+}
+
+/// Whether the table has no key beside these.
+fn has_only(table: &Table, known: &[Key]) -> bool
+    ensures { result ≡ has_only known.now (table_view table.now) }
+{
+    each_key_is_among(known, table)
+}
+
+fn each_key_is_among(known: &[Key], table: &Table) -> bool
+    ensures { result ≡ list_all (λ key. list_any (λ k. bytes_eq (key_text k) (string_bytes key)) known.now)
+        (keys table.now) }
+{
+    table.keys().all(|key| is_among(known, key.as_str()))
+}
+
+fn is_among(known: &[Key], key: &str) -> bool
+    ensures { result ≡ list_any (λ k. bytes_eq (key_text k) key.now) known.now }
+{
+    known.iter().any(|k| k.as_str() == key)
+}
