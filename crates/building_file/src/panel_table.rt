@@ -1,18 +1,17 @@
 //! The panel that a `[[panel]]` table of a building file names.
 
-ghost use Rattle.std.specs.Prelude.{◌≡◌};
+ghost use Rattle.std.specs.Prelude.{◌≡◌, []};
 ghost use Rattle.std.specs.List.{list_all};
 ghost use Rattle.toml.specs.View.{table_view, view};
 ghost use Rattle.building_file.specs.FileFault.{Answers};
 ghost use Rattle.building_file.specs.TableFields.{list_at};
-ghost use Rattle.building_file.specs.PanelTable.{are_points, granted_priority, name_in};
+ghost use Rattle.building_file.specs.PanelTable.{distinct_names, granted_priority, name_in};
 ghost use Rattle.building_file.specs.PanelTable.{names_point, panel_at, priority_in};
 
 use crate::FileFault;
 use crate::item_list::{ReadItem, read_items};
-use crate::named::are_distinct;
 use crate::table_fields::{has_only, list_at, name_at};
-use points::{Listing, Name, Panel, Point};
+use points::{Name, Names, Panel, Point};
 use std::alloc::Global;
 use texts::name_of;
 use toml::{Table, Value};
@@ -72,10 +71,11 @@ pub(crate) fn panel_at(alloc: Global, points: &[Point], table: &Table) -> Result
     let listed = list_at(table, "priorities").ok_or(FileFault::Refused)?;
     let priorities = read_items(alloc, &PriorityItem, listed.as_slice())?;
     let known = has_only(table, &["name", "points", "priorities"]);
-    if known && are_points(points, names.as_slice()) {
+    let distinct = distinct_names(alloc, names.as_slice())?;
+    if known && each_names_point(points, names.as_slice()) {
         Ok(Panel {
             name,
-            points: names,
+            points: distinct,
             priorities,
         })
     } else {
@@ -83,11 +83,17 @@ pub(crate) fn panel_at(alloc: Global, points: &[Point], table: &Table) -> Result
     }
 }
 
-/// Whether each of the names names a point, and no two name one.
-fn are_points(points: &[Point], names: &[Name]) -> bool
-    ensures { result ≡ are_points points.now names.now }
+/// The names, each once; refused where one stands twice.
+fn distinct_names(alloc: Global, names: &[Name]) -> Result<Names, FileFault>
+    ensures { Answers (distinct_names [] names.now) result }
 {
-    each_names_point(points, names) && are_distinct(names)
+    let mut distinct = Names::new(alloc);
+    for name in names {
+        if !distinct.insert(name.clone()?)? {
+            return Err(FileFault::Refused);
+        }
+    }
+    Ok(distinct)
 }
 
 fn each_names_point(points: &[Point], names: &[Name]) -> bool

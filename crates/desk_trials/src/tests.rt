@@ -1,7 +1,7 @@
 //! A run of a list of deliveries, with ample memory.
 use desk::machine::Desk;
 use desk::{Building, Delivery, Reply};
-use points::{Answer, Content, Kind, Listing, Name, Panel, Point, Rule};
+use points::{Answer, Content, Kind, Listing, Name, Names, Panel, Point, Rule};
 use std::alloc::Global;
 use std::test::Fail;
 
@@ -13,12 +13,12 @@ fn building(alloc: Global) -> Result<Building, Fail> {
         kind: Kind::Binary,
         relinquish_default: 0,
     })?;
-    let mut granted = Vec::new(alloc);
-    granted.push(Name::read("LIGHT")?)?;
+    let mut granted = Names::new(alloc);
+    granted.insert(Name::read("LIGHT")?)?;
     let mut panels = Vec::new(alloc);
     panels.push(Panel {
         name: Name::read("P1")?,
-        points: Listing::from_vec(granted),
+        points: granted,
         priorities: Listing::from_vec([8].to_vec(alloc)?),
     })?;
     Ok(Building {

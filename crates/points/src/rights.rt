@@ -20,7 +20,7 @@ pub fn find_point<'a>(points: &'a [Point], name: &Name) -> Option<&'a Point>
 fn is_granted(panel: &Panel, point: &Name) -> bool
     ensures { result ≡ is_granted panel.now point.now }
 {
-    panel.points.iter().any(|granted| *granted == *point)
+    panel.points.contains(point)
 }
 
 fn is_granted_at(panel: &Panel, priority: i64) -> bool

@@ -1,5 +1,5 @@
 -- What stands at the keys of a table of a building file.
-use Rattle.std.specs.Prelude.{ℕ, ℤ, Bool, true, ◌&&◌, List, Option, Some, None, Result, Ok, ⊤}
+use Rattle.std.specs.Prelude.{ℕ, ℤ, Bool, true, ◌&&◌, List, Option, Some, None, Result, Ok, ⊤, is_some, not}
 use Rattle.std.specs.List.{list_any}
 use Rattle.std.specs.Str.{bytes_eq}
 use Rattle.toml.specs.Data.{Data, Items, Members, no_members, member, as_array, as_integer, as_str, get_member}
@@ -20,6 +20,13 @@ has_only known (member key value ms) = list_any (λ k. bytes_eq (key_text k) key
 -- B2 where the table has another key
 abbrev pub known_keys : Location → List Key → Members → Result ⊤ FileFault
 known_keys location known ms = where_holds (has_only known ms) (fault_at location key.Unknown UnknownKey) tt
+
+abbrev pub has_key : Members → Key → Bool
+has_key ms key = is_some (get_member (key_text key) ms)
+
+-- B2 where the table has one of these keys
+abbrev pub lacks_keys : Location → List Key → Members → Result ⊤ FileFault
+lacks_keys location keys ms = where_holds (not (list_any (has_key ms) keys)) (fault_at location key.Unknown UnknownKey) tt
 
 -- B3 where the key is missing
 abbrev pub required_at : Location → Key → Members → Result Data FileFault

@@ -1,15 +1,16 @@
 //! A table of a building file, and what stands at its keys.
 
-ghost use Rattle.std.specs.Prelude.{◌≡◌, option_map, string_bytes};
+ghost use Rattle.std.specs.Prelude.{◌≡◌, is_some, option_map, string_bytes};
 ghost use Rattle.std.specs.BTreeMap.{keys};
 ghost use Rattle.std.specs.List.{list_all, list_any};
 ghost use Rattle.building_fault.specs.Steps.{result_map};
 ghost use Rattle.std.specs.Str.{bytes_eq};
-ghost use Rattle.toml.specs.Data.{get_member};
+ghost use Rattle.toml.specs.Data.{as_table, get_member};
 ghost use Rattle.toml.specs.View.{items_view, table_view, view};
 ghost use Rattle.building_fault.specs.FaultAt.{fault_at};
 ghost use Rattle.building_fault.specs.FaultLine.{key_text};
-ghost use Rattle.toml_fields.specs.Fields.{has_only, integer_at, known_keys, list_at, list_in};
+ghost use Rattle.toml_fields.specs.Items.{all_tables, are_tables, at_most, count_of};
+ghost use Rattle.toml_fields.specs.Fields.{has_key, has_only, integer_at, known_keys, lacks_keys, list_at, list_in};
 ghost use Rattle.toml_fields.specs.Fields.{optional_integer_at, optional_list_at, optional_text_at};
 ghost use Rattle.toml_fields.specs.Fields.{integer_in, required_at, text_at, text_in};
 
@@ -48,6 +49,30 @@ impl<'a> Fields<'a> {
         } else {
             Err(self.fault(Key::Unknown, Cause::UnknownKey))
         }
+    }
+
+    /// Refuses a table that has one of these keys (B2).
+    pub fn has_none(&self, keys: &[Key]) -> Result<(), FileFault>
+        ensures { result ≡ lacks_keys self.now.location keys.now (table_view self.now.table.now) }
+    {
+        if self.has_any(keys) {
+            Err(self.fault(Key::Unknown, Cause::UnknownKey))
+        } else {
+            Ok(())
+        }
+    }
+
+    fn has_any(&self, keys: &[Key]) -> bool
+        ensures { result ≡ list_any (has_key (table_view self.now.table.now)) keys.now }
+    {
+        keys.iter().any(|key| self.has(*key))
+    }
+
+    /// Whether the table has the key.
+    pub fn has(&self, key: Key) -> bool
+        ensures { result ≡ has_key (table_view self.now.table.now) key }
+    {
+        self.value(key).is_some()
     }
 
     /// The text at a key, which has to be there (B3, B4).
@@ -130,7 +155,30 @@ impl<'a> Fields<'a> {
         }
     }
 
-    fn required(&self, key: Key) -> Result<&'a Value, FileFault>
+    /// Refuses a list with more items than a limit (B13).
+    pub fn at_most(&self, most: usize, key: Key, items: &[Value]) -> Result<(), FileFault>
+        ensures { result ≡ at_most most self.now.location key (items_view items.now) }
+    {
+        if count(items) <= most {
+            Ok(())
+        } else {
+            Err(self.fault(key, Cause::BeyondLimit))
+        }
+    }
+
+    /// Refuses a list with an item that is no table (B4).
+    pub fn all_tables(&self, key: Key, items: &[Value]) -> Result<(), FileFault>
+        ensures { result ≡ all_tables self.now.location key (items_view items.now) }
+    {
+        if are_tables(items) {
+            Ok(())
+        } else {
+            Err(self.fault(key, Cause::WrongType))
+        }
+    }
+
+    /// The value at a key, which has to be there (B3).
+    pub fn required(&self, key: Key) -> Result<&'a Value, FileFault>
         ensures { result_map (λ v. view v.now) result
             ≡ required_at self.now.location key (table_view self.now.table.now) }
     {
@@ -163,4 +211,22 @@ fn is_among(known: &[Key], key: &str) -> bool
     ensures { result ≡ list_any (λ k. bytes_eq (key_text k) key.now) known.now }
 {
     known.iter().any(|k| k.as_str() == key)
+}
+
+fn count(items: &[Value]) -> usize
+    ensures { result ≡ count_of (items_view items.now) }
+{
+    items.len()
+}
+
+fn are_tables(items: &[Value]) -> bool
+    ensures { result ≡ are_tables (items_view items.now) }
+{
+    each_is_a_table(items)
+}
+
+fn each_is_a_table(items: &[Value]) -> bool
+    ensures { result ≡ list_all (λ item. is_some (as_table (view item))) items.now }
+{
+    items.iter().all(|item| item.as_table().is_some())
 }

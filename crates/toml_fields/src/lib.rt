@@ -6,6 +6,8 @@
 
 pub use fields::Fields;
 pub use item_list::{ReadItem, read_items};
+pub use priority::{event_priority, write_priority};
 
 mod fields;
 mod item_list;
+mod priority;
