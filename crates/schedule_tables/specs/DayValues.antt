@@ -1,8 +1,8 @@
 -- What a schedule of a building file says of each day.
-use Rattle.std.specs.Prelude.{ℕ, ℤ, Bool, ◌==◌, ◌&&◌, List, [], ◌∷◌, Option, Some, None, Result, Ok}
+use Rattle.std.specs.Prelude.{ℕ, ℤ, Bool, true, ◌&&◌, List, [], ◌∷◌, Option, Some, None, Result, Ok}
 use Rattle.std.specs.List.{list_all}
 use Rattle.toml.specs.Data.{Items, Members}
-use Rattle.building_fault.specs.declared.cause.Cause.TheVariants.{OutsideKind, WrongType}
+use Rattle.building_fault.specs.declared.cause.Cause.TheVariants.{OutsideKind}
 use Rattle.building_fault.specs.declared.file_fault.FileFault.{FileFault}
 use Rattle.building_fault.specs.declared.key.Key.TheVariants as key
 use Rattle.building_fault.specs.declared.location.Location.{Location}
@@ -15,9 +15,9 @@ use Rattle.schedule_tables.specs.declared.day_values.DayValues.{DayValues}
 use Rattle.schedule_tables.specs.declared.named_calendar.NamedCalendar.{NamedCalendar}
 use Rattle.schedule_tables.specs.ExceptionTable.{exception_in, is_sound_exception}
 use Rattle.schedule_tables.specs.Kinds.{lies_in_all}
-use Rattle.schedule_tables.specs.TimeLists.{is_list_within, time_list_in}
+use Rattle.schedule_tables.specs.TimeLists.{is_list_within, list_of}
 use Rattle.toml_fields.specs.Fields.{optional_integer_at, optional_list_at}
-use Rattle.toml_fields.specs.Items.{all_tables, at_most, count_of, each_item}
+use Rattle.toml_fields.specs.Items.{all_tables, at_most, each_item, exactly, list_item_at}
 
 -- the default, which is NULL where the key is missing; B11 where it lies outside a kind
 abbrev pub default_in : Location → List Kind → Members → Result (Option ℤ) FileFault
@@ -27,11 +27,24 @@ default_in location kinds ms = optional_integer_at location key.Default ms
 abbrev pub seven_empty : List (List TimeValue)
 seven_empty = [] ∷ [] ∷ [] ∷ [] ∷ [] ∷ [] ∷ [] ∷ []
 
--- seven lists, Monday's first: B4 for another number of them
+-- the list of a day, Monday's at 0
+abbrev pub day_in : ℕ → Location → List Kind → Items → Result (List TimeValue) FileFault
+day_in place location kinds items = list_item_at place location key.Weekly items >>= list_of location key.Weekly kinds
+
+unfoldable pub seven_lists : Location → List Kind → Items → Result (List (List TimeValue)) FileFault
+seven_lists location kinds items = do
+  monday ← day_in 0 location kinds items
+  tuesday ← day_in 1 location kinds items
+  wednesday ← day_in 2 location kinds items
+  thursday ← day_in 3 location kinds items
+  friday ← day_in 4 location kinds items
+  saturday ← day_in 5 location kinds items
+  sunday ← day_in 6 location kinds items
+  Ok (monday ∷ tuesday ∷ wednesday ∷ thursday ∷ friday ∷ saturday ∷ sunday ∷ [])
+
+-- B4 for another number of lists than seven
 abbrev pub week_of : Location → List Kind → Items → Result (List (List TimeValue)) FileFault
-week_of location kinds items =
-    where_holds (count_of items == 7) (fault_at location key.Weekly WrongType) items
-    >>= each_item (time_list_in location key.Weekly kinds)
+week_of location kinds items = exactly 7 location key.Weekly items >>= (λ _. seven_lists location kinds items)
 
 abbrev pub week_or_empty : Location → List Kind → Option Items → Result (List (List TimeValue)) FileFault
 week_or_empty location kinds None = Ok seven_empty

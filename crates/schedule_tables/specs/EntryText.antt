@@ -26,7 +26,11 @@ entry_of location key text = told location key (reading text)
 abbrev pub entry_in : Location → Key → Data → Result Entry FileFault
 entry_in location key d = text_in location key d >>= entry_of location key
 
--- B8 E1 where the entry is no range
-abbrev pub range_of : Location → Key → Entry → Result Range FileFault
-range_of location key (entry.Range range) = Ok range
-range_of location key _ = Err (fault_at location key (NotAnEntry Shape))
+-- the same, and E1 where the entry is no range
+abbrev pub range_of : Location → Key → Result Entry EntryFault → Result Range FileFault
+range_of location key (Ok (entry.Range range)) = Ok range
+range_of location key (Ok other) = Err (fault_at location key (NotAnEntry Shape))
+range_of location key (Err fault) = Err (fault_at location key (NotAnEntry fault))
+
+abbrev pub range_in : Location → Key → List ℕ → Result Range FileFault
+range_in location key text = range_of location key (reading text)

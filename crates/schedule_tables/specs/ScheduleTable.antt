@@ -19,7 +19,7 @@ use Rattle.schedule_tables.specs.declared.named_schedule.NamedSchedule.{NamedSch
 use Rattle.schedule_tables.specs.declared.named_schedule.OnLeave.{OnLeave}
 use Rattle.schedule_tables.specs.declared.named_schedule.OnLeave.TheVariants.{Release, Stay}
 use Rattle.schedule_tables.specs.DayValues.{are_sound, day_values_in}
-use Rattle.schedule_tables.specs.EntryText.{entry_of, range_of}
+use Rattle.schedule_tables.specs.EntryText.{range_in}
 use Rattle.schedule_tables.specs.Kinds.{kinds_of}
 use Rattle.toml_fields.specs.Fields.{list_at, optional_text_at, required_at}
 use Rattle.toml_fields.specs.Items.{at_most}
@@ -27,7 +27,7 @@ use Rattle.toml_fields.specs.Priority.{is_write_priority, write_priority_in}
 
 -- a range; all days where the key is missing
 abbrev pub period_of : Location → List ℕ → Result Range FileFault
-period_of location text = entry_of location key.Period text >>= range_of location key.Period
+period_of location text = range_in location key.Period text
 
 abbrev pub period_or_all : Location → Option (List ℕ) → Result Range FileFault
 period_or_all location None = Ok (record { start = None; end = None })

@@ -12,7 +12,7 @@ use Rattle.points.specs.declared.Kind.{Kind}
 use Rattle.sched.specs.declared.day_list.TimeValue.{TimeValue}
 use Rattle.schedule_tables.specs.Kinds.{lies_in_all}
 use Rattle.time_values.specs.TimeValue.{time_value_at}
-use Rattle.toml_fields.specs.Fields.{list_in, text_in}
+use Rattle.toml_fields.specs.Fields.{text_in}
 use Rattle.toml_fields.specs.Items.{at_most, each_item}
 
 abbrev pub has_values_in : List Kind → TimeValue → Bool
@@ -32,6 +32,3 @@ time_value_in location key kinds d = do
 abbrev pub list_of : Location → Key → List Kind → Items → Result (List TimeValue) FileFault
 list_of location key kinds items = at_most 100 location key items
     >>= (λ _. each_item (time_value_in location key kinds) items)
-
-abbrev pub time_list_in : Location → Key → List Kind → Data → Result (List TimeValue) FileFault
-time_list_in location key kinds d = list_in location key d >>= list_of location key kinds

@@ -2,13 +2,13 @@
 
 ghost use Rattle.std.specs.Prelude.{◌≡◌, [], IfOk, IsTrue};
 ghost use Rattle.std.specs.List.{list_all};
-ghost use Rattle.toml.specs.View.{items_view, table_view, view};
+ghost use Rattle.toml.specs.View.{items_view, table_view};
 ghost use Rattle.building_fault.specs.Answers.{Answers};
-ghost use Rattle.schedule_tables.specs.DayValues.{are_sound, day_values_in, default_in, exceptions_in};
-ghost use Rattle.schedule_tables.specs.DayValues.{exceptions_of, seven_empty, week_in, week_of};
+ghost use Rattle.schedule_tables.specs.DayValues.{are_sound, day_in, day_values_in, default_in, exceptions_in};
+ghost use Rattle.schedule_tables.specs.DayValues.{exceptions_of, seven_empty, seven_lists, week_in, week_of};
 ghost use Rattle.schedule_tables.specs.ExceptionTable.{is_sound_exception};
 ghost use Rattle.schedule_tables.specs.Kinds.{lies_in_all};
-ghost use Rattle.schedule_tables.specs.TimeLists.{is_list_within, time_list_in};
+ghost use Rattle.schedule_tables.specs.TimeLists.{is_list_within};
 
 use crate::NamedCalendar;
 use crate::exception_table::ExceptionTable;
@@ -34,18 +34,38 @@ pub(crate) struct DayValues {
     pub exceptions: Listing<Exception>,
 }
 
-/// Reads what a schedule says of each day, beside the calendars, of values that lie in each of the kinds.
+/// What a schedule says of each day, beside the calendars, in values that lie in each of the kinds.
+pub(crate) fn day_values_in<'a>(
+    alloc: Global,
+    fields: &'a Fields<'a>,
+    calendars: &'a Roster<NamedCalendar>,
+    kinds: &'a [Kind],
+) -> Result<DayValues, BuildingFault>
+    ensures answers { Answers (day_values_in fields.now.location calendars.now kinds.now
+        (table_view fields.now.table.now)) result }
+    ensures sound { IfOk result (λ values. IsTrue (are_sound calendars.now kinds.now values)) }
+{
+    let reader = DayReader {
+        alloc,
+        fields,
+        calendars,
+        kinds,
+    };
+    reader.read()
+}
+
+/// Reads what a schedule says of each day.
 #[derive(Drop)]
-pub(crate) struct DayReader<'a> {
-    pub alloc: Global,
-    pub fields: &'a Fields<'a>,
-    pub calendars: &'a Roster<NamedCalendar>,
-    pub kinds: &'a [Kind],
+struct DayReader<'a> {
+    alloc: Global,
+    fields: &'a Fields<'a>,
+    calendars: &'a Roster<NamedCalendar>,
+    kinds: &'a [Kind],
 }
 
 impl DayReader<'_> {
     #[tactic(auto, unfolding(crate::specs::DayValues::day_values_in))]
-    pub(crate) fn read(&self) -> Result<DayValues, BuildingFault>
+    fn read(&self) -> Result<DayValues, BuildingFault>
         ensures answers { Answers (day_values_in self.now.fields.now.location self.now.calendars.now
             self.now.kinds.now (table_view self.now.fields.now.table.now)) result }
         ensures sound { IfOk result (λ values.
@@ -72,47 +92,47 @@ impl DayReader<'_> {
         }
     }
 
-    /// The seven lists of a week, Monday's first.
     fn week_of(&self, lists: &[Value]) -> Result<[DayList; 7], BuildingFault>
         ensures answers { Answers (week_of self.now.fields.now.location self.now.kinds.now
             (items_view lists.now)) result }
         ensures sound { IfOk result (λ lists. IsTrue (list_all (is_list_within self.now.kinds.now) lists)) }
     {
-        let [
-            monday,
-            tuesday,
-            wednesday,
-            thursday,
-            friday,
-            saturday,
-            sunday,
-        ] = lists
-        else {
-            return Err(self.fields.fault(Key::Weekly, Cause::WrongType).into());
-        };
+        self.fields.exactly(7, Key::Weekly, lists)?;
+        self.seven_lists(lists)
+    }
+
+    /// The seven lists of a week, Monday's first.
+    #[tactic(auto, unfolding(crate::specs::DayValues::seven_lists))]
+    fn seven_lists(&self, lists: &[Value]) -> Result<[DayList; 7], BuildingFault>
+        ensures answers { Answers (seven_lists self.now.fields.now.location self.now.kinds.now
+            (items_view lists.now)) result }
+        ensures sound { IfOk result (λ lists. IsTrue (list_all (is_list_within self.now.kinds.now) lists)) }
+    {
+        let monday = self.day_in(lists, 0)?;
+        let tuesday = self.day_in(lists, 1)?;
+        let wednesday = self.day_in(lists, 2)?;
+        let thursday = self.day_in(lists, 3)?;
+        let friday = self.day_in(lists, 4)?;
+        let saturday = self.day_in(lists, 5)?;
+        let sunday = self.day_in(lists, 6)?;
         Ok([
-            self.day(monday)?,
-            self.day(tuesday)?,
-            self.day(wednesday)?,
-            self.day(thursday)?,
-            self.day(friday)?,
-            self.day(saturday)?,
-            self.day(sunday)?,
+            monday, tuesday, wednesday, thursday, friday, saturday, sunday,
         ])
     }
 
-    fn day(&self, list: &Value) -> Result<DayList, BuildingFault>
-        ensures answers { Answers (time_list_in self.now.fields.now.location Key.Weekly self.now.kinds.now
-            (view list.now)) result }
+    /// The list of a day, Monday's at 0.
+    fn day_in(&self, lists: &[Value], place: usize) -> Result<DayList, BuildingFault>
+        ensures answers { Answers (day_in place self.now.fields.now.location self.now.kinds.now
+            (items_view lists.now)) result }
         ensures sound { IfOk result (λ list. IsTrue (is_list_within self.now.kinds.now list)) }
     {
-        let lists = TimeLists {
+        let time_lists = TimeLists {
             alloc: self.alloc,
             fields: self.fields,
             key: Key::Weekly,
             kinds: self.kinds,
         };
-        lists.read_list(list)
+        time_lists.list_of(self.fields.list_at(Key::Weekly, lists, place)?)
     }
 
     fn exceptions_in(&self) -> Result<Listing<Exception>, BuildingFault>

@@ -2,10 +2,10 @@
 
 ghost use Rattle.std.specs.Prelude.{◌≡◌};
 ghost use Rattle.toml.specs.View.{view};
-ghost use Rattle.schedule_tables.specs.EntryText.{entry_in, entry_of, range_of};
+ghost use Rattle.schedule_tables.specs.EntryText.{entry_in, entry_of};
 
 use building_fault::{Cause, FileFault, Key};
-use dates::{Entry, EntryFault, Range};
+use dates::Entry;
 use toml::Value;
 use toml_fields::Fields;
 
@@ -17,21 +17,11 @@ pub(crate) fn entry_in(fields: &Fields<'_>, key: Key, value: &Value) -> Result<E
 }
 
 /// The entry that a text spells (B8).
-pub(crate) fn entry_of(fields: &Fields<'_>, key: Key, text: &str) -> Result<Entry, FileFault>
+fn entry_of(fields: &Fields<'_>, key: Key, text: &str) -> Result<Entry, FileFault>
     ensures { result ≡ entry_of fields.now.location key text.now }
 {
     match Entry::read(text) {
         Ok(entry) => Ok(entry),
         Err(fault) => Err(fields.fault(key, Cause::NotAnEntry(fault))),
-    }
-}
-
-/// The range that an entry is (B8 E1).
-pub(crate) fn range_of(fields: &Fields<'_>, key: Key, entry: Entry) -> Result<Range, FileFault>
-    ensures { result ≡ range_of fields.now.location key entry }
-{
-    match entry {
-        Entry::Range(range) => Ok(range),
-        _ => Err(fields.fault(key, Cause::NotAnEntry(EntryFault::Shape))),
     }
 }

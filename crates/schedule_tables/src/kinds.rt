@@ -3,9 +3,9 @@
 ghost use Rattle.std.specs.Prelude.{◌≡◌, IfOk};
 ghost use Rattle.points.specs.Kind.{lies_in};
 ghost use Rattle.std.specs.List.{list_all};
-ghost use Rattle.schedule_tables.specs.Kinds.{kinds_of, lies_in_all};
+ghost use Rattle.schedule_tables.specs.Kinds.{kind_of, kinds_of, lies_in_all};
 
-use points::{Kind, Names, Point};
+use points::{Kind, Name, Point};
 use rosters::Roster;
 use std::alloc::{AllocError, Global};
 
@@ -13,17 +13,20 @@ use std::alloc::{AllocError, Global};
 pub(crate) fn kinds_of(
     alloc: Global,
     points: &Roster<Point>,
-    targets: &Names,
+    targets: &[Name],
 ) -> Result<Vec<Kind>, AllocError>
     ensures { IfOk result (λ kinds. kinds.items ≡ kinds_of points.now targets.now) }
 {
-    let mut kinds = Vec::new(alloc);
-    for target in targets.as_slice() {
-        if let Some(point) = points.find(target) {
-            kinds.push(point.kind)?;
-        }
-    }
-    Ok(kinds)
+    targets
+        .iter()
+        .filter_map(|target| kind_of(points, target))
+        .collect(alloc)
+}
+
+fn kind_of(points: &Roster<Point>, target: &Name) -> Option<Kind>
+    ensures { result ≡ kind_of points.now target.now }
+{
+    Some(points.find(target)?.kind)
 }
 
 /// Whether a value lies in each of the kinds. NULL does.

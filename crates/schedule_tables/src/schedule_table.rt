@@ -9,12 +9,11 @@ ghost use Rattle.toml_fields.specs.Priority.{is_write_priority};
 ghost use Rattle.schedule_tables.specs.ScheduleTable.{is_sound_schedule, leave_in, leave_of, period_at, period_of};
 ghost use Rattle.schedule_tables.specs.ScheduleTable.{priority_at, schedule_in, targets_at};
 
-use crate::day_values::DayReader;
-use crate::entry_text::{entry_of, range_of};
+use crate::day_values::day_values_in;
 use crate::kinds::kinds_of;
 use crate::{NamedCalendar, NamedSchedule, OnLeave};
 use building_fault::{BuildingFault, Cause, FileFault, Key};
-use dates::Range;
+use dates::{Entry, EntryFault, Range};
 use named_tables::{ReadTable, read_references};
 use points::{Name, Names, Point};
 use rosters::Roster;
@@ -57,14 +56,12 @@ impl ReadTable<NamedSchedule> for ScheduleTable<'_> {
         let effective_period = period_at(fields)?;
         let priority = priority_at(fields)?;
         let targets = self.targets_at(fields)?;
-        let kinds = kinds_of(self.alloc, self.points, &targets)?;
-        let days = DayReader {
-            alloc: self.alloc,
-            fields,
-            calendars: self.calendars,
-            kinds: kinds.as_slice(),
+        let kinds = kinds_of(self.alloc, self.points, targets.as_slice())?;
+        let table = Fields {
+            table: &*fields.table,
+            location: fields.location,
         };
-        let values = days.read()?;
+        let values = day_values_in(self.alloc, &table, &*self.calendars, kinds.as_slice())?;
         let on_leave = leave_in(fields)?;
         Ok(NamedSchedule {
             name,
@@ -108,10 +105,15 @@ fn period_at(fields: &Fields<'_>) -> Result<Range, FileFault>
     }
 }
 
+/// The range that a text spells (B8).
 fn period_of(fields: &Fields<'_>, text: &str) -> Result<Range, FileFault>
     ensures { result ≡ period_of fields.now.location text.now }
 {
-    range_of(fields, Key::Period, entry_of(fields, Key::Period, text)?)
+    match Entry::read(text) {
+        Ok(Entry::Range(range)) => Ok(range),
+        Ok(_) => Err(fields.fault(Key::Period, Cause::NotAnEntry(EntryFault::Shape))),
+        Err(fault) => Err(fields.fault(Key::Period, Cause::NotAnEntry(fault))),
+    }
 }
 
 fn priority_at(fields: &Fields<'_>) -> Result<u8, FileFault>

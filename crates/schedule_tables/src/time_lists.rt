@@ -4,7 +4,7 @@ ghost use Rattle.std.specs.Prelude.{◌≡◌, IfOk, IsTrue};
 ghost use Rattle.std.specs.List.{list_all};
 ghost use Rattle.toml.specs.View.{items_view, view};
 ghost use Rattle.building_fault.specs.Answers.{Answers};
-ghost use Rattle.schedule_tables.specs.TimeLists.{has_values_in, is_list_within, list_of, time_list_in};
+ghost use Rattle.schedule_tables.specs.TimeLists.{has_values_in, is_list_within, list_of};
 ghost use Rattle.schedule_tables.specs.TimeLists.{time_value_in};
 
 use crate::kinds::lies_in_all;
@@ -53,15 +53,6 @@ impl TimeLists<'_> {
         } else {
             Err(self.fields.fault(self.key, Cause::OutsideKind))
         }
-    }
-
-    /// The list of time values that an item is (B4).
-    pub(crate) fn read_list(&self, item: &Value) -> Result<DayList, BuildingFault>
-        ensures answers { Answers (time_list_in self.now.fields.now.location self.now.key
-            self.now.kinds.now (view item.now)) result }
-        ensures sound { IfOk result (λ list. IsTrue (is_list_within self.now.kinds.now list)) }
-    {
-        self.list_of(self.fields.list_in(self.key, item)?)
     }
 
     /// The time values of a list (B13, then item by item).

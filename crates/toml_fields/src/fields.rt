@@ -1,15 +1,15 @@
 //! A table of a building file, and what stands at its keys.
 
-ghost use Rattle.std.specs.Prelude.{◌≡◌, is_some, option_map, string_bytes};
+ghost use Rattle.std.specs.Prelude.{◌≡◌, is_some, option_copied, option_map, slice_get, string_bytes};
 ghost use Rattle.std.specs.BTreeMap.{keys};
 ghost use Rattle.std.specs.List.{list_all, list_any};
 ghost use Rattle.building_fault.specs.Steps.{result_map};
 ghost use Rattle.std.specs.Str.{bytes_eq};
-ghost use Rattle.toml.specs.Data.{as_table, get_member};
+ghost use Rattle.toml.specs.Data.{as_table, get_item, get_member};
 ghost use Rattle.toml.specs.View.{items_view, table_view, view};
 ghost use Rattle.building_fault.specs.FaultAt.{fault_at};
 ghost use Rattle.building_fault.specs.FaultLine.{key_text};
-ghost use Rattle.toml_fields.specs.Items.{all_tables, are_tables, at_most, count_of};
+ghost use Rattle.toml_fields.specs.Items.{all_tables, are_tables, at_most, count_of, exactly, list_item_at};
 ghost use Rattle.toml_fields.specs.Fields.{has_key, has_only, integer_at, known_keys, lacks_keys, list_at, list_in};
 ghost use Rattle.toml_fields.specs.Fields.{optional_integer_at, optional_list_at, optional_text_at};
 ghost use Rattle.toml_fields.specs.Fields.{integer_in, required_at, text_at, text_in};
@@ -166,6 +166,33 @@ impl<'a> Fields<'a> {
         }
     }
 
+    /// Refuses a list of another number of items (B4).
+    pub fn exactly(&self, number: usize, key: Key, items: &[Value]) -> Result<(), FileFault>
+        ensures { result ≡ exactly number self.now.location key (items_view items.now) }
+    {
+        if count(items) == number {
+            Ok(())
+        } else {
+            Err(self.fault(key, Cause::WrongType))
+        }
+    }
+
+    /// The item of a list at a place from 0, as a list (B4).
+    pub fn list_at<'b>(
+        &self,
+        key: Key,
+        items: &'b [Value],
+        place: usize,
+    ) -> Result<&'b [Value], FileFault>
+        ensures { result_map (λ vs. items_view vs.now) result
+            ≡ list_item_at place self.now.location key (items_view items.now) }
+    {
+        match item_at(items, place) {
+            Some(item) => self.list_in(key, item),
+            None => Err(self.fault(key, Cause::WrongType)),
+        }
+    }
+
     /// Refuses a list with an item that is no table (B4).
     pub fn all_tables(&self, key: Key, items: &[Value]) -> Result<(), FileFault>
         ensures { result ≡ all_tables self.now.location key (items_view items.now) }
@@ -217,6 +244,18 @@ fn count(items: &[Value]) -> usize
     ensures { result ≡ count_of (items_view items.now) }
 {
     items.len()
+}
+
+fn item_at(items: &[Value], place: usize) -> Option<&Value>
+    ensures { option_map (λ v. view v.now) result ≡ get_item place (items_view items.now) }
+{
+    nth(items, place)
+}
+
+fn nth<T>(items: &[T], place: usize) -> Option<&T>
+    ensures { option_copied result ≡ slice_get items.now place }
+{
+    items.get(place)
 }
 
 fn are_tables(items: &[Value]) -> bool
