@@ -23,11 +23,6 @@ pub struct PanelTable<'a> {
     pub points: &'a Roster<Point>,
 }
 
-impl PanelTable<'_> {
-    /// The keys that a table of a panel may have.
-    pub const KEYS: &'static [Key] = &[Key::Name, Key::Points, Key::Priorities];
-}
-
 impl ReadTable<Panel> for PanelTable<'_> {
     ghost meaning = { λ reader. panel_in reader.points.now };
 

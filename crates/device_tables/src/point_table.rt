@@ -13,18 +13,6 @@ use toml_fields::Fields;
 /// Reads a point.
 pub struct PointTable;
 
-impl PointTable {
-    /// The keys that a table of a point may have.
-    pub const KEYS: &'static [Key] = &[
-        Key::Name,
-        Key::Kind,
-        Key::States,
-        Key::Low,
-        Key::High,
-        Key::Default,
-    ];
-}
-
 impl ReadTable<Point> for PointTable {
     ghost meaning = { λ _. point_in };
 

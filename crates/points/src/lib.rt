@@ -17,7 +17,7 @@ pub use numbered_row::NumberedRow;
 pub use panel::Panel;
 pub use point::Point;
 pub use priority_array::{LOWEST_PRIORITY, PriorityArray};
-pub use rights::{find_point, permit};
+pub use rights::{find_point, permit, permit_for};
 pub use rule::Rule;
 
 mod answer;

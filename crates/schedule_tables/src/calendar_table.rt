@@ -25,11 +25,6 @@ pub struct CalendarTable {
     pub alloc: Global,
 }
 
-impl CalendarTable {
-    /// The keys that a table of a calendar may have.
-    pub const KEYS: &'static [Key] = &[Key::Name, Key::Entries];
-}
-
 impl ReadTable<NamedCalendar> for CalendarTable {
     ghost meaning = { λ _. calendar_in };
 

@@ -32,20 +32,6 @@ pub struct ScheduleTable<'a> {
     pub calendars: &'a Roster<NamedCalendar>,
 }
 
-impl ScheduleTable<'_> {
-    /// The keys that a table of a schedule may have.
-    pub const KEYS: &'static [Key] = &[
-        Key::Name,
-        Key::Period,
-        Key::Priority,
-        Key::Targets,
-        Key::Default,
-        Key::Weekly,
-        Key::Exception,
-        Key::OnLeave,
-    ];
-}
-
 impl ReadTable<NamedSchedule> for ScheduleTable<'_> {
     ghost meaning = { λ reader. schedule_in reader.points.now reader.calendars.now };
 

@@ -1,0 +1,8 @@
+//! At which local day and time is this moment?
+//!
+//! A `ZoneRule` is the rule of a time zone, read from a POSIX rule text by `jiff`.
+#![tactic(auto)]
+
+pub use zone_rule::ZoneRule;
+
+mod zone_rule;
