@@ -20,7 +20,7 @@ use Rattle.schedule_tables.specs.declared.named_schedule.NamedSchedule.{NamedSch
 use Rattle.schedule_tables.specs.CalendarTable.{calendar_in}
 use Rattle.schedule_tables.specs.ScheduleTable.{schedule_in}
 use Rattle.texts.specs.Texts.{text_of}
-use Rattle.building.specs.TopTable.{top_in, top_location}
+use Rattle.building.specs.TopTable.{Top, top_in, top_location}
 
 -- the bytes that a file has at most
 abbrev pub longest_file : ℕ
@@ -75,6 +75,16 @@ pub record Contents : Type 0 where
   pub calendars : List NamedCalendar
   pub schedules : List NamedSchedule
 
+-- the sections before the schedules, and these
+abbrev pub with_schedules : Top → List Point → List Panel → List NamedCalendar → Result Contents FileFault
+with_schedules top points panels calendars = schedules_in points calendars top.schedules >>= (λ schedules. Ok (record {
+  zone = top.zone;
+  points = points;
+  panels = panels;
+  calendars = calendars;
+  schedules = schedules;
+}))
+
 -- the top table first, then points, panels, calendars and schedules
 unfoldable pub contents_in : Members → Result Contents FileFault
 contents_in ms = do
@@ -82,8 +92,7 @@ contents_in ms = do
   points ← points_in top.points
   panels ← panels_in points top.panels
   calendars ← calendars_in top.calendars
-  schedules ← schedules_in points calendars top.schedules
-  Ok (record { zone = top.zone; points = points; panels = panels; calendars = calendars; schedules = schedules })
+  with_schedules top points panels calendars
 
 -- the building of a file
 unfoldable pub building_of : List ℕ → Result Contents FileFault

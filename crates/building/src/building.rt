@@ -1,13 +1,17 @@
 //! The building that a file names.
 
-ghost use Rattle.std.specs.Prelude.{◌≡◌, find, option_copied};
+ghost use Rattle.std.specs.Prelude.{◌≡◌, IsTrue, find, option_copied};
+ghost use Rattle.std.specs.List.{list_all};
 ghost use Rattle.std.specs.Result.{result_err};
 ghost use Rattle.std.specs.Str.{bytes_eq};
 ghost use Rattle.toml.specs.View.{table_view};
 ghost use Rattle.points.specs.Rights.{point_named, rule_of};
 ghost use Rattle.building_fault.specs.Answers.{Answers};
 ghost use Rattle.building_fault.specs.Steps.{result_map};
-ghost use Rattle.building.specs.BuildingFile.{building_of, contents_in};
+ghost use Rattle.building.specs.BuildingFile.{building_of, contents_in, with_schedules};
+ghost use Rattle.building.specs.TopTable.{top_of};
+ghost use Rattle.device_tables.specs.PanelTable.{is_sound_panel};
+ghost use Rattle.device_tables.specs.PointTable.{is_sound_point};
 ghost use Rattle.building.specs.Building.{contents_of};
 
 use crate::parsed_file::tree_of;
@@ -69,21 +73,14 @@ impl Building {
         let points = points_in(alloc, top.points)?;
         let panels = panels_in(alloc, &points, top.panels)?;
         let calendars = calendars_in(alloc, top.calendars)?;
-        let schedules = schedules_in(alloc, &points, &calendars, top.schedules)?;
-        Ok(Building {
-            zone: top.zone,
-            points,
-            panels,
-            calendars,
-            schedules,
-        })
+        with_schedules(alloc, top, points, panels, calendars)
     }
 
     /// The rule of the building's time zone.
-    pub fn zone(&self) -> ZoneRule
-        ensures { result ≡ self.now.zone }
+    pub fn zone(&self) -> &ZoneRule
+        ensures { result.now ≡ self.now.zone }
     {
-        self.zone
+        &self.zone
     }
 
     /// The points, in file order.
@@ -134,4 +131,26 @@ impl Building {
     {
         permit_for(self.find_point(&content.point), panel, content)
     }
+}
+
+/// The building of the sections before the schedules, and of these.
+fn with_schedules(
+    alloc: Global,
+    top: TopTable<'_>,
+    points: Roster<Point>,
+    panels: Roster<Panel>,
+    calendars: Roster<NamedCalendar>,
+) -> Result<Building, BuildingFault>
+    requires points { IsTrue (list_all is_sound_point points) }
+    requires panels { IsTrue (list_all (is_sound_panel points) panels) }
+    ensures { Answers (with_schedules (top_of top.entry) points panels calendars) (result_map contents_of result) }
+{
+    let schedules = schedules_in(alloc, &points, &calendars, top.schedules)?;
+    Ok(Building {
+        zone: top.zone,
+        points,
+        panels,
+        calendars,
+        schedules,
+    })
 }
