@@ -1,5 +1,5 @@
 -- Of a file that is too long its first bytes tell so.
-use Rattle.std.proofs.Common.{◌≡◌, ◌∙◌, ℕ, ◌<◌, true, false, List, [], ◌++◌, length, take, nat_le, Option, Some, IfSome, option_map, Result, Ok, Err, refl, sym, ap, ap₂, subst, arith}
+use Rattle.std.proofs.Common.{◌≡◌, ◌∙◌, ℕ, ◌<◌, true, false, List, [], ◌++◌, length, take, nat_le, Option, Some, IfSome, option_map, Ok, Err, refl, sym, ap, ap₂, subst, arith}
 use Rattle.std.proofs.lemmas.Bool.{leb-false, leb-true}
 use Rattle.std.proofs.lemmas.List.{length-take-le, take_all}
 use Rattle.building.specs.BuildingFile.{Contents, building_of, longest_file, tree_of}
