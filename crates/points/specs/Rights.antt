@@ -41,4 +41,5 @@ breaks points panel content OutsideKind = option_map_or (λ point. is_outside po
 
 -- the least rule against the content
 unfoldable pub rule_of : List Point → Panel → Content → Option Rule
-rule_of points panel content = find (breaks points panel content) (NoSuchPoint ∷ NotGranted ∷ NoSuchPriority ∷ ReservedPriority ∷ PriorityNotGranted ∷ OutsideKind ∷ [])
+rule_of points panel content = find (breaks points panel content)
+    (NoSuchPoint ∷ NotGranted ∷ NoSuchPriority ∷ ReservedPriority ∷ PriorityNotGranted ∷ OutsideKind ∷ [])

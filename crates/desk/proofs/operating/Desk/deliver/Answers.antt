@@ -34,7 +34,8 @@ returns-in-Command-clause-delivers g c = λ earlier honest held.
     let before = c.deliver_command.ensures.goes.honest honest in
     let next_is = next-held b earlier panel.name c.panel-name.result.now c.in_ok-next.next _ (sym name) held (c.in_ok-next.ensures.value before) in
     let whole : to_z w64 (of_z w64 c.in-Command.number) ≡ c.in-Command.number = search rules in
-    let delivered = subst (λ z. Delivers b earlier (Command panel.name z c.in-Command.content) c.deliver_command.result (g.S.Store.standing c.deliver_command.new.store)) whole
+    let delivered = subst (λ z. Delivers b earlier (Command panel.name z c.in-Command.content) c.deliver_command.result
+        (g.S.Store.standing c.deliver_command.new.store)) whole
     (c.deliver_command.ensures.delivers earlier next_is honest (c.in_ok-next.ensures.reads.kept before (λ e. cc) ∙ held)) in
     let same : Command panel.name c.in-Command.number c.in-Command.content ≡ c.args.delivery.now =
     ap (λ p. Command p c.in-Command.number c.in-Command.content) (name ∙ (c.panel-name.ensures ∙ ap panel_of c.in-Command.is)) ∙ sym c.in-Command.is in
