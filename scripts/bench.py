@@ -1,11 +1,13 @@
 """Measures the desk: lines a second of `desk replay`, its peak memory, and how both grow.
 
-Writes a building of 20 panels, one of the largest size, and lists of in-order commands to them into
-build/bench, replays each list five times and takes the fastest run. Where valgrind is installed it counts
-instructions too, which come out the same however busy the machine is.
+Writes a building of 20 panels, one of the largest size, and lists of deliveries to them into build/bench,
+replays each list five times and takes the fastest run. A list is of commands in order, or it came over a lossy
+network: with repeats, numbers out of order, gaps that are filled late, skips, other contents and far numbers.
+Where valgrind is installed it counts instructions too, which come out the same however busy the machine is.
 """
 import os
 import pathlib
+import random
 import re
 import resource
 import shutil
@@ -55,6 +57,40 @@ class Building:
                     f'"priority":8,"value":{value}}}\n'
                 )
 
+    def command(self, panel, number, other=False):
+        """The line of a panel's command: its content is told by its number, but for another one."""
+        points = self.granted_to(panel)
+        value = 500 + (number * 7 + other) % 3001
+        return (
+            f'{{"number":{number},"panel":"PANEL-{panel + 1}","point":"ROOM-{points[number % len(points)]}",'
+            f'"priority":8,"value":{value}}}\n'
+        )
+
+    def lossy_lines(self, rng, panel, first):
+        """What a panel sends of ten numbers from one on, as a lossy network brings it."""
+        numbers = list(range(first, first + 10))
+        if rng.random() < 0.3:
+            rng.shuffle(numbers)
+        lost = rng.choice(numbers) if rng.random() < 0.2 else None
+        lines = [self.command(panel, number) for number in numbers if number != lost]
+        lines += [self.command(panel, max(1, first - rng.randint(1, 1500))) for _ in range(3)]
+        lines.append(self.command(panel, max(1, first - rng.randint(1, 900)), other=True))
+        lines.append(self.command(panel, first + rng.randint(64, 10**6)))
+        if lost is not None and rng.random() < 0.5:
+            return lines + [f'{{"panel":"PANEL-{panel + 1}","skip":{first + 10}}}\n']
+        return lines + [self.command(panel, lost)] if lost is not None else lines
+
+    def write_lossy(self, path, count):
+        rng, written = random.Random(count), 0
+        with open(path, "w") as out:
+            for first in range(1, 10**9, 10):
+                for panel in range(self.panels):
+                    lines = self.lossy_lines(rng, panel, first)
+                    out.writelines(lines[: count - written])
+                    written += len(lines)
+                    if written >= count:
+                        return
+
 
 USUAL = Building(panels=20, points=40, granted=40)
 LARGEST = Building(panels=200, points=1_000, granted=20)
@@ -81,24 +117,27 @@ def replay(building, deliveries):
     return float(seconds), int(peak)
 
 
-def written(building, size):
-    """The paths of the building and of a list of so many commands to it."""
+def written(building, size, lossy):
+    """The paths of the building and of a list of so many deliveries to it."""
     file = FOLDER / f"{building.points}-points.toml"
-    deliveries = FOLDER / f"{building.points}-points-{size}.jsonl"
+    deliveries = FOLDER / f"{building.points}-points-{size}{'-lossy' * lossy}.jsonl"
     building.write(file)
-    building.write_commands(deliveries, size)
+    if lossy:
+        building.write_lossy(deliveries, size)
+    else:
+        building.write_commands(deliveries, size)
     return str(file), str(deliveries)
 
 
-def measure(building, size):
-    """The fastest of some runs of a list of so many commands: its seconds and peak kilobytes."""
-    file, deliveries = written(building, size)
+def measure(building, size, lossy=False):
+    """The fastest of some runs of a list of so many deliveries: its seconds and peak kilobytes."""
+    file, deliveries = written(building, size, lossy)
     return min(replay(file, deliveries) for _ in range(RUNS))
 
 
-def instructions(building, size):
-    """The instructions of one run of a list of so many commands."""
-    file, deliveries = written(building, size)
+def instructions(building, size, lossy=False):
+    """The instructions of one run of a list of so many deliveries."""
+    file, deliveries = written(building, size, lossy)
     run = subprocess.run(
         ["valgrind", "--tool=callgrind", "--callgrind-out-file=/dev/null", str(ROOT / "build" / "desk")]
         + ["replay", file, deliveries],
@@ -117,12 +156,11 @@ def show_seconds():
         growth = "" if earlier is None else f", {seconds / earlier:.2f} times the time for twice the lines"
         print(f"{size} lines: {size / seconds:,.0f} lines a second, {peak / 1024:.0f} MB at most{growth}")
         earlier = seconds
-    size = SIZES[-1]
-    seconds, peak = measure(LARGEST, size)
-    print(
-        f"{size} lines to {LARGEST.panels} panels and {LARGEST.points} points: "
-        f"{size / seconds:,.0f} lines a second, {peak / 1024:.0f} MB at most"
-    )
+    to_largest = f"to {LARGEST.panels} panels and {LARGEST.points} points"
+    for size, lossy in ((SIZES[-1], False), (SIZES[0], True), (SIZES[1], True), (SIZES[2], True)):
+        seconds, peak = measure(LARGEST, size, lossy)
+        told = f"{size / seconds:,.0f} lines a second, {peak / 1024:.0f} MB at most"
+        print(f"{size} lines {to_largest}{', over a lossy network' * lossy}: {told}")
 
 
 def show_instructions():
@@ -132,9 +170,10 @@ def show_instructions():
         growth = "" if earlier is None else f", {count / earlier:.2f} times as many for twice the lines"
         print(f"{size} lines: {count / size:,.0f} instructions a line{growth}")
         earlier = count
-    size = COUNTED[0]
-    count = instructions(LARGEST, size)
-    print(f"{size} lines to {LARGEST.panels} panels and {LARGEST.points} points: {count / size:,.0f} instructions a line")
+    to_largest = f"to {LARGEST.panels} panels and {LARGEST.points} points"
+    for size, lossy in ((COUNTED[0], False), (COUNTED[0], True), (COUNTED[1], True)):
+        count = instructions(LARGEST, size, lossy)
+        print(f"{size} lines {to_largest}{', over a lossy network' * lossy}: {count / size:,.0f} instructions a line")
 
 
 def main():
