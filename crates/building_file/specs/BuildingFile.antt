@@ -6,7 +6,7 @@ use Rattle.toml.specs.Data.{Data, Items, no_items, Members, as_array, as_table, 
 use Rattle.toml.specs.Parse.{parse_document}
 use Rattle.points.specs.declared.Panel.{Panel}
 use Rattle.points.specs.declared.Point.{Point}
-use Rattle.deliveries.specs.declared.Building.{Building}
+use Rattle.building.specs.Building.{Building}
 use Rattle.building_file.specs.DistinctNames.{are_distinct}
 use Rattle.building_file.specs.PanelTable.{panel_at}
 use Rattle.building_file.specs.PointTable.{point_at}

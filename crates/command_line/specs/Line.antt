@@ -14,6 +14,10 @@ use Rattle.command_line.specs.declared.line.Line.TheVariants as line
 abbrev pub needed_rule : Text → Rule
 needed_rule id = record (new_rule id) { required = true; value_names = 1 }
 
+-- `check FILE`
+abbrev pub check_app : App
+check_app = with_rule (new_app (codes "check")) (needed_rule (codes "file"))
+
 -- `replay FILE DELIVERIES`
 abbrev pub replay_app : App
 replay_app =
@@ -22,17 +26,22 @@ replay_app =
 
 -- `desk`, which needs a subcommand
 abbrev pub desk_app : App
-desk_app = with_subcommand
-    (on_top (λ s. record s { subcommand_required = true }) (new_app (codes "desk"))) replay_app.top
+desk_app = with_subcommand (with_subcommand
+    (on_top (λ s. record s { subcommand_required = true }) (new_app (codes "desk"))) check_app.top) replay_app.top
 
 -- ---- what they ask
 
 -- what a line asks, with the texts that it names
 pub data Asked : Type 0 where
+  Check : (file : Text) → Asked
   Replay : (file : Text) → (deliveries : Text) → Asked
 
 abbrev pub asked_of : Line → Asked
+asked_of (line.Check file) = Check file.now
 asked_of (line.Replay file deliveries) = Replay file.now deliveries.now
+
+abbrev pub check_in : List Row → Option Asked
+check_in rows = option_map Check (first_of (codes "file") rows)
 
 abbrev pub replay_in : List Row → Option Asked
 replay_in rows = option_and_then (λ file. option_map (λ deliveries. Replay file deliveries)
@@ -40,7 +49,9 @@ replay_in rows = option_and_then (λ file. option_map (λ deliveries. Replay fil
 
 -- what a subcommand's name and the rows of its arguments ask
 abbrev pub asked_in : Text × List Row → Option Asked
-asked_in (name, rows) = if bytes_eq name (codes "replay") then replay_in rows else None
+asked_in (name, rows) =
+    if bytes_eq name (codes "check") then check_in rows
+    else (if bytes_eq name (codes "replay") then replay_in rows else None)
 
 -- what the words ask, the program's name first
 abbrev pub asked : List Text → Option Asked

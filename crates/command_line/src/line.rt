@@ -6,8 +6,8 @@ ghost use Rattle.clap.specs.Words.{HasKind, Kinds, app_of, fault_of, first_of, f
 ghost use Rattle.clap.specs.Words.{rows_of, rule_of, subcommand_rows_of};
 ghost use Rattle.clap.specs.declared.builder.command.Command.TheViews.{out-Command as fields_of};
 ghost use Rattle.command_line.specs.ArgFault.{IsRefusedBy};
-ghost use Rattle.command_line.specs.Line.{asked, asked_in, asked_of, desk_app, needed_rule, replay_app};
-ghost use Rattle.command_line.specs.Line.{replay_in};
+ghost use Rattle.command_line.specs.Line.{asked, asked_in, asked_of, check_app, check_in, desk_app};
+ghost use Rattle.command_line.specs.Line.{needed_rule, replay_app, replay_in};
 
 use crate::ArgFault;
 use clap::error::ErrorKind;
@@ -17,6 +17,11 @@ use std::alloc::{AllocError, Global};
 /// What the words of a command line ask of the program.
 #[derive(Clone, Copy, Debug)]
 pub enum Line<'a> {
+    /// `check FILE`: reads the building of the file, and tells what it has.
+    Check {
+        /// The path of the building file.
+        file: &'a str,
+    },
     /// `replay FILE DELIVERIES`: runs the deliveries over the building of the file, in memory.
     Replay {
         /// The path of the building file.
@@ -52,7 +57,18 @@ fn desk_command<'a>(alloc: Global) -> Result<Command<'a>, AllocError>
     Command::new(alloc, "desk")
         .about("The operating desk of a building: BACnet schedules and command priorities")
         .subcommand_required(true)
+        .subcommand(check_command(alloc)?)?
         .subcommand(replay_command(alloc)?)
+}
+
+/// The subcommand `check FILE`.
+fn check_command<'a>(alloc: Global) -> Result<Command<'a>, AllocError>
+    ensures app { IfOk result (λ c. app_of c ≡ check_app) }
+    ensures local { IfOk result (λ c. (fields_of c).has_globals ≡ false) }
+{
+    Command::new(alloc, "check")
+        .about("Reads a building, and tells what it has or its first fault")
+        .arg(file_argument(alloc))
 }
 
 /// The subcommand `replay FILE DELIVERIES`.
@@ -94,9 +110,18 @@ fn line_in<'a>(matches: &ArgMatches<'a>) -> Option<Line<'a>>
 {
     let (name, inner) = matches.subcommand()?;
     match name {
+        "check" => check_line(inner),
         "replay" => replay_line(inner),
         _ => None,
     }
+}
+
+/// What the arguments of `check` ask.
+fn check_line<'a>(matches: &ArgMatches<'a>) -> Option<Line<'a>>
+    ensures { option_map asked_of result ≡ check_in (rows_of (found_of matches.now)) }
+{
+    let file = text_at(matches, "file")?;
+    Some(Line::Check { file })
 }
 
 /// What the arguments of `replay` ask.

@@ -12,7 +12,7 @@ use Rattle.store.specs.Change.{with_each, with_row}
 use Rattle.store.specs.Tables.{Text}
 use Rattle.window.specs.declared.numbered_content.NumberedContent.{NumberedContent}
 use Rattle.window.specs.Taken.{content_in}
-use Rattle.deliveries.specs.declared.building.Building.{Building}
+use Rattle.building.specs.Building.{Building}
 use Rattle.deliveries.specs.Events.{events_of}
 use Rattle.deliveries.specs.Machine.{Machine, Command, answer_to, places_after, run, step}
 use Rattle.deliveries.specs.Moved.{answered_rows, places_after_each}

@@ -27,7 +27,7 @@ use Rattle.window.proofs.AppliedLemmas.{content_in-applied, content_at-take_acce
 use Rattle.window.proofs.FrontLemmas.{IsFront-front, front-take}
 use Rattle.window.proofs.PlanLemmas.{accepts-front}
 use Rattle.window.proofs.VerdictLemmas.{at_front-applies}
-use Rattle.deliveries.specs.declared.building.Building.{Building}
+use Rattle.building.specs.Building.{Building}
 use Rattle.deliveries.specs.declared.delivery.Delivery.{Delivery}
 use Rattle.deliveries.specs.Accepted.{panel_of, taken_by}
 use Rattle.deliveries.specs.Events.{events_of, machine}

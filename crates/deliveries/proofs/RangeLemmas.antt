@@ -17,7 +17,7 @@ use Rattle.window.specs.Taken as asks
 use Rattle.window.proofs.AppliedLemmas.{content_at-take_command, content_at-take_skip}
 use Rattle.window.proofs.FrontLemmas.{IsFront-front, take-accepted, take-refused}
 use Rattle.window.proofs.PlanLemmas.{take-skip_accepted, take-skip_refused}
-use Rattle.deliveries.specs.declared.building.Building.{Building}
+use Rattle.building.specs.Building.{Building}
 use Rattle.deliveries.specs.declared.delivery.Delivery.{Delivery}
 use Rattle.deliveries.specs.declared.delivery.Delivery.TheVariants as delivery_of
 use Rattle.deliveries.specs.Accepted.{ask_command, ask_skip, asked, asks_of, listed, number_upto, panel_named, panel_of, taken_by}

@@ -18,7 +18,7 @@ use Rattle.window.specs.View.{kept_at}
 use Rattle.window.specs.Window.{remembered}
 use Rattle.window.proofs.AppliedLemmas.{content_in-applied, content_in-applied-below, content_in-applied-past}
 use Rattle.window.proofs.FrontLemmas.{IsFront-front, front-take}
-use Rattle.deliveries.specs.declared.building.Building.{Building}
+use Rattle.building.specs.Building.{Building}
 use Rattle.deliveries.specs.Events.{events_of}
 use Rattle.deliveries.specs.Machine.{Machine, run}
 use Rattle.deliveries.specs.Moved.{answered_rows, parked_rows}

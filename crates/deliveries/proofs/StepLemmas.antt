@@ -14,7 +14,7 @@ use Rattle.window.specs.Plan.{Plans}
 use Rattle.window.specs.Taken as asks
 use Rattle.window.specs.View.{Keeps, kept_at, content_of_row}
 use Rattle.window.proofs.PlanLemmas.{applied-same_front}
-use Rattle.deliveries.specs.declared.building.Building.{Building}
+use Rattle.building.specs.Building.{Building}
 use Rattle.deliveries.specs.declared.delivery.Delivery.{Delivery}
 use Rattle.deliveries.specs.declared.reply.Reply.TheVariants as answer_of
 use Rattle.deliveries.specs.Accepted.{asked, asks_of, listed, panel_named, panel_of, taken_by}

@@ -6,7 +6,7 @@ use Rattle.points.specs.declared.panel.Panel.{Panel}
 use Rattle.store.specs.Tables.{Text}
 use Rattle.window.specs.declared.TheConstants.{LAST_NUMBER}
 use Rattle.window.specs.Taken as asks
-use Rattle.deliveries.specs.declared.building.Building.{Building}
+use Rattle.building.specs.Building.{Building}
 use Rattle.deliveries.specs.declared.delivery.Delivery.{Delivery}
 use Rattle.deliveries.specs.declared.delivery.Delivery.TheVariants.{Command, Skip}
 

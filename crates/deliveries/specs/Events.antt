@@ -2,7 +2,7 @@ use Rattle.std.specs.Prelude.{List, [], ◌∷◌, ◌++◌, map}
 use Rattle.store.specs.Tables.{Text}
 use Rattle.window.specs.declared.numbered_content.NumberedContent.{NumberedContent}
 use Rattle.window.specs.Applied.{applied}
-use Rattle.deliveries.specs.declared.building.Building.{Building}
+use Rattle.building.specs.Building.{Building}
 use Rattle.deliveries.specs.declared.delivery.Delivery.{Delivery}
 use Rattle.deliveries.specs.Accepted.{panel_of, taken_by}
 use Rattle.deliveries.specs.Machine.{Event, Command, Machine, opening_machine, run}

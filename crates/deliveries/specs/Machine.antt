@@ -9,7 +9,7 @@ use Rattle.points.specs.declared.rule.Rule.{Rule}
 use Rattle.points.specs.declared.rule.Rule.TheVariants.{NoSuchPoint}
 use Rattle.points.specs.PriorityArray.{Places, put, present_of}
 use Rattle.points.specs.Rights.{rule_of, point_named}
-use Rattle.deliveries.specs.declared.building.Building.{Building}
+use Rattle.building.specs.Building.{Building}
 use Rattle.store.specs.Tables.{Text}
 use Rattle.deliveries.specs.Accepted.{panel_named}
 

@@ -11,7 +11,7 @@ use Rattle.store.specs.Tables.{Tables, Text}
 use Rattle.window.specs.declared.numbered_content.NumberedContent.{NumberedContent}
 use Rattle.window.specs.declared.plan.Plan.{Plan}
 use Rattle.window.specs.Window.{remembered}
-use Rattle.deliveries.specs.declared.building.Building.{Building}
+use Rattle.building.specs.Building.{Building}
 use Rattle.deliveries.specs.Machine.{answer_to, places_after}
 
 -- the places after commands of a panel

@@ -7,7 +7,7 @@ use Rattle.window.specs.declared.verdict.Verdict.TheVariants as verdict
 use Rattle.window.specs.Taken as asks
 use Rattle.window.specs.Verdict.{verdict_of}
 use Rattle.window.specs.View.{row_asked}
-use Rattle.deliveries.specs.declared.building.Building.{Building}
+use Rattle.building.specs.Building.{Building}
 use Rattle.deliveries.specs.declared.delivery.Delivery.{Delivery}
 use Rattle.deliveries.specs.declared.delivery.Delivery.TheVariants.{Command, Skip}
 use Rattle.deliveries.specs.declared.reply.Reply.{Reply}

@@ -6,7 +6,7 @@ use Rattle.points.specs.declared.content.Content.{Content}
 use Rattle.store.specs.Tables.{Tables}
 use Rattle.window.specs.Taken.{Taken, front}
 use Rattle.window.specs.View.{kept_at}
-use Rattle.deliveries.specs.declared.building.Building.{Building}
+use Rattle.building.specs.Building.{Building}
 use Rattle.deliveries.specs.declared.delivery.Delivery.{Delivery}
 use Rattle.deliveries.specs.Accepted.{taken_by}
 use Rattle.deliveries.specs.Events.{machine}

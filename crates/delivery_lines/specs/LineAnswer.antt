@@ -4,7 +4,7 @@ use Rattle.std.specs.declared.alloc.Global.{Global}
 use Rattle.store.specs.declared.StoreFault.{StoreFault}
 use Rattle.store.specs.declared.StoreFault.TheVariants.{BadRow, Failed, NoMemory, Shut}
 use Rattle.store.specs.Standing.{Standing}
-use Rattle.deliveries.specs.declared.Building.{Building}
+use Rattle.building.specs.Building.{Building}
 use Rattle.deliveries.specs.declared.Delivery.{Delivery}
 use Rattle.deliveries.specs.Reply.{reply}
 use Rattle.desk.specs.Headline.{Holds, LeavesEither}

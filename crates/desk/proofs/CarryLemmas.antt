@@ -11,7 +11,7 @@ use Rattle.store.specs.Tables.{Tables, Text}
 use Rattle.store.proofs.ReadLemmas.{Commits-then}
 use Rattle.window.specs.declared.numbered_content.NumberedContent.{NumberedContent}
 use Rattle.window.specs.declared.plan.Plan.{Plan}
-use Rattle.deliveries.specs.declared.building.Building.{Building}
+use Rattle.building.specs.Building.{Building}
 use Rattle.deliveries.specs.Moved.{answered_rows, first_answer, moved, parked_rows, places_after_each}
 use Rattle.desk.specs.declared.acting.Acted.{Acted}
 use Rattle.desk.specs.Carried.{Becomes, Carries, IsChangeOf, first_told}

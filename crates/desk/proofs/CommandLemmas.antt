@@ -12,7 +12,7 @@ use Rattle.std.proofs.lemmas.Bool.{cases_Bool}
 use Rattle.std.proofs.lemmas.Slice.Eq.{bytes_eq-Decides}
 use Rattle.points.specs.PriorityArray.{Places, present_of, put}
 use Rattle.points.specs.Rights.{breaks, rule_of, names_no_place}
-use Rattle.deliveries.specs.declared.building.Building.{Building}
+use Rattle.building.specs.Building.{Building}
 use Rattle.deliveries.specs.Accepted.{panel_named}
 use Rattle.store.specs.Tables.{Text}
 use Rattle.desk.specs.Written.{places_at, written}

@@ -24,7 +24,7 @@ use Rattle.window.specs.Plan.{Plans, parked_by}
 use Rattle.window.specs.Taken as asks
 use Rattle.window.specs.View.{row_asked}
 use Rattle.window.proofs.PlanLemmas.{applied-same_front}
-use Rattle.deliveries.specs.declared.building.Building.{Building}
+use Rattle.building.specs.Building.{Building}
 use Rattle.deliveries.specs.declared.delivery.Delivery.{Delivery}
 use Rattle.deliveries.specs.Accepted.{panel_named, panel_of, taken_by}
 use Rattle.deliveries.specs.Moved.{first_answer, moved}

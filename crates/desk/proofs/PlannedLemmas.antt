@@ -12,7 +12,7 @@ use Rattle.window.specs.Plan.{Plans}
 use Rattle.window.specs.RunNeeded.{run_behind, run_over}
 use Rattle.window.specs.Taken as asks
 use Rattle.window.specs.View.{IsRunNeeded, Shows}
-use Rattle.deliveries.specs.declared.building.Building.{Building}
+use Rattle.building.specs.Building.{Building}
 use Rattle.deliveries.specs.declared.delivery.Delivery.{Delivery}
 use Rattle.deliveries.specs.declared.delivery.Delivery.TheVariants as delivery_of
 use Rattle.deliveries.specs.Accepted.{ask_command, ask_skip, asks_of, number_upto, taken_by}

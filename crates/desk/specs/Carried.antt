@@ -19,7 +19,7 @@ use Rattle.window.specs.declared.numbered_content.NumberedContent.{NumberedConte
 use Rattle.window.specs.declared.plan.Plan.{Plan}
 use Rattle.window.specs.declared.TheConstants.{LAST_NUMBER}
 use Rattle.window.specs.Window.{remembered}
-use Rattle.deliveries.specs.declared.building.Building.{Building}
+use Rattle.building.specs.Building.{Building}
 use Rattle.deliveries.specs.Moved.{first_answer, moved, parked_rows}
 use Rattle.desk.specs.declared.acting.Acted.{Acted}
 

@@ -4,7 +4,7 @@ use Rattle.window.specs.declared.plan.Plan.{Plan}
 use Rattle.window.specs.Plan.{Plans}
 use Rattle.window.specs.Taken.{Ask, front}
 use Rattle.window.specs.View.{row_asked}
-use Rattle.deliveries.specs.declared.building.Building.{Building}
+use Rattle.building.specs.Building.{Building}
 use Rattle.deliveries.specs.declared.delivery.Delivery.{Delivery}
 use Rattle.deliveries.specs.Accepted.{asked, panel_of, taken_by}
 use Rattle.deliveries.specs.Reply.{number_told}

@@ -8,7 +8,7 @@ use Rattle.store.specs.declared.change.KeptRow.{KeptRow}
 use Rattle.store.specs.declared.change.PlaceValue.{PlaceValue}
 use Rattle.store.specs.Change.{with_each, with_place}
 use Rattle.store.specs.Tables.{Text}
-use Rattle.deliveries.specs.declared.building.Building.{Building}
+use Rattle.building.specs.Building.{Building}
 use Rattle.deliveries.specs.Machine.{answer_to, places_after}
 use Rattle.desk.specs.declared.acting.Acted.{Acted}
 use Rattle.window.specs.declared.numbered_content.NumberedContent.{NumberedContent}

@@ -14,7 +14,7 @@ ghost use Rattle.store.specs.Standing.{IsOpen, Reads};
 ghost use Rattle.store.specs.Tables.{Text};
 ghost use Rattle.desk.specs.Written.{Acts, places_at, written};
 
-use deliveries::Building;
+use building::Building;
 use points::{Answer, CommandRow, CommandState, Content, Name, Panel, PriorityArray};
 use std::alloc::Global;
 use store::{KeptRow, PlaceValue, Store, StoreFault};

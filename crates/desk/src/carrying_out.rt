@@ -12,7 +12,7 @@ ghost use Rattle.desk.specs.Carried.{Carries, IsChangeOf, IsInRange, first_told,
 ghost use Rattle.window.specs.declared.TheConstants.{LAST_NUMBER};
 
 use crate::acting::{Acted, act_on_each};
-use deliveries::Building;
+use building::Building;
 use points::{Answer, CommandRow, CommandState, Name, Panel, Rule};
 use std::alloc::{AllocError, Global};
 use store::{Change, KeptRow, NextNumber, RowsBelow, Store, StoreFault};

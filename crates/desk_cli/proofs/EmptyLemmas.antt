@@ -6,7 +6,7 @@ use Rattle.points.specs.declared.Content.{Content}
 use Rattle.store.specs.Memory.{no_tables}
 use Rattle.window.specs.Taken.{front}
 use Rattle.window.specs.Window.{remembered}
-use Rattle.deliveries.specs.declared.Building.{Building}
+use Rattle.building.specs.Building.{Building}
 use Rattle.deliveries.specs.Events.{machine}
 use Rattle.deliveries.specs.Accepted.{taken_by}
 use Rattle.deliveries.specs.Tables.{row_of, tables}

@@ -6,7 +6,7 @@ use Rattle.std.specs.Str.{bytes_eq}
 use Rattle.std.specs.Io.KnownBytes.{Appends, Keeps}
 use Rattle.points.specs.declared.Point.{Point}
 use Rattle.points.specs.Rights.{point_named}
-use Rattle.deliveries.specs.declared.Building.{Building}
+use Rattle.building.specs.Building.{Building}
 use Rattle.deliveries.specs.declared.Delivery.{Delivery}
 use Rattle.desk.specs.declared.PointState.{PointState}
 use Rattle.deliveries.specs.declared.Reply.{Reply}

@@ -16,7 +16,7 @@ use crate::point_line::point_line;
 use crate::replay_fault::ReplayFault;
 use crate::{Input, Listed, Status};
 use building_file::{LONGEST_FILE, read_building};
-use deliveries::Building;
+use building::Building;
 use delivery_lines::{LineFault, answer_line};
 use desk::Desk;
 use points::Name;

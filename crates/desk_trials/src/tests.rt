@@ -1,5 +1,6 @@
 //! A run of a list of deliveries, with ample memory.
-use deliveries::{Building, Delivery, Reply};
+use building::Building;
+use deliveries::{Delivery, Reply};
 use desk::Desk;
 use points::{Answer, Content, Kind, Listing, Name, Panel, Point, Rule};
 use std::alloc::Global;

@@ -2,3 +2,4 @@ pub mod PlacesLemmas
 pub mod ContentLemmas
 pub mod RunLemmas
 pub mod NameLemmas
+pub mod NamesLemmas

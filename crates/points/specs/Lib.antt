@@ -3,6 +3,7 @@ pub mod Kind
 pub mod Name
 pub mod NameFaultText
 pub mod NameHeld
+pub mod Names
 pub mod Numbered
 pub mod PriorityArray
 pub mod Rights

@@ -114,14 +114,12 @@ impl Name {
     }
 
     /// The name as text.
+    #[tactic(auto, using(crate::proofs::NameLemmas::name_is_utf8))]
     pub fn as_str(&self) -> &str
         ensures text { result.now ≡ self.now }
         ensures is_name { IsName self.now }
     {
-        match str::from_utf8(self.as_bytes()) {
-            Ok(text) => text,
-            Err(_) => "",
-        }
+        unsafe { str::from_utf8_unchecked(self.as_bytes()) }
     }
 }
 

@@ -1,5 +1,5 @@
 use Rattle.std.proofs.Common.{◌≡◌, ◌∙◌, ◌++◌, ℕ, List, subst, sym, ap, rules, arith}
-use Rattle.deliveries.specs.declared.Building.{Building}
+use Rattle.building.specs.Building.{Building}
 use Rattle.deliveries.specs.Tables.{tables}
 use Rattle.store.specs.Standing.{sound}
 use Rattle.desk_cli.proofs.ReplayLemmas.{Progress-end, Progress-line, Progress-start, Prints-same}

@@ -1,7 +1,7 @@
 use Rattle.std.proofs.Common.{◌≡◌, ◌∙◌, ◌++◌, ◌∷◌, ◌+◌, [], None, take, sym, ap, subst, arith, Ok, Err}
 use Rattle.std.proofs.lemmas.List.{take_more}
 use Rattle.store.proofs.ReadLemmas.{stays_open}
-use Rattle.deliveries.specs.declared.building.Building.{Building}
+use Rattle.building.specs.Building.{Building}
 use Rattle.deliveries.specs.declared.delivery.Delivery.{Delivery}
 use Rattle.desk.specs.Headline.{Delivers, Holds}
 use Rattle.desk.proofs.RunLemmas.{ends-failed, run-more, Stands-after}

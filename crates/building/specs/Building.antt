@@ -1,0 +1,38 @@
+-- A building, and what holds of one that was read.
+use Rattle.std.specs.Prelude.{IsTrue, List}
+use Rattle.std.specs.List.{list_all}
+use Rattle.jiff_tz.specs.declared.timezone.TimeZone.{TimeZone}
+use Rattle.device_tables.specs.PanelTable.{is_sound_panel}
+use Rattle.device_tables.specs.PointTable.{is_sound_point}
+use Rattle.points.specs.declared.Panel.{Panel}
+use Rattle.points.specs.declared.Point.{Point}
+use Rattle.schedule_tables.specs.declared.named_calendar.NamedCalendar.{NamedCalendar}
+use Rattle.schedule_tables.specs.declared.named_schedule.NamedSchedule.{NamedSchedule}
+use Rattle.schedule_tables.specs.ScheduleTable.{is_sound_schedule}
+use Rattle.zone_rules.specs.ZoneRule.{rule_text}
+use Rattle.building.specs.BuildingFile.{Contents}
+
+-- the rule of its time zone, and its lists in file order
+pub record Building : Type 0 where
+  pub zone : TimeZone
+  pub points : List Point
+  pub panels : List Panel
+  pub calendars : List NamedCalendar
+  pub schedules : List NamedSchedule
+
+-- the same, with what the rule of the time zone says
+abbrev pub contents_of : Building → Contents
+contents_of b = record {
+  zone = rule_text b.zone;
+  points = b.points;
+  panels = b.panels;
+  calendars = b.calendars;
+  schedules = b.schedules;
+}
+
+-- defaults lie in their kinds; what panels and schedules name exists, and what a schedule may write lies in
+-- the kind of each of its points; nothing is written at 6
+pub record IsSound (points : List Point) (panels : List Panel) (calendars : List NamedCalendar) (schedules : List NamedSchedule) : Type 0 where
+  pub sound_points : IsTrue (list_all is_sound_point points)
+  pub sound_panels : IsTrue (list_all (is_sound_panel points) panels)
+  pub sound_schedules : IsTrue (list_all (is_sound_schedule points calendars) schedules)

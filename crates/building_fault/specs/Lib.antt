@@ -1,0 +1,4 @@
+pub mod Answers
+pub mod FaultAt
+pub mod FaultLine
+pub mod Steps

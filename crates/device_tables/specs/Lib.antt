@@ -1,0 +1,2 @@
+pub mod PanelTable
+pub mod PointTable

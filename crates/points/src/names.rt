@@ -1,0 +1,69 @@
+//! Lists of names that are searched by an index.
+ghost use Rattle.std.specs.Prelude.{◌≡◌, not, [], ◌∷◌, ◌++◌, if◌then◌else◌, IfOk, OnErr, position};
+ghost use Rattle.std.specs.List.{list_any};
+ghost use Rattle.std.specs.Str.{bytes_eq};
+ghost use Rattle.points.specs.Names.{is_among};
+
+use crate::name::Name;
+use indexmap::IndexSet;
+use std::alloc::{AllocError, Global};
+use std::marker::Model;
+
+/// Names, each once, in the order in which they came. One is found by an index, in about the same time
+/// whatever their number. Contracts see the list.
+#[derive(Debug, Drop)]
+pub struct Names {
+    names: IndexSet<Name>,
+}
+
+impl Model for Names {
+    ghost use Rattle.std.specs.Prelude.{List, ℕ};
+
+    ghost Value = { List (List ℕ) };
+
+    ghost view = { λ names. names.names.keys };
+}
+
+impl Names {
+    /// No names.
+    pub fn new(alloc: Global) -> Self
+        ensures { result ≡ [] }
+    {
+        Names {
+            names: IndexSet::new(alloc),
+        }
+    }
+
+    /// Puts a name last, unless it is there already, and tells whether it was put there.
+    #[tactic(auto, using(crate::proofs::NamesLemmas::among_turned))]
+    pub fn insert(&mut self, name: Name) -> Result<bool, AllocError>
+        ensures new { IfOk result (λ new. new ≡ not (is_among name self.old)) }
+        ensures names { IfOk result (λ new. self.new ≡ (if new then self.old ++ name ∷ [] else self.old)) }
+        ensures unchanged { OnErr result (self.new ≡ self.old) }
+    {
+        Ok(self.names.insert(name)?)
+    }
+
+    /// Whether the name is one of them.
+    #[tactic(auto, using(crate::proofs::NamesLemmas::among_turned))]
+    pub fn contains(&self, name: &Name) -> bool
+        ensures { result ≡ is_among name.now self.now }
+    {
+        self.names.contains(name)
+    }
+
+    /// The place of the name, from 0.
+    #[tactic(auto, using(crate::proofs::NamesLemmas::position_turned))]
+    pub fn position(&self, name: &Name) -> Option<usize>
+        ensures { result ≡ position (λ n. bytes_eq n name.now) self.now }
+    {
+        self.names.get_index_of(name)
+    }
+
+    /// The names as a slice.
+    pub fn as_slice(&self) -> &[Name]
+        ensures { result.now ≡ self.now }
+    {
+        self.names.as_slice()
+    }
+}

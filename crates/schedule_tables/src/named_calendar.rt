@@ -1,0 +1,20 @@
+//! Calendars of a building.
+
+use points::Name;
+use rosters::Named;
+use sched::Calendar;
+
+/// A calendar of the building, with the entries of the file (12.9).
+#[derive(Debug, Drop)]
+pub struct NamedCalendar {
+    pub name: Name,
+    pub calendar: Calendar,
+}
+
+impl Named for NamedCalendar {
+    ghost name_of = { λ calendar. calendar.name };
+
+    fn name(&self) -> &Name {
+        &self.name
+    }
+}
