@@ -1,6 +1,6 @@
 //! The building that a file names.
 
-ghost use Rattle.std.specs.Prelude.{◌≡◌, IsTrue, find, option_copied};
+ghost use Rattle.std.specs.Prelude.{◌≡◌, IsTrue, find, option_copied, position};
 ghost use Rattle.std.specs.List.{list_all};
 ghost use Rattle.std.specs.Result.{result_err};
 ghost use Rattle.std.specs.Str.{bytes_eq};
@@ -123,6 +123,20 @@ impl Building {
         ensures { option_copied result ≡ find (λ panel. bytes_eq panel.name name.now) self.now.panels }
     {
         self.panels.find(name)
+    }
+
+    /// The place of the calendar of a name, from 0.
+    pub fn calendar_place(&self, name: &Name) -> Option<usize>
+        ensures { result ≡ position (λ calendar. bytes_eq calendar.name name.now) self.now.calendars }
+    {
+        self.calendars.position(name)
+    }
+
+    /// The place of the schedule of a name, from 0.
+    pub fn schedule_place(&self, name: &Name) -> Option<usize>
+        ensures { result ≡ position (λ schedule. bytes_eq schedule.name name.now) self.now.schedules }
+    {
+        self.schedules.position(name)
     }
 
     /// Whether the panel may write the content, or the first rule against it. Takes no memory.
