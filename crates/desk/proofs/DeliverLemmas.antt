@@ -15,7 +15,7 @@ use Rattle.store.specs.declared.fault.StoreFault.{StoreFault}
 use Rattle.store.specs.declared.fault.StoreFault.TheVariants.{NoMemory, Failed, Shut, BadRow}
 use Rattle.store.specs.Change.{IsNumber}
 use Rattle.store.specs.Standing.{Content, Goes, IsOpen, Reads, Standing, sound}
-use Rattle.store.proofs.ReadLemmas.{stays_open, was_open}
+use Rattle.store.proofs.ReadLemmas.{Goes-told, stays_open, was_open}
 use Rattle.window.specs.declared.numbered_content.NumberedContent.{NumberedContent}
 use Rattle.window.specs.declared.plan.Plan.{Plan}
 use Rattle.window.specs.declared.TheConstants.{LAST_NUMBER}
@@ -129,7 +129,8 @@ module _ (b : Building) (E : List Delivery) (d : Delivery) (ask : asks.Ask) (pan
           → (content ≡ sound (tables b E)) ⊎ (content ≡ sound (tables b (E ++ d ∷ [])))
       either content (inl same) = inl (same ∙ held)
       either content (inr becomes) = inr (becomes-moved old.content content held becomes)
-  Delivers-failed Shut old new is_open carries honest held = tt
+  Delivers-failed Shut old new is_open carries honest held =
+      absurd (false≢true (sym (stays_open old old is_open.goes) ∙ carries.goes.shut.0 refl))
   Delivers-failed BadRow old new is_open carries honest held =
       absurd (false≢true (sym (carries.bad_row honest refl) ∙ ap (λ (c : Content). c.is_sound) held))
 
@@ -139,20 +140,13 @@ pub Delivers-read : (b : Building) (E : List Delivery) (d : Delivery) (fault : S
 Delivers-read b E d NoMemory old new reads honest held = reads.kept honest (λ e. cc) ∙ held
 Delivers-read b E d Failed old new reads honest held = λ content left.
     inl (reads.left honest (was_open (Some Failed) old new reads.goes (λ e. cc)) content left ∙ held)
-Delivers-read b E d Shut old new reads honest held = tt
+Delivers-read b E d Shut old new reads honest held = reads.kept honest (λ e. cc) ∙ held
 Delivers-read b E d BadRow old new reads honest held =
     absurd (false≢true (sym (reads.bad_row honest refl) ∙ ap (λ (c : Content). c.is_sound) held))
 
 -- a store that stays open and tells that a row cannot stand
 pub Goes-bad_row : (old : Standing) → IsOpen old → Goes (Some BadRow) old old
-Goes-bad_row old is_open = record {
-  honest = λ honest. honest;
-  shut = ((λ told. absurd (not_shut told)), (λ shut. absurd (false≢true (sym (stays_open old old is_open.goes) ∙ shut))));
-  goes_on = λ told. refl;
-  steady = λ told. refl;
-  failed = λ told. absurd (not_failed told);
-  settled = is_open.goes.settled;
-}
+Goes-bad_row old is_open = Goes-told BadRow old old is_open.goes not_shut not_failed
   where
     not_shut : Some BadRow ≡ Some Shut → ⊥
     not_shut e = cc

@@ -1,5 +1,6 @@
 pub mod CarryLemmas
 pub mod CommandLemmas
 pub mod DeliverLemmas
+pub mod OpeningLemmas
 pub mod PlannedLemmas
 pub mod RunLemmas

@@ -32,6 +32,10 @@ pub Stands-after : (fault : Option StoreFault) (first second third : Standing) �
 Stands-after fault first second third before after = record {
   honest = λ honest. before.honest (after.honest honest);
   shut = λ told. sym (before.goes_on (λ e. cc)) ∙ after.shut.0 told;
+  untouched = λ honest shut.
+      let earlier = before.untouched (after.honest honest) shut in
+      let later = after.untouched honest (before.goes_on (λ e. cc) ∙ shut) in
+      record { content = later.content ∙ earlier.content; leaves = λ content left. earlier.leaves content (later.leaves content left) };
   goes_on = λ told. after.goes_on told ∙ before.goes_on (λ e. cc);
   steady = λ told. after.steady told ∙ before.steady (λ e. cc);
   failed = λ told. let rises = after.failed told in (rises.0, subst (λ count. HasRisen count third.failures) (before.steady (λ e. cc)) rises.1);
@@ -57,7 +61,7 @@ ends-failed b E ds d count Failed old new within more opened goes delivered = (w
     either content (inl same) = inl same
     either content (inr same) = inr (same ∙ ap sound further)
 ends-failed b E ds d count Shut old new within more opened goes delivered = elim (zero_or count) [
-  | inl none ↦ none
+  | inl none ↦ (none, delivered ∙ ap (λ list. sound (tables b list)) (ap (λ n. E ++ take n ds) none ∙ append-nil E))
   | inr some ↦ absurd (false≢true (sym (opened some) ∙ goes.shut.0 refl))
 ]
 ends-failed b E ds d count BadRow old new within more opened goes delivered = delivered

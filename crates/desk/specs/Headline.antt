@@ -2,7 +2,7 @@ use Rattle.std.specs.Prelude.{◌≡◌, ◌⊎◌, ℕ, ◌+◌, ◌<◌, ◌�
 use Rattle.store.specs.declared.fault.StoreFault.{StoreFault}
 use Rattle.store.specs.declared.fault.StoreFault.TheVariants.{NoMemory, Failed, Shut, BadRow}
 use Rattle.std.specs.Bool.{IsTrue}
-use Rattle.store.specs.Standing.{Content, HasRisen, IsSettled, Standing, sound}
+use Rattle.store.specs.Standing.{Content, HasRisen, IsSettled, IsUntouched, Standing, sound}
 use Rattle.building.specs.Building.{Building}
 use Rattle.deliveries.specs.declared.delivery.Delivery.{Delivery}
 use Rattle.deliveries.specs.declared.reply.Reply.{Reply}
@@ -20,13 +20,13 @@ LeavesEither building before after standing = (content : Content) → standing.m
 
 -- One delivery. Answered: the reply is the definition's, and the store holds the tables of one delivery more.
 -- After a want of memory it holds what it held. After a failure it is shut, and opened again it holds the one
--- or the other. That a store was shut before says nothing more; a row that cannot stand is never met.
+-- or the other. A store that was shut before holds what it held; a row that cannot stand is never met.
 abbrev pub Delivers : Building → List Delivery → Delivery → Result Reply StoreFault → Standing → Type 0
 Delivers building earlier delivery (Ok told) now =
     (told ≡ reply building earlier delivery) × Holds building (earlier ++ delivery ∷ []) now
 Delivers building earlier delivery (Err NoMemory) now = Holds building earlier now
 Delivers building earlier delivery (Err Failed) now = LeavesEither building earlier (earlier ++ delivery ∷ []) now
-Delivers building earlier delivery (Err Shut) now = Unit {0}
+Delivers building earlier delivery (Err Shut) now = Holds building earlier now
 Delivers building earlier delivery (Err BadRow) now = ⊥
 
 -- a run of which the first `count` deliveries were answered
@@ -35,7 +35,7 @@ Ends building earlier deliveries count None now = (count ≡ length deliveries) 
 Ends building earlier deliveries count (Some NoMemory) now = (count < length deliveries) × Holds building (earlier ++ take count deliveries) now
 Ends building earlier deliveries count (Some Failed) now =
     (count < length deliveries) × LeavesEither building (earlier ++ take count deliveries) (earlier ++ take (count + 1) deliveries) now
-Ends building earlier deliveries count (Some Shut) now = count ≡ 0
+Ends building earlier deliveries count (Some Shut) now = (count ≡ 0) × Holds building earlier now
 Ends building earlier deliveries count (Some BadRow) now = ⊥
 
 -- A run: the replies are the definition's for a beginning of the list, in order; the tables are those of what
@@ -46,11 +46,12 @@ pub record Runs (building : Building) (earlier deliveries : List Delivery) (told
   pub replies_are : told ≡ replies building earlier (take count deliveries)
   pub ends : Ends building earlier deliveries count fault now
 
--- How the store stands after a run: S2 shuts it and is counted, S3 comes of a store that was shut, and a stop at
--- an open store leaves what it holds, if it was so before.
+-- How the store stands after a run: S2 shuts it and is counted; S3 comes of a store that was shut, and such a
+-- store is left untouched; a stop at an open store leaves what it holds, if it was so before.
 pub record Stands (fault : Option StoreFault) (old new : Standing) : Type 0 where
   pub honest : new.is_honest → old.is_honest
   pub shut : fault ≡ Some Shut → IsTrue old.is_shut
+  pub untouched : new.is_honest → IsTrue old.is_shut → IsUntouched old new
   pub goes_on : (fault ≡ Some Failed → ⊥) → new.is_shut ≡ old.is_shut
   pub steady : (fault ≡ Some Failed → ⊥) → new.failures ≡ old.failures
   pub failed : fault ≡ Some Failed → IsTrue new.is_shut × HasRisen old.failures new.failures

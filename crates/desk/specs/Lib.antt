@@ -1,5 +1,6 @@
 pub mod Carried
 pub mod Headline
+pub mod Opening
 pub mod Planned
 pub mod PointState
 pub mod Views

@@ -14,6 +14,7 @@ pub use point_state::PointState;
 
 mod acting;
 mod carrying_out;
+mod opening;
 mod operating;
 mod point_state;
 mod replying;

@@ -1,17 +1,20 @@
 //! The desk.
-ghost use Rattle.std.specs.Prelude.{◌≡◌, ◌+◌, ◌≤◌, List, Some, None, IfOk, IfSome};
+ghost use Rattle.std.specs.Prelude.{◌≡◌, ◌+◌, ◌≤◌, List, Some, None, IfErr, IfOk, IfSome};
 ghost use Rattle.std.specs.Result.{result_err};
 ghost use Rattle.points.specs.Rights.{point_named};
-ghost use Rattle.store.specs.Standing.{Goes, IsOpen, Reads};
+ghost use Rattle.store.specs.Memory.{no_tables};
+ghost use Rattle.store.specs.Standing.{Goes, IsOpen, Reads, sound};
 ghost use Rattle.window.specs.Taken.{Ask, front};
 ghost use Rattle.deliveries.specs.declared.delivery.Delivery.{Delivery as a_delivery};
 ghost use Rattle.deliveries.specs.declared.delivery.Delivery.TheVariants as delivery_of;
 ghost use Rattle.deliveries.specs.Accepted.{number_upto, panel_named, taken_by};
 ghost use Rattle.desk.specs.Headline.{Delivers, Holds, Runs, Stands};
+ghost use Rattle.desk.specs.Opening.{Opens};
 ghost use Rattle.desk.specs.Planned.{IsPlanned};
 ghost use Rattle.desk.specs.PointState.{state_of};
 
 use crate::carrying_out::{carry_out, is_in_range};
+use crate::opening::look_over;
 use crate::point_state::PointState;
 use crate::replying::reply_on;
 use crate::viewing::{view_for_command, view_for_skip};
@@ -120,8 +123,9 @@ pub struct Desk<S> {
 }
 
 impl<S: Store + Drop> Desk<S> {
-    /// A desk of a building over a store, which holds the tables of what was delivered so far.
+    /// A desk of a building over a store that has just been made, whose tables are empty. It reads nothing.
     pub fn new(alloc: Global, building: Building, store: S) -> Self
+        requires empty { (S.standing store).content ≡ sound no_tables }
         ensures building { result.building ≡ building }
         ensures store { result.store ≡ store }
     {
@@ -132,7 +136,26 @@ impl<S: Store + Drop> Desk<S> {
         }
     }
 
-    /// The building that `new` took.
+    /// Opens a desk of a building over a store, which holds the tables of what was delivered so far: S5 where a
+    /// name in them is not the building's, or where entries, the last tick or a next number cannot stand. The
+    /// store is only read, and is handed back with the fault.
+    pub fn open(alloc: Global, building: Building, store: S) -> Result<Desk<S>, (StoreFault, S)>
+        ensures building { IfOk result (λ desk. desk.building ≡ building) }
+        ensures opened { IfOk result (λ desk. Opens building None (S.standing store) (S.standing desk.store)) }
+        ensures refused { IfErr result (λ told. Opens building (Some told.0) (S.standing store) (S.standing told.1)) }
+    {
+        let mut store = store;
+        match look_over(&mut store, &building) {
+            Ok(()) => Ok(Desk {
+                alloc,
+                building,
+                store,
+            }),
+            Err(fault) => Err((fault, store)),
+        }
+    }
+
+    /// The building that the desk was opened with.
     pub fn building(&self) -> &Building
         ensures { result.now ≡ self.now.building }
     {

@@ -1,0 +1,135 @@
+-- Opening a desk over a store.
+use Rattle.std.proofs.Common.{◌≡◌, ℕ, suc, ◌+◌, Bool, true, false, ◌&&◌, List, [], ◌∷◌, length, Option, Some, None, is_some, nat_lt, cond, Bor}
+use Rattle.std.proofs.Common.{arith, find, position, option_copied, refl, sym, ap, ◌∙◌, inl, inr}
+use Rattle.std.specs.Bool.{IsTrue}
+use Rattle.std.specs.List.{Contains, list_all, list_any, position_or_len}
+use Rattle.std.proofs.lemmas.Bool.{cases_Bool, false≢true}
+use Rattle.std.proofs.lemmas.Bool.Decides.{nat_tests}
+use Rattle.std.proofs.lemmas.List.Elements.{All-contains, All-contains_itself, All-weaker}
+use Rattle.std.proofs.lemmas.List.Sums.{AllPass-from_list_all, list_all-from_AllPass}
+use Rattle.store.specs.declared.fault.StoreFault.{StoreFault}
+use Rattle.store.specs.declared.fault.StoreFault.TheVariants.{Failed, Shut, BadRow}
+use Rattle.store.specs.declared.names.Names.{Names}
+use Rattle.store.specs.Listed.{AreNames, AreTexts, HasCalendar, HasPanel, HasPoint, HasSchedule}
+use Rattle.store.specs.Standing.{Reads, Standing}
+use Rattle.store.specs.Tables.{Tables, Text}
+use Rattle.store.proofs.ReadLemmas.{Goes-told, Reads-then}
+use Rattle.building.specs.Building.{Building}
+use Rattle.desk.specs.Opening.{AreKnown, Opens, are_known, has_calendar, has_panel, has_point, has_schedule}
+
+is_some-find : {A : Type 0} (test : A → Bool) (xs : List A) → is_some (find test xs) ≡ list_any test xs
+is_some-find test [] = refl
+is_some-find test (x ∷ xs) = elim (cases_Bool (test x)) [
+  | inl passes ↦ rw passes refl
+  | inr fails ↦ rw fails (is_some-find test xs)
+]
+
+pub found-any : {A : Type 0} (found : Option (Bor A)) (test : A → Bool) (xs : List A) → option_copied found ≡ find test xs → is_some found ≡ list_any test xs
+found-any found test xs is = copied found ∙ (ap is_some is ∙ is_some-find test xs)
+  where
+    copied : {A : Type 0} (found : Option (Bor A)) → is_some found ≡ is_some (option_copied found)
+    copied None = refl
+    copied (Some x) = refl
+
+pub placed-any : {A : Type 0} (test : A → Bool) (xs : List A) → is_some (position test xs) ≡ list_any test xs
+placed-any test xs = some_where (nat_lt (position_or_len test xs) (length xs)) (position_or_len test xs) ∙ within test xs
+  where
+    some_where : (is : Bool) (place : ℕ) → is_some (cond is (Some place) None) ≡ is
+    some_where true place = refl
+    some_where false place = refl
+
+    first : (n : ℕ) → nat_lt 0 (suc n) ≡ true
+    first n = grind (arith, nat_tests)
+
+    later : (k n : ℕ) → nat_lt (1 + k) (suc n) ≡ nat_lt k n
+    later k n = elim (cases_Bool (nat_lt k n)) [
+      | inl less ↦ grind (arith, nat_tests)
+      | inr not ↦ grind (arith, nat_tests)
+    ]
+
+    within : {A : Type 0} (test : A → Bool) (xs : List A) → nat_lt (position_or_len test xs) (length xs) ≡ list_any test xs
+    within test [] = refl
+    within test (x ∷ xs) = elim (cases_Bool (test x)) [
+      | inl passes ↦ rw passes (first (length xs))
+      | inr fails ↦ rw fails (later (position_or_len test xs) (length xs) ∙ within test xs)
+    ]
+
+-- a name that is found is one of the list's
+each-known : (test : Text → Bool) (holds : Text → Type 0) (texts : List Text) → AreTexts holds texts → list_all test texts ≡ true
+    → (name : Text) → holds name → IsTrue (test name)
+each-known test holds texts are all name here = All-contains (λ x. test x ≡ true) texts name (AllPass-from_list_all test texts all) ((are.each name).1 here)
+
+all-known : (test : Text → Bool) (holds : Text → Type 0) (texts : List Text) → AreTexts holds texts
+    → ((name : Text) → holds name → IsTrue (test name)) → list_all test texts ≡ true
+all-known test holds texts are known =
+    list_all-from_AllPass test texts (All-weaker (Contains texts) (λ x. test x ≡ true) (λ x here. known x ((are.each x).0 here)) texts (All-contains_itself texts))
+
+both : (a b : Bool) → (a && b) ≡ true → (a ≡ true) × (b ≡ true)
+both true b e = (refl, e)
+both false b e = absurd (false≢true e)
+
+and : (a b : Bool) → a ≡ true → b ≡ true → (a && b) ≡ true
+and a b first second = rw first second
+
+module _ (b : Building) (tables : Tables) (names : Names) (are : AreNames tables names) where
+  pub known-names : are_known b names ≡ true → AreKnown b tables
+  known-names all =
+      let first = both (list_all (has_panel b) names.panels.items) _ all in
+      let second = both (list_all (has_point b) names.points.items) _ first.1 in
+      let third = both (list_all (has_schedule b) names.schedules.items) _ second.1 in
+      record {
+        panels = each-known (has_panel b) (HasPanel tables) names.panels.items are.panels first.0;
+        points = each-known (has_point b) (HasPoint tables) names.points.items are.points second.0;
+        schedules = each-known (has_schedule b) (HasSchedule tables) names.schedules.items are.schedules third.0;
+        calendars = each-known (has_calendar b) (HasCalendar tables) names.calendars.items are.calendars third.1;
+      }
+
+  pub names-known : AreKnown b tables → are_known b names ≡ true
+  names-known known =
+      and _ _ (all-known (has_panel b) (HasPanel tables) names.panels.items are.panels known.panels)
+      (and _ _ (all-known (has_point b) (HasPoint tables) names.points.items are.points known.points)
+      (and _ _ (all-known (has_schedule b) (HasSchedule tables) names.schedules.items are.schedules known.schedules)
+      (all-known (has_calendar b) (HasCalendar tables) names.calendars.items are.calendars known.calendars)))
+
+some_none : (fault : StoreFault) → Some fault ≡ None → ⊥
+some_none fault e = cc
+
+-- a read that fails
+pub Opens-failed : (b : Building) (fault : StoreFault) (old new : Standing) → Reads (Some fault) old new → Opens b (Some fault) old new
+Opens-failed b fault old new reads = record {
+  goes = reads.goes;
+  kept = reads.kept;
+  left = reads.left;
+  known = λ honest none. absurd (some_none fault none);
+  bad_row = λ honest told. inr (reads.bad_row honest told);
+}
+
+-- a name that the building lacks
+pub Opens-unknown : (b : Building) (old new : Standing) (names : Names) → Reads None old new → (new.is_honest → AreNames old.content.tables names)
+    → are_known b names ≡ false → Opens b (Some BadRow) old new
+Opens-unknown b old new names reads are unknown = record {
+  goes = Goes-told BadRow old new reads.goes not_shut not_failed;
+  kept = λ honest told. reads.kept honest (λ e. cc);
+  left = reads.left;
+  known = λ honest none. absurd (some_none BadRow none);
+  bad_row = λ honest told. inl (λ known. false≢true (sym unknown ∙ names-known b old.content.tables names (are honest) known));
+}
+  where
+    not_shut : Some BadRow ≡ Some Shut → ⊥
+    not_shut e = cc
+
+    not_failed : Some BadRow ≡ Some Failed → ⊥
+    not_failed e = cc
+
+-- names that the building has, and what is read behind them
+pub Opens-read : (b : Building) (fault : Option StoreFault) (first second third : Standing) (names : Names) → Reads None first second
+    → (second.is_honest → AreNames first.content.tables names) → are_known b names ≡ true → Reads fault second third → Opens b fault first third
+Opens-read b fault first second third names before are known after =
+    let whole = Reads-then fault first second third before after in
+    record {
+      goes = whole.goes;
+      kept = whole.kept;
+      left = whole.left;
+      known = λ honest none. known-names b first.content.tables names (are (after.goes.honest honest)) known;
+      bad_row = λ honest told. inr (whole.bad_row honest told);
+    }

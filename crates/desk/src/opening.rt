@@ -1,0 +1,117 @@
+//! What is looked at before a desk is opened over a store.
+ghost use Rattle.std.specs.Prelude.{◌≡◌};
+ghost use Rattle.std.specs.List.{list_all};
+ghost use Rattle.std.specs.Result.{result_err};
+ghost use Rattle.store.specs.Standing.{IsOpen, Reads};
+ghost use Rattle.desk.specs.Opening.{Opens, are_known, has_calendar, has_panel, has_point, has_schedule};
+
+use building::{Building, NamedCalendar};
+use points::Name;
+use store::{Names, Store, StoreFault};
+
+fn has_panel(building: &Building, name: &Name) -> bool
+    ensures { result ≡ has_panel building.now name.now }
+{
+    building.find_panel(name).is_some()
+}
+
+fn has_point(building: &Building, name: &Name) -> bool
+    ensures { result ≡ has_point building.now name.now }
+{
+    building.find_point(name).is_some()
+}
+
+fn has_schedule(building: &Building, name: &Name) -> bool
+    ensures { result ≡ has_schedule building.now name.now }
+{
+    building.schedule_place(name).is_some()
+}
+
+fn has_calendar(building: &Building, name: &Name) -> bool
+    ensures { result ≡ has_calendar building.now name.now }
+{
+    building.calendar_place(name).is_some()
+}
+
+fn are_panels(building: &Building, names: &[Name]) -> bool
+    ensures { result ≡ list_all (has_panel building.now) names.now }
+{
+    names.iter().all(|name| has_panel(building, name))
+}
+
+fn are_points(building: &Building, names: &[Name]) -> bool
+    ensures { result ≡ list_all (has_point building.now) names.now }
+{
+    names.iter().all(|name| has_point(building, name))
+}
+
+fn are_schedules(building: &Building, names: &[Name]) -> bool
+    ensures { result ≡ list_all (has_schedule building.now) names.now }
+{
+    names.iter().all(|name| has_schedule(building, name))
+}
+
+fn are_calendars(building: &Building, names: &[Name]) -> bool
+    ensures { result ≡ list_all (has_calendar building.now) names.now }
+{
+    names.iter().all(|name| has_calendar(building, name))
+}
+
+// Whether each of the names is one of the building's.
+fn are_known(building: &Building, names: &Names) -> bool
+    ensures { result ≡ are_known building.now names.now }
+{
+    are_panels(building, &names.panels)
+        && are_points(building, &names.points)
+        && are_schedules(building, &names.schedules)
+        && are_calendars(building, &names.calendars)
+}
+
+// Reads the entries of each calendar.
+fn read_entries<S: Store>(store: &mut S, calendars: &[NamedCalendar]) -> Result<(), StoreFault>
+    requires { IsOpen (S.standing store.old) }
+    ensures { Reads (result_err result) (S.standing store.old) (S.standing store.new) }
+{
+    for calendar in calendars {
+        let _entries = store.entries(&calendar.name)?;
+    }
+    Ok(())
+}
+
+// Reads the next number of each panel.
+fn read_nexts<S: Store>(store: &mut S, panels: &[Name]) -> Result<(), StoreFault>
+    requires { IsOpen (S.standing store.old) }
+    ensures { Reads (result_err result) (S.standing store.old) (S.standing store.new) }
+{
+    for panel in panels {
+        let _next = store.panel_next(panel)?;
+    }
+    Ok(())
+}
+
+// Reads what a desk rests on beside the names.
+fn read_rows<S: Store>(
+    store: &mut S,
+    building: &Building,
+    panels: &[Name],
+) -> Result<(), StoreFault>
+    requires { IsOpen (S.standing store.old) }
+    ensures { Reads (result_err result) (S.standing store.old) (S.standing store.new) }
+{
+    read_entries(store, building.calendars())?;
+    let _last = store.last_tick()?;
+    read_nexts(store, panels)
+}
+
+/// Looks over a store before a desk of a building is opened on it: that each name in its tables is one of the
+/// building's, and that the rows of entries, of the last tick and of next numbers can stand. Else S5, or as
+/// the store answers. The store is only read.
+pub fn look_over<S: Store>(store: &mut S, building: &Building) -> Result<(), StoreFault>
+    ensures { Opens building.now (result_err result) (S.standing store.old) (S.standing store.new) }
+{
+    let names = store.names()?;
+    if !are_known(building, &names) {
+        return Err(StoreFault::BadRow);
+    }
+    read_rows(store, building, names.panels.as_slice())
+}
