@@ -9,7 +9,8 @@ use Rattle.std.proofs.lemmas.Option.{same_Some}
 use Rattle.std.specs.List.{flat_map}
 use Rattle.std.specs.Io.KnownBytes.{Appends, IsAtEnd, Keeps}
 use Rattle.std.specs.Io.BufRead.{DropsThrough, drop_through, strip_last, take_through}
-use Rattle.building.specs.Building.{Building}
+use Rattle.building.specs.Building.{Building, contents_of}
+use Rattle.building.specs.BuildingFile.{building_of}
 use Rattle.deliveries.specs.declared.Delivery.{Delivery}
 use Rattle.deliveries.specs.Reply.{replies, reply}
 use Rattle.deliveries.specs.Tables.{tables}
@@ -18,48 +19,17 @@ use Rattle.store.specs.Tables.{Tables}
 use Rattle.points.specs.declared.Point.{Point}
 use Rattle.points.specs.Rights.{point_named}
 use Rattle.desk.specs.PointState.{state_of}
-use Rattle.building_file.specs.BuildingFile.{building_of, longest_file}
 use Rattle.delivery_lines.specs.DeliveryLine.{delivery_of}
+use Rattle.desk_console.proofs.PrintedLemmas.{Appends-Appends, Appends-Keeps, Appends-nothing}
 use Rattle.desk_cli.specs.Replay.{Prints, Replays, is_empty_line, line_of_point, lines_of, point_lines, reply_lines, state_line, told_by, with_first}
 use Rattle.delivery_lines.specs.ReplyText.{reply_line}
-
-pub Appends-Appends : (a b c : Option (List ℕ)) (x y : List ℕ) → Appends a b x → Appends b c y → Appends a c (x ++ y)
-Appends-Appends None b c x y h k = tt
-Appends-Appends (Some xs) None c x y h k = absurd h
-Appends-Appends (Some xs) (Some ys) None x y h k = absurd k
-Appends-Appends (Some xs) (Some ys) (Some zs) x y h k = k ∙ ap (λ t. t ++ y) h ∙ append_assoc xs x y
-
-pub Appends-Keeps : (a b c : Option (List ℕ)) (x : List ℕ) → Appends a b x → Keeps b c → Appends a c x
-Appends-Keeps None b c x h k = tt
-Appends-Keeps (Some xs) None c x h k = absurd h
-Appends-Keeps (Some xs) (Some ys) None x h k = absurd k
-Appends-Keeps (Some xs) (Some ys) (Some zs) x h k = k ∙ h
-
-pub Keeps-same : (a : Option (List ℕ)) → Keeps a a
-Keeps-same None = tt
-Keeps-same (Some xs) = refl
-
-pub Appends-nothing : (a : Option (List ℕ)) → Appends a a []
-Appends-nothing None = tt
-Appends-nothing (Some xs) = sym (append-nil xs)
-
--- a write takes some bytes more of a text
-pub written-more : (text written rest : List ℕ) (n : ℕ) (old mid new : Option (List ℕ)) → n ≤ length rest
-    → text ≡ written ++ rest → Appends old mid written → Appends mid new (take n rest)
-    → (more : List ℕ) × (text ≡ more ++ take (length rest - n) (drop n rest)) × Appends old new more
-written-more text written rest n old mid new within is before now =
-    let left : take (length rest - n) (drop n rest) ≡ drop n rest = take_all (length rest - n) (drop n rest) (omega (arith, length-drop n rest)) in (
-      written ++ take n rest,
-      is ∙ ap (λ xs. written ++ xs) (sym (take-append-drop n rest)) ∙ sym (append_assoc written (take n rest) (drop n rest))
-          ∙ ap (λ xs. (written ++ take n rest) ++ xs) (sym left),
-      Appends-Appends old mid new written (take n rest) before now,
-    )
 
 -- ---- replies and lines, one part after another
 
 pub replies-append : (b : Building) (E ds es : List Delivery) → replies b E (ds ++ es) ≡ replies b E ds ++ replies b (E ++ ds) es
 replies-append b E [] es = ap (λ F. replies b F es) (sym (append-nil E))
-replies-append b E (d ∷ ds) es = ap (λ t. reply b E d ∷ t) (replies-append b (E ++ d ∷ []) ds es ∙ ap (λ F. replies b (E ++ d ∷ []) ds ++ replies b F es) (append_assoc E (d ∷ []) ds))
+replies-append b E (d ∷ ds) es = ap (λ t. reply b E d ∷ t) (replies-append b (E ++ d ∷ []) ds es
+    ∙ ap (λ F. replies b (E ++ d ∷ []) ds ++ replies b F es) (append_assoc E (d ∷ []) ds))
 
 pub told_by-append : (ls ms : List (List ℕ)) (ds es : List Delivery) → told_by ls ≡ Some ds → told_by ms ≡ Some es → told_by (ls ++ ms) ≡ Some (ds ++ es)
 told_by-append [] ms ds es p q = q ∙ ap (λ (ts : List Delivery). Some (ts ++ es)) (same_Some _ _ p)
@@ -81,7 +51,8 @@ Prints-Prints b E ls ms w x y t u first more = record {
   told = first.told ++ more.told;
   told_is = told_by-append ls ms first.told more.told first.told_is more.told_is;
   printed = subst (λ text. Appends w y text)
-      (sym (flat_map-append reply_line (replies b E first.told) (replies b (E ++ first.told) more.told)) ∙ ap reply_lines (sym (replies-append b E first.told more.told)))
+      (sym (flat_map-append reply_line (replies b E first.told) (replies b (E ++ first.told) more.told))
+          ∙ ap reply_lines (sym (replies-append b E first.told more.told)))
       (Appends-Appends w x y _ _ first.printed more.printed);
   holds = more.holds ∙ ap (λ list. sound (tables b list)) (append_assoc E first.told more.told);
 }
@@ -118,9 +89,11 @@ next_line x [] = elim (x == 10) as (λ b. (x == 10) ≡ b → lines_of (x ∷ []
   | true ↦ λ e. rw e (ap (λ l. l ∷ []) (sym (strip_last-one x true e)))
   | false ↦ λ e. rw e (ap (λ l. l ∷ []) (sym (strip_last-one x false e)))
 ] refl
-next_line x (y ∷ ys) = elim (x == 10) as (λ b. (x == 10) ≡ b → lines_of (x ∷ y ∷ ys) ≡ strip_last 10 (take_through 10 (x ∷ y ∷ ys)) ∷ lines_of (drop_through 10 (x ∷ y ∷ ys))) [
+next_line x (y ∷ ys) = elim (x == 10) as (λ b. (x == 10) ≡ b → lines_of (x ∷ y ∷ ys) ≡ strip_last 10 (take_through 10 (x ∷ y ∷ ys))
+    ∷ lines_of (drop_through 10 (x ∷ y ∷ ys))) [
   | true ↦ λ e. rw e (ap (λ l. l ∷ lines_of (y ∷ ys)) (sym (strip_last-one x true e)))
-  | false ↦ λ e. rw e (ap (with_first x) (next_line y ys) ∙ ap (λ l. l ∷ lines_of (drop_through 10 (y ∷ ys))) (sym (strip_last-cons x (take_through 10 (y ∷ ys)) (some_taken y ys))))
+  | false ↦ λ e. rw e (ap (with_first x) (next_line y ys) ∙ ap (λ l. l ∷ lines_of (drop_through 10 (y ∷ ys)))
+      (sym (strip_last-cons x (take_through 10 (y ∷ ys)) (some_taken y ys))))
 ] refl
 
 lines_of-next : (xs : List ℕ) → 0 < length (take_through 10 xs) → lines_of xs ≡ strip_last 10 (take_through 10 xs) ∷ lines_of (drop_through 10 xs)
@@ -188,14 +161,15 @@ Replays-Keeps file list old mid new r kept = record {
 }
 
 -- the replies and then the points
-pub Replays-done : (file list : List ℕ) (b b' b'' : Building) (old mid new : Option (List ℕ)) (now : Content) → building_of file ≡ Some b → b' ≡ b
+pub Replays-done : (file list : List ℕ) (b b' b'' : Building) (old mid new : Option (List ℕ)) (now : Content) → building_of file ≡ Ok (contents_of b) → b' ≡ b
     → Prints b' [] (lines_of list) old mid now → b'' ≡ b' → Appends mid new (point_lines b'' now.tables) → Replays file list old new
 Replays-done file list b b' b'' old mid new now file_is same prints still points = record {
   building = b';
   told = prints.told;
-  building_is = file_is ∙ ap Some (sym same);
+  building_is = file_is ∙ ap (λ (building : Building). Ok (contents_of building)) (sym same);
   told_is = prints.told_is;
-  printed = Appends-Appends old mid new _ _ prints.printed (subst (λ text. Appends mid new text) (ap₂ (λ x (held : Content). point_lines x held.tables) still prints.holds) points);
+  printed = Appends-Appends old mid new _ _ prints.printed (subst (λ text. Appends mid new text)
+      (ap₂ (λ x (held : Content). point_lines x held.tables) still prints.holds) points);
 }
 
 -- ---- points, one after another
@@ -213,30 +187,6 @@ points-then b b' t t' ps i p name line shown b_is t_is ps_are within name_is lin
     ∙ ap (λ u. state_at q.name u b') t_is ∙ ap (λ c. state_at q.name t c) b_is in
     ap (flat_map (line_of_point b t)) (take_more b.points i p within) ∙ flat_map-append (line_of_point b t) (take i b.points) (q ∷ [])
     ∙ ap (λ l. flat_map (line_of_point b t) (take i b.points) ++ l) (append-nil (line_of_point b t q) ∙ sym this)
-
--- ---- the file's first bytes
-
-building_of-long : (xs : List ℕ) → nat_le (length xs) longest_file ≡ false → building_of xs ≡ None
-unfolding building_of
-building_of-long xs e = rw e refl
-
-pub building_of-taken : (bytes : List ℕ) (b : Building) → building_of (take 1_048_577 bytes) ≡ Some b → building_of bytes ≡ Some b
-building_of-taken bytes b e = elim (nat_le (length bytes) 1_048_577) as (λ t. nat_le (length bytes) 1_048_577 ≡ t → building_of bytes ≡ Some b) [
-  | true ↦ λ short. ap building_of (sym (take_all 1_048_577 bytes (leb-true (length bytes) 1_048_577 short))) ∙ e
-  | false ↦ λ long.
-      let more : 1_048_577 < length bytes = leb-false (length bytes) 1_048_577 long in
-      let full : length (take 1_048_577 bytes) ≡ 1_048_577 = length-take-le 1_048_577 bytes (omega arith) in
-      let none : building_of (take 1_048_577 bytes) ≡ None = building_of-long (take 1_048_577 bytes) (ap (λ n. nat_le n longest_file) full) in
-      let bad : None ≡ Some b = sym none ∙ e in cc
-] refl
-
-pub taken_bytes : {R : Type 0} (remaining : R → Option (List ℕ)) (limit : ℕ) (inner reader : R) (bytes start buf : List ℕ)
-    → limit ≡ 1_048_577 → inner ≡ reader → start ≡ []
-    → remaining reader ≡ Some bytes → IfSome (option_map (take limit) (remaining inner)) (λ xs. buf ≡ start ++ xs) → buf ≡ take 1_048_577 bytes
-taken_bytes remaining limit inner reader bytes start buf limit_is inner_is start_is known read =
-    let first = subst (λ r. IfSome (option_map (take limit) (remaining r)) (λ xs. buf ≡ start ++ xs)) inner_is read in
-    let then : buf ≡ start ++ take limit bytes = subst (λ o. IfSome (option_map (take limit) o) (λ xs. buf ≡ start ++ xs)) known first in
-    then ∙ ap₂ (λ s n. s ++ take n bytes) start_is limit_is
 
 pub Prints-same : (b b' : Building) (E : List Delivery) (line line' : List ℕ) (old new : Option (List ℕ)) (now : Content) → b ≡ b' → line ≡ line'
     → Prints b E (line ∷ []) old new now → Prints b' E (line' ∷ []) old new now
