@@ -17,7 +17,7 @@ use Rattle.store.proofs.ReadLemmas.{Goes-told, Reads-then}
 use Rattle.building.specs.Building.{Building}
 use Rattle.desk.specs.Opening.{AreKnown, Opens, are_known, has_calendar, has_panel, has_point, has_schedule}
 
-is_some-find : {A : Type 0} (test : A → Bool) (xs : List A) → is_some (find test xs) ≡ list_any test xs
+pub is_some-find : {A : Type 0} (test : A → Bool) (xs : List A) → is_some (find test xs) ≡ list_any test xs
 is_some-find test [] = refl
 is_some-find test (x ∷ xs) = elim (cases_Bool (test x)) [
   | inl passes ↦ rw passes refl

@@ -2,6 +2,7 @@
 ghost use Rattle.std.specs.Prelude.{◌≡◌, ◌+◌, ◌≤◌, List, Some, None, IfErr, IfOk, IfSome};
 ghost use Rattle.std.specs.Result.{result_err};
 ghost use Rattle.points.specs.Rights.{point_named};
+ghost use Rattle.store.specs.declared.fault.StoreFault.TheVariants.{BadRow};
 ghost use Rattle.store.specs.Memory.{no_tables};
 ghost use Rattle.store.specs.Standing.{Goes, IsOpen, Reads, sound};
 ghost use Rattle.window.specs.Taken.{Ask, front};
@@ -137,12 +138,15 @@ impl<S: Store + Drop> Desk<S> {
     }
 
     /// Opens a desk of a building over a store, which holds the tables of what was delivered so far: S5 where a
-    /// name in them is not the building's, or where entries, the last tick or a next number cannot stand. The
-    /// store is only read, and is handed back with the fault.
+    /// name in them is not the building's, or where entries, the last tick or a next number cannot stand; so
+    /// never where they are those of deliveries to this building. The store is only read, and is handed back
+    /// with the fault.
     pub fn open(alloc: Global, building: Building, store: S) -> Result<Desk<S>, (StoreFault, S)>
         ensures building { IfOk result (λ desk. desk.building ≡ building) }
         ensures opened { IfOk result (λ desk. Opens building None (S.standing store) (S.standing desk.store)) }
         ensures refused { IfErr result (λ told. Opens building (Some told.0) (S.standing store) (S.standing told.1)) }
+        ensures own_tables { (earlier : List a_delivery) → Holds building earlier (S.standing store)
+            → IfErr result (λ told. (S.standing told.1).is_honest → told.0 ≡ BadRow → ⊥) }
     {
         let mut store = store;
         match look_over(&mut store, &building) {

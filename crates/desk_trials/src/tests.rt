@@ -2,31 +2,26 @@
 use building::Building;
 use deliveries::{Delivery, Reply};
 use desk::Desk;
-use points::{Answer, Content, Kind, Listing, Name, Panel, Point, Rule};
+use points::{Answer, Content, Name, Rule};
 use std::alloc::Global;
 use std::test::Fail;
-use store::MemStore;
+use store::{Change, MemStore, NextNumber, Store, StoreFault};
 
 /// LIGHT, which P1 may write at 8.
+const BUILDING: &str = "zone = \"CET-1CEST,M3.5.0,M10.5.0/3\"\n\
+    [[point]]\nname = \"LIGHT\"\nkind = \"binary\"\ndefault = 0\n\
+    [[panel]]\nname = \"P1\"\npoints = [\"LIGHT\"]\npriorities = [8]\n";
+
 fn building(alloc: Global) -> Result<Building, Fail> {
-    let mut points = Vec::new(alloc);
-    points.push(Point {
-        name: Name::read("LIGHT")?,
-        kind: Kind::Binary,
-        relinquish_default: 0,
-    })?;
-    let mut granted = Vec::new(alloc);
-    granted.push(Name::read("LIGHT")?)?;
-    let mut panels = Vec::new(alloc);
-    panels.push(Panel {
-        name: Name::read("P1")?,
-        points: Listing::from_vec(granted),
-        priorities: Listing::from_vec([8].to_vec(alloc)?),
-    })?;
-    Ok(Building {
-        points: Listing::from_vec(points),
-        panels: Listing::from_vec(panels),
-    })
+    Ok(Building::read(alloc, BUILDING.as_bytes())?)
+}
+
+/// A desk over a store without rows.
+fn desk(alloc: Global) -> Result<Desk<MemStore>, Fail> {
+    match Desk::open(alloc, building(alloc)?, MemStore::new(alloc)) {
+        Ok(desk) => Ok(desk),
+        Err((fault, _store)) => Err(fault.into()),
+    }
 }
 
 fn command(number: i64, priority: i64) -> Result<Delivery, Fail> {
@@ -47,8 +42,7 @@ fn a_run_answers_each_delivery_in_order(rt: HostRuntime) -> Result<(), Fail> {
     deliveries.push(command(1, 8)?)?;
     deliveries.push(command(1, 8)?)?;
     deliveries.push(command(2, 6)?)?;
-    let store = MemStore::new(rt.alloc());
-    let mut desk = Desk::new(rt.alloc(), building(rt.alloc())?, store);
+    let mut desk = desk(rt.alloc())?;
     let (replies, fault) = desk.run(deliveries.as_slice());
     let done = Answer::Done {
         present: 1,
@@ -71,8 +65,7 @@ fn a_run_answers_each_delivery_in_order(rt: HostRuntime) -> Result<(), Fail> {
 #[test]
 fn a_skip_frees_what_waits_and_the_point_shows_it(rt: HostRuntime) -> Result<(), Fail> {
     let panel = Name::read("P1")?;
-    let store = MemStore::new(rt.alloc());
-    let mut desk = Desk::new(rt.alloc(), building(rt.alloc())?, store);
+    let mut desk = desk(rt.alloc())?;
     let parked = Reply::Parked { next: 1, number: 2 };
     assert_eq!(rt; desk.deliver(&command(2, 8)?)?, parked);
     let skip = Delivery::Skip { panel, upto: 2 };
@@ -80,5 +73,22 @@ fn a_skip_frees_what_waits_and_the_point_shows_it(rt: HostRuntime) -> Result<(),
     let light = desk.point(&Name::read("LIGHT")?)?;
     assert!(rt; light.is_some_and(|state| state.present == 1 && state.priority == 8));
     assert!(rt; desk.point(&Name::read("NONE")?)?.is_none());
+    Ok(())
+}
+
+#[test]
+fn a_store_of_another_building_is_handed_back(rt: HostRuntime) -> Result<(), Fail> {
+    let panel = Name::read("P9")?;
+    let mut store = MemStore::new(rt.alloc());
+    let mut change = Change::new(rt.alloc());
+    change.nexts.push(NextNumber { panel, next: 5 })?;
+    store.commit(&change)?;
+    match Desk::open(rt.alloc(), building(rt.alloc())?, store) {
+        Ok(_) => assert!(rt; false),
+        Err((fault, mut store)) => {
+            assert_eq!(rt; fault, StoreFault::BadRow);
+            assert_eq!(rt; store.panel_next(&panel)?, 5);
+        }
+    }
     Ok(())
 }

@@ -1,30 +1,66 @@
 //! What is imported into calendars.
+ghost use Rattle.store.specs.Change.{CanStand};
+
 use dates::Entry;
 use points::Name;
-use std::alloc::Global;
+use std::alloc::{AllocError, Global};
+use std::process::Abort;
 use std::test::Fail;
-use store::{Change, ImportedEntry, MemStore, Store};
+use store::{Change, ImportedEntry, MemStore, Store, StoreFault};
 
-/// The 25th of December, the first of January, and the first of these again.
-fn holidays(alloc: Global, calendar: Name) -> Result<Change, Fail> {
+fn listed(
+    alloc: Global,
+    late: ImportedEntry,
+    early: ImportedEntry,
+) -> Result<Vec<ImportedEntry>, AllocError> {
+    Ok(Vec::from_array(alloc, [late, early, late])?)
+}
+
+fn change_of(alloc: Global, imported: Vec<ImportedEntry>) -> Change
+    ensures { CanStand result }
+{
     let mut change = Change::new(alloc);
-    for text in ["2025-12-25", "2025-01-01", "2025-12-25"] {
-        let entry = Entry::read(text)?;
-        change.imported.push(ImportedEntry { calendar, entry })?;
+    change.imported = imported;
+    change
+}
+
+fn imported(rt: &impl Abort, calendar: Name, text: &str) -> ImportedEntry {
+    let entry = Entry::read(text).expect(rt, "the text spells an entry");
+    ImportedEntry { calendar, entry }
+}
+
+/// Imports the 25th of December, the first of January, and the first of these again.
+fn import_holidays(
+    rt: &impl Abort,
+    store: &mut MemStore,
+    alloc: Global,
+    calendar: Name,
+) -> Result<(), StoreFault> {
+    let late = imported(rt, calendar, "2025-12-25");
+    let early = imported(rt, calendar, "2025-01-01");
+    let change = change_of(alloc, listed(alloc, late, early)?);
+    store.commit(&change)
+}
+
+/// The texts of a calendar's entries, in their order, each with a space after it.
+fn texts(store: &mut MemStore, alloc: Global, calendar: &Name) -> Result<String, StoreFault> {
+    let mut texts = String::new(alloc);
+    for entry in &store.entries(calendar)? {
+        texts.push_str(entry.write(alloc)?.as_str())?;
+        texts.push(' ')?;
     }
-    Ok(change)
+    Ok(texts)
 }
 
 #[test]
 fn entries_are_imported_once_and_told_in_order(rt: HostRuntime) -> Result<(), Fail> {
     let mut store = MemStore::new(rt.alloc());
     let calendar = Name::read("HOLIDAYS")?;
-    store.commit(&holidays(rt.alloc(), calendar)?)?;
-    let entries = store.entries(&calendar)?;
-    assert_eq!(rt; entries.len(), 2);
-    assert_eq!(rt; entries[0].write(rt.alloc())?.as_str(), "2025-01-01");
-    assert_eq!(rt; entries[1].write(rt.alloc())?.as_str(), "2025-12-25");
-    assert!(rt; store.entries(&Name::read("BREAKS")?)?.is_empty());
+    import_holidays(&rt, &mut store, rt.alloc(), calendar)?;
+    let told = texts(&mut store, rt.alloc(), &calendar)?;
+    assert_eq!(rt; told.as_str(), "2025-01-01 2025-12-25 ");
+    let other = texts(&mut store, rt.alloc(), &Name::read("BREAKS")?)?;
+    assert_eq!(rt; other.as_str(), "");
     let names = store.names()?;
     assert_eq!(rt; names.calendars.len(), 1);
     assert_eq!(rt; names.calendars[0].as_str(), "HOLIDAYS");

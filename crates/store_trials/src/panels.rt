@@ -16,7 +16,6 @@ fn nothing_is_kept_at_first(rt: HostRuntime) -> Result<(), Fail> {
     Ok(())
 }
 
-/// A row of a command that was done: the point then presents the number's own hundredfold.
 fn row_of(panel: Name, point: Name, number: u64) -> KeptRow
     requires { IsNumber number }
     ensures { IsKeptRow result }
@@ -28,14 +27,26 @@ fn row_of(panel: Name, point: Name, number: u64) -> KeptRow
             content: Content {
                 point,
                 priority: 8,
-                value: Some(100),
+                value: Some(2150),
             },
             state: CommandState::Answered(Answer::Done {
-                present: 100,
+                present: 2150,
                 priority: 8,
             }),
         },
     }
+}
+
+#[test]
+fn next_numbers_are_kept(rt: HostRuntime) -> Result<(), Fail> {
+    let mut store = MemStore::new(rt.alloc());
+    let panel = Name::read("P1")?;
+    let mut change = Change::new(rt.alloc());
+    change.nexts.push(NextNumber { panel, next: 2 })?;
+    store.commit(&change)?;
+    assert_eq!(rt; store.panel_next(&panel)?, 2);
+    assert_eq!(rt; store.panel_next(&Name::read("P2")?)?, 1);
+    Ok(())
 }
 
 #[test]
@@ -44,21 +55,19 @@ fn rows_stand_under_their_numbers(rt: HostRuntime) -> Result<(), Fail> {
     let panel = Name::read("P1")?;
     let point = Name::read("R101-SET")?;
     let mut change = Change::new(rt.alloc());
-    change.nexts.push(NextNumber { panel, next: 3 })?;
-    for number in [1, 2, 4, 5, 7] {
-        change.rows.push(row_of(panel, point, number))?;
-    }
+    change.rows.push(row_of(panel, point, 1))?;
+    change.rows.push(row_of(panel, point, 3))?;
+    change.rows.push(row_of(panel, point, 5))?;
     store.commit(&change)?;
-    assert_eq!(rt; store.panel_next(&panel)?, 3);
     assert_eq!(rt;
-        store.command(&panel, 4)?,
-        Some(row_of(panel, point, 4).row)
+        store.command(&panel, 3)?,
+        Some(row_of(panel, point, 3).row)
     );
-    assert!(rt; store.command(&panel, 3)?.is_none());
-    let run = store.commands_run(&panel, 2, 4)?;
-    assert_eq!(rt; run.len(), 3);
-    assert_eq!(rt; run[0].number, 2);
-    assert_eq!(rt; run[2].number, 5);
+    assert!(rt; store.command(&panel, 2)?.is_none());
+    let run = store.commands_run(&panel, 1, 3)?;
+    assert_eq!(rt; run.len(), 2);
+    assert_eq!(rt; run[0].number, 1);
+    assert_eq!(rt; run[1].number, 3);
     Ok(())
 }
 

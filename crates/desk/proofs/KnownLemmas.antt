@@ -1,0 +1,150 @@
+-- The tables of deliveries to a building have no names but the building's.
+use Rattle.std.proofs.Common.{◌≡◌, ℕ, ◌-◌, Bool, true, false, not, cond, List, [], ◌∷◌, ◌++◌, Option, Some, None, is_some, option_map, nat_lt, refl, sym, ap}
+use Rattle.std.proofs.Common.{◌∙◌, subst, inl, inr}
+use Rattle.std.specs.Bool.{IsTrue}
+use Rattle.std.specs.FinMap.{empty}
+use Rattle.std.specs.List.{flat_map}
+use Rattle.std.specs.Option.{option_map_or}
+use Rattle.std.specs.Str.{bytes_eq}
+use Rattle.std.proofs.lemmas.Bool.{cases_Bool, false≢true}
+use Rattle.std.proofs.lemmas.Slice.Eq.{bytes_eq-Decides}
+use Rattle.points.specs.declared.answer.Answer.{Answer}
+use Rattle.points.specs.declared.command_row.CommandRow.{CommandRow}
+use Rattle.points.specs.declared.content.Content.{Content}
+use Rattle.points.specs.declared.panel.Panel.{Panel}
+use Rattle.points.specs.declared.point.Point.{Point}
+use Rattle.points.specs.declared.rule.Rule.{Rule}
+use Rattle.points.specs.declared.rule.Rule.TheVariants.{NoSuchPoint}
+use Rattle.points.specs.PriorityArray.{Places}
+use Rattle.points.specs.Rights.{breaks, point_named, rule_of}
+use Rattle.store.specs.declared.fault.StoreFault.{StoreFault}
+use Rattle.store.specs.declared.fault.StoreFault.TheVariants.{BadRow}
+use Rattle.store.specs.Listed.{HasPanel, HasPoint}
+use Rattle.store.specs.Standing.{Content as a_holding, Standing}
+use Rattle.store.specs.Tables.{Text}
+use Rattle.window.specs.Taken as asks
+use Rattle.window.specs.Window.{remembered}
+use Rattle.building.specs.Building.{Building}
+use Rattle.deliveries.specs.declared.delivery.Delivery.{Delivery}
+use Rattle.deliveries.specs.Accepted.{asks_of, panel_named, panel_of, taken_by}
+use Rattle.deliveries.specs.Events.{events_after, machine}
+use Rattle.deliveries.specs.Machine.{Event, Machine, opening_machine, places_after, places_under, rule_for, run, step}
+use Rattle.deliveries.specs.Machine.Event.{Command}
+use Rattle.deliveries.specs.Tables.{row_at, row_of, tables}
+use Rattle.deliveries.proofs.StepLemmas.{next-tables}
+use Rattle.desk.specs.Headline.{Holds}
+use Rattle.desk.specs.Opening.{AreKnown, Opens, has_panel, has_point}
+use Rattle.desk.proofs.DeliverLemmas.{none_of}
+use Rattle.desk.proofs.OpeningLemmas.{is_some-find}
+
+-- ---- panels
+
+module _ (b : Building) (p : Text) (unknown : panel_named b p ≡ None) where
+  asks-missing : (d : Delivery) → asks_of b p d ≡ []
+  asks-missing d = elim (cases_Bool (bytes_eq (panel_of d) p)) [
+    | inl same ↦ rw (same, unknown) refl
+    | inr other ↦ rw other refl
+  ]
+
+  asked-nothing : (E : List Delivery) → flat_map (asks_of b p) E ≡ []
+  asked-nothing [] = refl
+  asked-nothing (d ∷ E) = ap (λ first. first ++ flat_map (asks_of b p) E) (asks-missing d) ∙ asked-nothing E
+
+  taken-nothing : (E : List Delivery) → taken_by b p E ≡ asks.opening
+  taken-nothing E = ap (asks.taken asks.opening) (asked-nothing E)
+
+  next-nothing : (E : List Delivery) → (tables b E).next p ≡ 1
+  unfolding asks.front
+  next-nothing E = next-tables b E p ∙ ap asks.front (taken-nothing E)
+
+  none_kept : (old : Bool) (row : Content → CommandRow) → option_map row (cond old None None) ≡ None
+  none_kept true row = refl
+  none_kept false row = refl
+
+  row-nothing : (E : List Delivery) (number : ℕ) → (tables b E).row p number ≡ None
+  unfolding tables
+  row-nothing E number =
+      let answer = (machine b E).answers p number in
+      ap (λ (t : asks.Taken). row_at t number answer) (taken-nothing E)
+      ∙ none_kept (nat_lt number (asks.front asks.opening - remembered)) (row_of (asks.front asks.opening) number answer)
+
+no_panel : (b : Building) (E : List Delivery) (p : Text) → has_panel b p ≡ false → HasPanel (tables b E) p → ⊥
+no_panel b E p missing here =
+    let unknown = none_of (panel_named b p) (is_some-find (λ panel. bytes_eq panel.name p) b.panels ∙ missing) in
+    elim here [
+      | inl apart ↦ apart (next-nothing b p unknown E)
+      | inr row ↦ false≢true (sym (ap is_some (row-nothing b p unknown E row.0)) ∙ row.1)
+    ]
+
+-- ---- points
+
+first_rule : (first : Bool) (rest : Option Rule) → cond first (Some NoSuchPoint) rest ≡ None → first ≡ false
+first_rule true rest e = absurd cc
+first_rule false rest e = refl
+
+is_there : (there : Bool) → not there ≡ false → there ≡ true
+is_there true e = refl
+is_there false e = absurd (false≢true (sym e))
+
+-- a permitted content names a point
+point_of-permitted : (points : List Point) (panel : Panel) (content : Content) → rule_of points panel content ≡ None
+    → is_some (point_named points content.point) ≡ true
+unfolding rule_of breaks
+point_of-permitted points panel content e = is_there _ (first_rule _ _ e)
+
+names_a_point : (b : Building) (panel : Text) (content : Content) → rule_for b panel content ≡ None → is_some (point_named b.points content.point) ≡ true
+names_a_point b panel content e = under (panel_named b panel) e
+  where
+    under : (named : Option Panel) → option_map_or (λ p. rule_of b.points p content) named (Some NoSuchPoint) ≡ None
+        → is_some (point_named b.points content.point) ≡ true
+    under None e = absurd cc
+    under (Some p) e = point_of-permitted b.points p content e
+
+module _ (b : Building) (q : Text) (unknown : point_named b.points q ≡ None) where
+  after-nothing : (places : Text → Places) (p : Text) (content : Content) → places q ≡ empty → places_after b places p content q ≡ empty
+  unfolding places_after
+  after-nothing places p content none = under (rule_for b p content) refl
+    where
+      under : (rule : Option Rule) → rule_for b p content ≡ rule → places_under rule places content q ≡ empty
+      under (Some rule) e = none
+      under None e = elim (cases_Bool (bytes_eq content.point q)) [
+        | inl same ↦ absurd (false≢true (sym (ap is_some (ap (point_named b.points) ((bytes_eq-Decides content.point q).0 same) ∙ unknown))
+            ∙ names_a_point b p content e))
+        | inr other ↦ rw other none
+      ]
+
+  run-nothing : (events : List Event) (m : Machine) → m.places q ≡ empty → (run b m events).places q ≡ empty
+  run-nothing [] m none = none
+  run-nothing (Command p number content ∷ events) m none =
+      run-nothing events (step b m (Command p number content)) (after-nothing m.places p content none)
+
+  places-nothing : (E : List Delivery) → (tables b E).places q ≡ empty
+  unfolding tables machine
+  places-nothing E = run-nothing (events_after b [] E) opening_machine refl
+
+no_point : (b : Building) (E : List Delivery) (q : Text) → has_point b q ≡ false → HasPoint (tables b E) q → ⊥
+no_point b E q missing here =
+    here (places-nothing b q (none_of (point_named b.points q) (is_some-find (λ point. bytes_eq point.name q) b.points ∙ missing)) E)
+
+-- ---- all names
+
+one_of : (test : Bool) → (test ≡ false → ⊥) → IsTrue test
+one_of true never = refl
+one_of false never = absurd (never refl)
+
+pub known-tables : (b : Building) (E : List Delivery) → AreKnown b (tables b E)
+unfolding tables
+known-tables b E = record {
+  panels = λ p here. one_of (has_panel b p) (λ missing. no_panel b E p missing here);
+  points = λ q here. one_of (has_point b q) (λ missing. no_point b E q missing here);
+  schedules = λ schedule shown. absurd (false≢true shown);
+  calendars = λ calendar imported. absurd (false≢true imported.1);
+}
+
+-- a store of such tables is not refused for what it holds
+pub Opens-own : (b : Building) (E : List Delivery) (fault : StoreFault) (old new : Standing) → Opens b (Some fault) old new → new.is_honest → Holds b E old
+    → fault ≡ BadRow → ⊥
+Opens-own b E fault old new opens honest held is = elim (opens.bad_row honest (ap Some is)) [
+  | inl unknown ↦ unknown (subst (λ (c : a_holding). AreKnown b c.tables) (sym held) (known-tables b E))
+  | inr unsound ↦ false≢true (sym unsound ∙ ap (λ (c : a_holding). c.is_sound) held)
+]
