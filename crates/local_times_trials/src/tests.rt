@@ -1,4 +1,5 @@
 use local_times::local_time;
+use std::alloc::Global;
 use std::process::Abort;
 use std::test::Fail;
 use zone_rules::ZoneRule;
@@ -11,15 +12,16 @@ const EASTERN_AMERICA: &str = "EST5EDT,M3.2.0,M11.1.0";
 
 /// Compares what is told at each moment, as text, or `-` where there is none.
 fn assert_told(
-    rt: &HostRuntime,
+    rt: &impl Abort,
+    alloc: Global,
     rule: &str,
     rows: &[(i64, &'static str)],
 ) -> Result<(), Fail> {
     let zone = ZoneRule::read(rule).expect(rt, "the text is a rule");
     for (moment, wanted) in rows {
         let told = match local_time(&zone, *moment) {
-            Some(local) => format!(in rt.alloc(); "{} {}", local.day, local.time)?,
-            None => format!(in rt.alloc(); "-")?,
+            Some(local) => format!(in alloc; "{} {}", local.day, local.time)?,
+            None => format!(in alloc; "-")?,
         };
         assert_eq!(rt; told.as_str(), *wanted);
     }
@@ -30,6 +32,7 @@ fn assert_told(
 fn the_clock_is_set_forward(rt: HostRuntime) -> Result<(), Fail> {
     assert_told(
         &rt,
+        rt.alloc(),
         CENTRAL_EUROPE,
         &[
             (0, "1970-01-01 01:00:00.00"),
@@ -44,6 +47,7 @@ fn the_clock_is_set_forward(rt: HostRuntime) -> Result<(), Fail> {
 fn the_clock_is_set_back(rt: HostRuntime) -> Result<(), Fail> {
     assert_told(
         &rt,
+        rt.alloc(),
         CENTRAL_EUROPE,
         &[
             (176143860000, "2025-10-26 02:30:00.00"),
@@ -58,6 +62,7 @@ fn the_clock_is_set_back(rt: HostRuntime) -> Result<(), Fail> {
 fn the_last_year_ends_by_the_local_clock(rt: HostRuntime) -> Result<(), Fail> {
     assert_told(
         &rt,
+        rt.alloc(),
         CENTRAL_EUROPE,
         &[
             (-1, "-"),
@@ -72,6 +77,7 @@ fn the_last_year_ends_by_the_local_clock(rt: HostRuntime) -> Result<(), Fail> {
 fn the_first_year_begins_by_the_local_clock(rt: HostRuntime) -> Result<(), Fail> {
     assert_told(
         &rt,
+        rt.alloc(),
         EASTERN_AMERICA,
         &[
             (0, "-"),
