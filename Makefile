@@ -2,7 +2,7 @@
 
 PREFIX ?= /usr/local
 PROGRAM := crates/desk_program/out/desk_program
-BUILDING := examples/two-points.toml
+BUILDING := examples/building.toml
 DELIVERIES := examples/first-commands.jsonl
 SOURCES := $(shell find crates -name out -prune -o \( -name '*.rt' -o -name '*.antt' \) -print) crates.txt
 

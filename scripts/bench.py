@@ -1,8 +1,9 @@
-"""Measures the desk: lines a second of `desk replay`, its peak memory, and how both grow.
+"""Measures the desk: lines a second of `desk replay`, its peak memory, how both grow, and how long a building is read.
 
-Writes a building of 20 panels, one of the largest size, and lists of deliveries to them into build/bench,
-replays each list five times and takes the fastest run. A list is of commands in order, or it came over a lossy
-network: with repeats, numbers out of order, gaps that are filled late, skips, other contents and far numbers.
+Writes a building of 20 panels, one of the largest size with calendars and schedules, and lists of deliveries to
+them into build/bench, runs each five times and takes the fastest run. A list is of commands in order, or it came
+over a lossy network: with repeats, numbers out of order, gaps that are filled late, skips, other contents and far
+numbers.
 Where valgrind is installed it counts instructions too, which come out the same however busy the machine is.
 """
 import os
@@ -25,11 +26,13 @@ FOLDER = ROOT / "build" / "bench"
 
 @dataclass(frozen=True)
 class Building:
-    """So many panels and points, each panel with its own share of the points granted."""
+    """So many panels and points, each panel with its own share of the points granted, calendars and schedules."""
 
     panels: int
     points: int
     granted: int
+    calendars: int = 0
+    schedules: int = 0
 
     def granted_to(self, panel):
         """The numbers of the points that are granted to a panel, from 1."""
@@ -45,6 +48,20 @@ class Building:
             for panel in range(self.panels):
                 names = ", ".join(f'"ROOM-{point}"' for point in self.granted_to(panel))
                 out.write(f'[[panel]]\nname = "PANEL-{panel + 1}"\npoints = [{names}]\npriorities = [8, 10]\n')
+            for calendar in range(1, self.calendars + 1):
+                entries = ", ".join(f'"2025-{day % 12 + 1:02}-{day % 28 + 1:02}"' for day in range(calendar, calendar + 40))
+                out.write(f'[[calendar]]\nname = "CALENDAR-{calendar}"\nentries = [{entries}]\n')
+            for schedule in range(1, self.schedules + 1):
+                self.write_schedule(out, schedule)
+
+    def write_schedule(self, out, schedule):
+        """A schedule of one point, with seven lists of four time values, and four exceptions of four each."""
+        day = "[" + ", ".join(f'"{hour:02}:{schedule % 60:02}:00.00={2000 + hour}"' for hour in (5, 8, 17, 21)) + "]"
+        out.write(f'[[schedule]]\nname = "SCHEDULE-{schedule}"\nperiod = "2025-01-01..2026-12-31"\npriority = 15\n')
+        out.write(f'targets = ["ROOM-{schedule}"]\ndefault = 1600\nweekly = [\n    ' + ",\n    ".join([day] * 7) + "\n]\n")
+        for number in range(4):
+            calendar = (schedule + number) % self.calendars + 1
+            out.write(f'[[schedule.exception]]\npriority = {number + 3}\ncalendar = "CALENDAR-{calendar}"\ntimes = {day}\n')
 
     def write_commands(self, path, count):
         with open(path, "w") as out:
@@ -93,17 +110,17 @@ class Building:
 
 
 USUAL = Building(panels=20, points=40, granted=40)
-LARGEST = Building(panels=200, points=1_000, granted=20)
+LARGEST = Building(panels=200, points=1_000, granted=40, calendars=100, schedules=500)
 
 
-def replay(building, deliveries):
+def run_desk(*words):
     """Seconds and peak kilobytes of one run, in a process of its own."""
     reader, writer = os.pipe()
     child = os.fork()
     if child == 0:
         start = time.perf_counter()
         with open(os.devnull, "wb") as sink:
-            status = subprocess.call([str(ROOT / "build" / "desk"), "replay", building, deliveries], stdout=sink)
+            status = subprocess.call([str(ROOT / "build" / "desk"), *words], stdout=sink)
         seconds = time.perf_counter() - start
         peak = resource.getrusage(resource.RUSAGE_CHILDREN).ru_maxrss
         os.write(writer, f"{seconds} {peak} {status}".encode())
@@ -113,7 +130,7 @@ def replay(building, deliveries):
     os.waitpid(child, 0)
     os.close(reader)
     if int(status) != 0:
-        sys.exit(f"the replay of {deliveries} ended with status {int(status)}")
+        sys.exit(f"desk {' '.join(words)} ended with status {int(status)}")
     return float(seconds), int(peak)
 
 
@@ -132,21 +149,25 @@ def written(building, size, lossy):
 def measure(building, size, lossy=False):
     """The fastest of some runs of a list of so many deliveries: its seconds and peak kilobytes."""
     file, deliveries = written(building, size, lossy)
-    return min(replay(file, deliveries) for _ in range(RUNS))
+    return min(run_desk("replay", file, deliveries) for _ in range(RUNS))
 
 
-def instructions(building, size, lossy=False):
-    """The instructions of one run of a list of so many deliveries."""
-    file, deliveries = written(building, size, lossy)
+def counted(*words):
+    """The instructions of one run."""
     run = subprocess.run(
-        ["valgrind", "--tool=callgrind", "--callgrind-out-file=/dev/null", str(ROOT / "build" / "desk")]
-        + ["replay", file, deliveries],
+        ["valgrind", "--tool=callgrind", "--callgrind-out-file=/dev/null", str(ROOT / "build" / "desk"), *words],
         stdout=subprocess.DEVNULL,
         stderr=subprocess.PIPE,
         text=True,
         check=True,
     )
     return int(re.search(r"Collected : (\d+)", run.stderr).group(1))
+
+
+def instructions(building, size, lossy=False):
+    """The instructions of a list of so many deliveries, without those of reading the building."""
+    file, deliveries = written(building, size, lossy)
+    return counted("replay", file, deliveries) - counted("check", file)
 
 
 def show_seconds():
@@ -163,6 +184,20 @@ def show_seconds():
         print(f"{size} lines {to_largest}{', over a lossy network' * lossy}: {told}")
 
 
+def show_reading():
+    for building in (USUAL, LARGEST):
+        file, _ = written(building, 0, False)
+        seconds, peak = min(run_desk("check", file) for _ in range(RUNS))
+        size = pathlib.Path(file).stat().st_size
+        print(f"a building file of {size:,} bytes: read in {seconds * 1000:.0f} ms, {peak / 1024:.0f} MB at most")
+
+
+def show_growth():
+    """How much longer the same list takes over the largest building, its reading included."""
+    usual, largest = (measure(building, SIZES[1])[0] for building in (USUAL, LARGEST))
+    print(f"{SIZES[1]} lines to the largest building take {largest / usual:.2f} times the seconds of the usual one")
+
+
 def show_instructions():
     earlier = None
     for size in COUNTED:
@@ -171,14 +206,16 @@ def show_instructions():
         print(f"{size} lines: {count / size:,.0f} instructions a line{growth}")
         earlier = count
     to_largest = f"to {LARGEST.panels} panels and {LARGEST.points} points"
-    for size, lossy in ((COUNTED[0], False), (COUNTED[0], True), (COUNTED[1], True)):
+    for size, lossy in ((COUNTED[0], False), (COUNTED[2], False), (COUNTED[0], True), (COUNTED[1], True)):
         count = instructions(LARGEST, size, lossy)
         print(f"{size} lines {to_largest}{', over a lossy network' * lossy}: {count / size:,.0f} instructions a line")
 
 
 def main():
     FOLDER.mkdir(parents=True, exist_ok=True)
+    show_reading()
     show_seconds()
+    show_growth()
     if shutil.which("valgrind"):
         show_instructions()
 

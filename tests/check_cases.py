@@ -1,4 +1,5 @@
-"""Tries `desk check` on files that are made from the worked building, one change or two at a time.
+"""Tries `desk check`, and `desk replay` of no delivery, on files that are made from the worked building, one
+change or two at a time.
 
 Usage: check_cases.py PROGRAM
 
@@ -10,39 +11,7 @@ import subprocess
 import sys
 import tempfile
 
-WORKED = """zone = "CET-1CEST,M3.5.0,M10.5.0/3"
-[[point]]
-name = "R101-SET"
-kind = "analog"
-low = 500
-high = 3500
-default = 1800
-[[point]]
-name = "LIGHT"
-kind = "binary"
-default = 0
-[[panel]]
-name = "P1"
-points = ["R101-SET", "LIGHT"]
-priorities = [8, 10]
-[[panel]]
-name = "P2"
-points = ["R101-SET"]
-priorities = [9, 15]
-[[calendar]]
-name = "HOLIDAYS"
-entries = ["2025-12-25"]
-[[schedule]]
-name = "R101-DAY"
-priority = 15
-targets = ["R101-SET"]
-default = 1600
-weekly = [["08:00=2100"], [], [], [], [], [], ["02:45=1900"]]
-[[schedule.exception]]
-priority = 5
-calendar = "HOLIDAYS"
-times = ["00:00=1500"]
-"""
+from tables import WORKED
 
 ZONE = 'zone = "CET-1CEST,M3.5.0,M10.5.0/3"'
 SET, LIGHT = '[[point]]\nname = "R101-SET"', '[[point]]\nname = "LIGHT"'
@@ -126,6 +95,7 @@ CASES = [
     ("B5 point 2 name", [(LIGHT, f'[[point]]\nname = "{LONG}A"'), ('["R101-SET", "LIGHT"]', "[]")]),
     ("ok", [(LIGHT, f'[[point]]\nname = "{LONG}"'), ('["R101-SET", "LIGHT"]', "[]")]),
     ("B6 point 2 name", [(LIGHT, SET)]),
+    ("B6 point 2 name", [('name = "LIGHT"', 'name = "R101-SET"')]),
     ("B3 point 2 kind", [(BINARY, "")]),
     ("B4 point 2 kind", [(BINARY, "kind = 2\n")]),
     ("B4 point 2 kind", [(BINARY, 'kind = "Binary"\n')]),
@@ -322,33 +292,45 @@ def changed(changes):
     return text.encode()
 
 
+def run(program, words, folder):
+    return subprocess.run([program, *words], cwd=folder, capture_output=True, timeout=20)
+
+
 def difference(program, wanted, file, folder):
-    path = pathlib.Path(folder) / "building.toml"
-    path.write_bytes(file)
-    ran = subprocess.run([program, "check", "building.toml"], cwd=folder, capture_output=True, timeout=20)
+    """What `check` and `replay` of the file tell besides what is wanted, or nothing."""
+    (pathlib.Path(folder) / "building.toml").write_bytes(file)
+    (pathlib.Path(folder) / "none.jsonl").write_bytes(b"")
+    checked = run(program, ["check", "building.toml"], folder)
+    replayed = run(program, ["replay", "building.toml", "none.jsonl"], folder)
     if wanted.startswith("ok"):
         told = wanted if ":" in wanted else "ok: 2 points, 2 panels, 1 calendars, 1 schedules"
-        expected = (0, told.encode() + b"\n", b"")
+        expected = [0, told.encode() + b"\n", b"", 0, b""]
     else:
-        expected = (1, b"", f"desk: {wanted}\n".encode())
-    found = (ran.returncode, ran.stdout, ran.stderr)
+        line = f"desk: {wanted}\n".encode()
+        expected = [1, b"", line, 1, line]
+    found = [checked.returncode, checked.stdout, checked.stderr, replayed.returncode, replayed.stderr]
     return "" if found == expected else f"{found}, wanted {expected}"
 
 
-def try_all(program):
-    """How many cases passed, and what each of the others gave."""
-    files = [(wanted, changed(changes), changes) for wanted, changes in CASES]
-    files += [(wanted, file, file[:40]) for wanted, file in BYTES]
-    with tempfile.TemporaryDirectory() as folder:
-        tried = [(what, difference(program, wanted, file, folder)) for wanted, file, what in files]
-    return len(tried), [f"{what}: {found}" for what, found in tried if found]
+def all_cases():
+    """The fault's line or `ok`, the bytes of the file, and how the case is told."""
+    for wanted, changes in CASES:
+        yield wanted, changed(changes), "; ".join(f"{old[:40]!r} to {new[:60]!r}" for old, new, *_ in changes) or "as it is"
+    for wanted, file in BYTES:
+        yield wanted, file, repr(file[:40])
 
 
 def main():
-    count, failed = try_all(str(pathlib.Path(sys.argv[1]).resolve()))
-    for line in failed:
-        print(line[:2000])
-    print(f"{count - len(failed)} passed, {len(failed)} failed")
+    failed = 0
+    program = str(pathlib.Path(sys.argv[1]).resolve())
+    cases = list(all_cases())
+    for wanted, file, told in cases:
+        with tempfile.TemporaryDirectory() as folder:
+            found = difference(program, wanted, file, folder)
+        if found:
+            failed += 1
+            print(f"FAILED {told}: {found[:2000]}")
+    print(f"{len(cases) - failed} passed, {failed} failed")
     sys.exit(bool(failed))
 
 

@@ -68,7 +68,7 @@ def a_building_is_refused_before_the_list_is_opened(program, folder):
     pipe = folder / "pipe"
     os.mkfifo(pipe)
     (folder / "empty.toml").write_text("")
-    for building, told in (("missing.toml", "cannot read missing.toml"), ("empty.toml", "building refused")):
+    for building, told in (("missing.toml", "cannot read missing.toml"), ("empty.toml", "B3 top 0 zone")):
         words = [program, "replay", building, "pipe"]
         ran = subprocess.run(words, cwd=folder, capture_output=True, text=True, timeout=SECONDS)
         expect((ran.returncode, ran.stdout, ran.stderr), (1, "", f"desk: {told}\n"))

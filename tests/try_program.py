@@ -1,4 +1,4 @@
-"""Tries the program: the cases, the tables, its edges, and random lists against the plain slow desk.
+"""Tries the program: the cases, building files, the tables, its edges, and random lists against the plain slow desk.
 
 Usage: try_program.py PROGRAM
 
@@ -14,6 +14,7 @@ import subprocess
 import sys
 import tempfile
 
+import check_cases
 import compare
 import edges
 import tables
@@ -46,13 +47,8 @@ def try_case(program, case, room):
     return difference(run(program, words, room), status, wanted(case, "stdout", b""), wanted(case, "stderr", b""))
 
 
-def try_building(program, building, room, is_read):
-    (room / "building.toml").write_bytes(building if isinstance(building, bytes) else building.encode())
-    (room / "none.jsonl").write_text("")
-    ran = run(program, ["replay", "building.toml", "none.jsonl"], room)
-    if is_read:
-        return difference(ran, 0, ran.stdout, b"")
-    return difference(ran, 1, b"", b"desk: building refused\n")
+def try_building(program, wanted, file, room):
+    return check_cases.difference(program, wanted, file, room)
 
 
 def try_line(program, line, room):
@@ -92,10 +88,9 @@ def all_tests(program):
     """The name of each test, and the call that tries it in a folder of its own."""
     for case in sorted((HERE / "cases").iterdir()):
         yield f"case {case.name}", lambda room, case=case: try_case(program, case, room)
-    for name, text in tables.BUILDINGS_READ.items():
-        yield f"building read: {name}", lambda room, text=text: try_building(program, text, room, True)
-    for name, text in tables.BUILDINGS_REFUSED.items():
-        yield f"building refused: {name}", lambda room, text=text: try_building(program, text, room, False)
+    for wanted, file, told in check_cases.all_cases():
+        name = f"building file, {wanted}: {told}"
+        yield name, lambda room, wanted=wanted, file=file: try_building(program, wanted, file, room)
     for line in tables.LINES_REFUSED:
         yield f"line refused: {line!r}", lambda room, line=line: try_line(program, line, room)
     for words, part in tables.WORDS_REFUSED:

@@ -1,11 +1,12 @@
 -- A building, and what holds of one that was read.
-use Rattle.std.specs.Prelude.{IsTrue, List}
+use Rattle.std.specs.Prelude.{IsTrue, List, map}
 use Rattle.std.specs.List.{list_all}
 use Rattle.jiff_tz.specs.declared.timezone.TimeZone.{TimeZone}
 use Rattle.device_tables.specs.PanelTable.{is_sound_panel}
 use Rattle.device_tables.specs.PointTable.{is_sound_point}
 use Rattle.points.specs.declared.Panel.{Panel}
 use Rattle.points.specs.declared.Point.{Point}
+use Rattle.rosters.specs.Roster.{are_distinct}
 use Rattle.schedule_tables.specs.declared.named_calendar.NamedCalendar.{NamedCalendar}
 use Rattle.schedule_tables.specs.declared.named_schedule.NamedSchedule.{NamedSchedule}
 use Rattle.schedule_tables.specs.ScheduleTable.{is_sound_schedule}
@@ -30,9 +31,13 @@ contents_of b = record {
   schedules = b.schedules;
 }
 
--- defaults lie in their kinds; what panels and schedules name exists, and what a schedule may write lies in
+-- no name stands twice in its section; defaults lie in their kinds; what panels and schedules name exists, and what a schedule may write lies in
 -- the kind of each of its points; nothing is written at 6
 pub record IsSound (points : List Point) (panels : List Panel) (calendars : List NamedCalendar) (schedules : List NamedSchedule) : Type 0 where
+  pub distinct_points : IsTrue (are_distinct (map (λ (point : Point). point.name) points))
+  pub distinct_panels : IsTrue (are_distinct (map (λ (panel : Panel). panel.name) panels))
+  pub distinct_calendars : IsTrue (are_distinct (map (λ (calendar : NamedCalendar). calendar.name) calendars))
+  pub distinct_schedules : IsTrue (are_distinct (map (λ (schedule : NamedSchedule). schedule.name) schedules))
   pub sound_points : IsTrue (list_all is_sound_point points)
   pub sound_panels : IsTrue (list_all (is_sound_panel points) panels)
   pub sound_schedules : IsTrue (list_all (is_sound_schedule points calendars) schedules)

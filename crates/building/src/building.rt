@@ -160,6 +160,10 @@ fn with_schedules(
     ensures { Answers (with_schedules (top_of top.entry) points panels calendars) (result_map contents_of result) }
 {
     let schedules = schedules_in(alloc, &points, &calendars, top.schedules)?;
+    points.has_distinct_names();
+    panels.has_distinct_names();
+    calendars.has_distinct_names();
+    schedules.has_distinct_names();
     Ok(Building {
         zone: top.zone,
         points,

@@ -9,7 +9,8 @@ use Rattle.std.proofs.lemmas.Option.{same_Some}
 use Rattle.std.specs.List.{flat_map}
 use Rattle.std.specs.Io.KnownBytes.{Appends, IsAtEnd, Keeps}
 use Rattle.std.specs.Io.BufRead.{DropsThrough, drop_through, strip_last, take_through}
-use Rattle.building.specs.Building.{Building}
+use Rattle.building.specs.Building.{Building, contents_of}
+use Rattle.building.specs.BuildingFile.{building_of}
 use Rattle.deliveries.specs.declared.Delivery.{Delivery}
 use Rattle.deliveries.specs.Reply.{replies, reply}
 use Rattle.deliveries.specs.Tables.{tables}
@@ -18,42 +19,10 @@ use Rattle.store.specs.Tables.{Tables}
 use Rattle.points.specs.declared.Point.{Point}
 use Rattle.points.specs.Rights.{point_named}
 use Rattle.desk.specs.PointState.{state_of}
-use Rattle.building_file.specs.BuildingFile.{building_of, longest_file}
 use Rattle.delivery_lines.specs.DeliveryLine.{delivery_of}
+use Rattle.desk_console.proofs.PrintedLemmas.{Appends-Appends, Appends-Keeps, Appends-nothing}
 use Rattle.desk_cli.specs.Replay.{Prints, Replays, is_empty_line, line_of_point, lines_of, point_lines, reply_lines, state_line, told_by, with_first}
 use Rattle.delivery_lines.specs.ReplyText.{reply_line}
-
-pub Appends-Appends : (a b c : Option (List ℕ)) (x y : List ℕ) → Appends a b x → Appends b c y → Appends a c (x ++ y)
-Appends-Appends None b c x y h k = tt
-Appends-Appends (Some xs) None c x y h k = absurd h
-Appends-Appends (Some xs) (Some ys) None x y h k = absurd k
-Appends-Appends (Some xs) (Some ys) (Some zs) x y h k = k ∙ ap (λ t. t ++ y) h ∙ append_assoc xs x y
-
-pub Appends-Keeps : (a b c : Option (List ℕ)) (x : List ℕ) → Appends a b x → Keeps b c → Appends a c x
-Appends-Keeps None b c x h k = tt
-Appends-Keeps (Some xs) None c x h k = absurd h
-Appends-Keeps (Some xs) (Some ys) None x h k = absurd k
-Appends-Keeps (Some xs) (Some ys) (Some zs) x h k = k ∙ h
-
-pub Keeps-same : (a : Option (List ℕ)) → Keeps a a
-Keeps-same None = tt
-Keeps-same (Some xs) = refl
-
-pub Appends-nothing : (a : Option (List ℕ)) → Appends a a []
-Appends-nothing None = tt
-Appends-nothing (Some xs) = sym (append-nil xs)
-
--- a write takes some bytes more of a text
-pub written-more : (text written rest : List ℕ) (n : ℕ) (old mid new : Option (List ℕ)) → n ≤ length rest
-    → text ≡ written ++ rest → Appends old mid written → Appends mid new (take n rest)
-    → (more : List ℕ) × (text ≡ more ++ take (length rest - n) (drop n rest)) × Appends old new more
-written-more text written rest n old mid new within is before now =
-    let left : take (length rest - n) (drop n rest) ≡ drop n rest = take_all (length rest - n) (drop n rest) (omega (arith, length-drop n rest)) in (
-      written ++ take n rest,
-      is ∙ ap (λ xs. written ++ xs) (sym (take-append-drop n rest)) ∙ sym (append_assoc written (take n rest) (drop n rest))
-          ∙ ap (λ xs. (written ++ take n rest) ++ xs) (sym left),
-      Appends-Appends old mid new written (take n rest) before now,
-    )
 
 -- ---- replies and lines, one part after another
 
@@ -188,12 +157,12 @@ Replays-Keeps file list old mid new r kept = record {
 }
 
 -- the replies and then the points
-pub Replays-done : (file list : List ℕ) (b b' b'' : Building) (old mid new : Option (List ℕ)) (now : Content) → building_of file ≡ Some b → b' ≡ b
+pub Replays-done : (file list : List ℕ) (b b' b'' : Building) (old mid new : Option (List ℕ)) (now : Content) → building_of file ≡ Ok (contents_of b) → b' ≡ b
     → Prints b' [] (lines_of list) old mid now → b'' ≡ b' → Appends mid new (point_lines b'' now.tables) → Replays file list old new
 Replays-done file list b b' b'' old mid new now file_is same prints still points = record {
   building = b';
   told = prints.told;
-  building_is = file_is ∙ ap Some (sym same);
+  building_is = file_is ∙ ap (λ (building : Building). Ok (contents_of building)) (sym same);
   told_is = prints.told_is;
   printed = Appends-Appends old mid new _ _ prints.printed (subst (λ text. Appends mid new text) (ap₂ (λ x (held : Content). point_lines x held.tables) still prints.holds) points);
 }
@@ -213,30 +182,6 @@ points-then b b' t t' ps i p name line shown b_is t_is ps_are within name_is lin
     ∙ ap (λ u. state_at q.name u b') t_is ∙ ap (λ c. state_at q.name t c) b_is in
     ap (flat_map (line_of_point b t)) (take_more b.points i p within) ∙ flat_map-append (line_of_point b t) (take i b.points) (q ∷ [])
     ∙ ap (λ l. flat_map (line_of_point b t) (take i b.points) ++ l) (append-nil (line_of_point b t q) ∙ sym this)
-
--- ---- the file's first bytes
-
-building_of-long : (xs : List ℕ) → nat_le (length xs) longest_file ≡ false → building_of xs ≡ None
-unfolding building_of
-building_of-long xs e = rw e refl
-
-pub building_of-taken : (bytes : List ℕ) (b : Building) → building_of (take 1_048_577 bytes) ≡ Some b → building_of bytes ≡ Some b
-building_of-taken bytes b e = elim (nat_le (length bytes) 1_048_577) as (λ t. nat_le (length bytes) 1_048_577 ≡ t → building_of bytes ≡ Some b) [
-  | true ↦ λ short. ap building_of (sym (take_all 1_048_577 bytes (leb-true (length bytes) 1_048_577 short))) ∙ e
-  | false ↦ λ long.
-      let more : 1_048_577 < length bytes = leb-false (length bytes) 1_048_577 long in
-      let full : length (take 1_048_577 bytes) ≡ 1_048_577 = length-take-le 1_048_577 bytes (omega arith) in
-      let none : building_of (take 1_048_577 bytes) ≡ None = building_of-long (take 1_048_577 bytes) (ap (λ n. nat_le n longest_file) full) in
-      let bad : None ≡ Some b = sym none ∙ e in cc
-] refl
-
-pub taken_bytes : {R : Type 0} (remaining : R → Option (List ℕ)) (limit : ℕ) (inner reader : R) (bytes start buf : List ℕ)
-    → limit ≡ 1_048_577 → inner ≡ reader → start ≡ []
-    → remaining reader ≡ Some bytes → IfSome (option_map (take limit) (remaining inner)) (λ xs. buf ≡ start ++ xs) → buf ≡ take 1_048_577 bytes
-taken_bytes remaining limit inner reader bytes start buf limit_is inner_is start_is known read =
-    let first = subst (λ r. IfSome (option_map (take limit) (remaining r)) (λ xs. buf ≡ start ++ xs)) inner_is read in
-    let then : buf ≡ start ++ take limit bytes = subst (λ o. IfSome (option_map (take limit) o) (λ xs. buf ≡ start ++ xs)) known first in
-    then ∙ ap₂ (λ s n. s ++ take n bytes) start_is limit_is
 
 pub Prints-same : (b b' : Building) (E : List Delivery) (line line' : List ℕ) (old new : Option (List ℕ)) (now : Content) → b ≡ b' → line ≡ line'
     → Prints b E (line ∷ []) old new now → Prints b' E (line' ∷ []) old new now

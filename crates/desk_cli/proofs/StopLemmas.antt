@@ -7,47 +7,19 @@ use Rattle.std.specs.List.{flat_map}
 use Rattle.std.specs.declared.alloc.Global.{Global}
 use Rattle.std.specs.Io.BufRead.{DropsThrough, drop_through, strip_last, take_through}
 use Rattle.std.specs.Io.KnownBytes.{Appends, Keeps}
-use Rattle.building.specs.Building.{Building}
+use Rattle.building.specs.Building.{Building, contents_of}
+use Rattle.building.specs.BuildingFile.{building_of}
 use Rattle.deliveries.specs.declared.Delivery.{Delivery}
 use Rattle.deliveries.specs.Reply.{replies, reply}
 use Rattle.deliveries.specs.Tables.{tables}
 use Rattle.store.specs.Standing.{Content, Standing, sound}
-use Rattle.building_file.specs.BuildingFile.{building_of}
 use Rattle.delivery_lines.specs.DeliveryLine.{delivery_of}
 use Rattle.delivery_lines.specs.LineAnswer.{AnswersLine}
-use Rattle.desk_cli.specs.Replay.{AppendsStart, Prints, PrintsNoMore, PrintsStart, is_empty_line, lines_of, point_lines, reply_lines}
+use Rattle.desk_console.specs.Printed.{AppendsStart}
+use Rattle.desk_console.proofs.PrintedLemmas.{Appends-Appends, Appends-Keeps, Appends-nothing, start-Keeps, start-after, start-longer, start-nothing, start-taken, start-whole}
+use Rattle.desk_cli.specs.Replay.{Prints, PrintsNoMore, PrintsStart, is_empty_line, lines_of, point_lines, reply_lines}
 use Rattle.delivery_lines.specs.ReplyText.{reply_line}
-use Rattle.desk_cli.proofs.ReplayLemmas.{Appends-Appends, Appends-Keeps, Appends-nothing, Progress, lines_of-left, replies-append, told_by-append}
-
--- ---- beginnings of a text
-
-pub start-nothing : (a : Option (List ℕ)) (text : List ℕ) → AppendsStart a a text
-start-nothing a text = ([], text, refl, Appends-nothing a)
-
-pub start-whole : (a b : Option (List ℕ)) (text : List ℕ) → Appends a b text → AppendsStart a b text
-start-whole a b text whole = (text, [], sym (append-nil text), whole)
-
-pub start-after : (a b c : Option (List ℕ)) (text more : List ℕ) → Appends a b text → AppendsStart b c more → AppendsStart a c (text ++ more)
-start-after a b c text more whole start = (
-  text ++ start.0,
-  start.1,
-  ap (λ t. text ++ t) start.2 ∙ sym (append_assoc text start.0 start.1),
-  Appends-Appends a b c text start.0 whole start.3,
-)
-
-pub start-longer : (a b : Option (List ℕ)) (text more : List ℕ) → AppendsStart a b text → AppendsStart a b (text ++ more)
-start-longer a b text more start = (start.0, start.1 ++ more, ap (λ t. t ++ more) start.2 ∙ append_assoc start.0 start.1 more, start.3)
-
-pub start-Keeps : (a b c : Option (List ℕ)) (text : List ℕ) → AppendsStart a b text → Keeps b c → AppendsStart a c text
-start-Keeps a b c text start kept = (start.0, start.1, start.2, Appends-Keeps a b c start.0 start.3 kept)
-
--- the texts of some items, and of all
-pub start-taken : {A : Type 0} (f : A → List ℕ) (xs : List A) (i : ℕ) (a b : Option (List ℕ))
-    → AppendsStart a b (flat_map f (take i xs)) → AppendsStart a b (flat_map f xs)
-start-taken f xs i a b start =
-    let all : flat_map f (take i xs) ++ flat_map f (drop i xs) ≡ flat_map f xs = sym (flat_map-append f (take i xs) (drop i xs))
-    ∙ ap (flat_map f) (take-append-drop i xs) in
-    subst (λ text. AppendsStart a b text) all (start-longer a b (flat_map f (take i xs)) (flat_map f (drop i xs)) start)
+use Rattle.desk_cli.proofs.ReplayLemmas.{Progress, lines_of-left, replies-append, told_by-append}
 
 -- ---- the first lines
 
@@ -135,12 +107,12 @@ Progress-stops-at b E bytes line left after old mid new now p reads drops some s
 
 -- ---- the whole run
 
-pub no_more-lines : (file list : List ℕ) (b b' : Building) (old mid new : Option (List ℕ)) → building_of file ≡ Some b
+pub no_more-lines : (file list : List ℕ) (b b' : Building) (old mid new : Option (List ℕ)) → building_of file ≡ Ok (contents_of b)
     → b' ≡ b → PrintsStart b' [] (lines_of list) old mid
     → Keeps mid new → PrintsNoMore file list old new
 no_more-lines file list b b' old mid new file_is same part kept = inr (
   b',
-  file_is ∙ ap Some (sym same),
+  file_is ∙ ap (λ (building : Building). Ok (contents_of building)) (sym same),
   inl (record {
     first = part.first;
     others = part.others;
@@ -151,11 +123,11 @@ no_more-lines file list b b' old mid new file_is same part kept = inr (
   }),
 )
 
-pub no_more-points : (file list : List ℕ) (b b' b'' : Building) (old mid new last : Option (List ℕ)) (now : Content) → building_of file ≡ Some b → b' ≡ b
+pub no_more-points : (file list : List ℕ) (b b' b'' : Building) (old mid new last : Option (List ℕ)) (now : Content) → building_of file ≡ Ok (contents_of b) → b' ≡ b
     → Prints b' [] (lines_of list) old mid now → b'' ≡ b' → AppendsStart mid new (point_lines b'' now.tables) → Keeps new last → PrintsNoMore file list old last
 no_more-points file list b b' b'' old mid new last now file_is same prints still points kept = inr (
   b',
-  file_is ∙ ap Some (sym same),
+  file_is ∙ ap (λ (building : Building). Ok (contents_of building)) (sym same),
   inr (record {
     told = prints.told;
     told_is = prints.told_is;

@@ -1,4 +1,2 @@
 pub mod PointLine
 pub mod Replay
-pub mod ReplayFault
-pub mod Status

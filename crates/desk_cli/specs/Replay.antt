@@ -6,7 +6,8 @@ use Rattle.std.specs.Str.{bytes_eq}
 use Rattle.std.specs.Io.KnownBytes.{Appends, Keeps}
 use Rattle.points.specs.declared.Point.{Point}
 use Rattle.points.specs.Rights.{point_named}
-use Rattle.building.specs.Building.{Building}
+use Rattle.building.specs.Building.{Building, contents_of}
+use Rattle.building.specs.BuildingFile.{building_of}
 use Rattle.deliveries.specs.declared.Delivery.{Delivery}
 use Rattle.desk.specs.declared.PointState.{PointState}
 use Rattle.deliveries.specs.declared.Reply.{Reply}
@@ -15,8 +16,8 @@ use Rattle.deliveries.specs.Reply.{replies}
 use Rattle.deliveries.specs.Tables.{tables}
 use Rattle.store.specs.Standing.{Content, sound}
 use Rattle.store.specs.Tables.{Tables}
-use Rattle.building_file.specs.BuildingFile.{building_of}
 use Rattle.delivery_lines.specs.DeliveryLine.{delivery_of}
+use Rattle.desk_console.specs.Printed.{AppendsStart}
 use Rattle.desk_cli.specs.PointLine.{point_line}
 use Rattle.delivery_lines.specs.ReplyText.{reply_line}
 use Rattle.texts.specs.Steps.{◌>>=◌}
@@ -72,16 +73,12 @@ pub record Prints (b : Building) (E : List Delivery) (lines : List (List ℕ)) (
 pub record Replays (file list : List ℕ) (old new : Option (List ℕ)) : Type 0 where
   pub building : Building
   pub told : List Delivery
-  pub building_is : building_of file ≡ Some building
+  pub building_is : building_of file ≡ Ok (contents_of building)
   pub told_is : told_by (lines_of list) ≡ Some told
   pub printed : Appends old new
       (reply_lines (replies building [] told) ++ point_lines building (tables building told))
 
 -- ---- what is printed at most, whatever the end
-
--- known bytes grow by a beginning of a text
-abbrev pub AppendsStart : Option (List ℕ) → Option (List ℕ) → List ℕ → Type 0
-AppendsStart old new text = (start : List ℕ) × (rest : List ℕ) × (text ≡ start ++ rest) × Appends old new start
 
 -- after the list E the first lines tell deliveries, and a beginning of the replies to them was printed
 pub record PrintsStart (b : Building) (E : List Delivery) (lines : List (List ℕ)) (old new : Option (List ℕ)) : Type 0 where
@@ -103,14 +100,9 @@ pub record PrintsAllLines (b : Building) (lines : List (List ℕ)) (old new : Op
 abbrev pub PrintsNoMore : List ℕ → List ℕ → Option (List ℕ) → Option (List ℕ) → Type 0
 PrintsNoMore file list old new =
     Keeps old new
-    ⊎ ((b : Building) × (building_of file ≡ Some b)
+    ⊎ ((b : Building) × (building_of file ≡ Ok (contents_of b))
     × (PrintsStart b [] (lines_of list) old new ⊎ PrintsAllLines b (lines_of list) old new))
 
 -- whatever reader a call may open, it has these bytes left
 abbrev pub Opens : {R : Type 0} → (R → Type 0) → (R → Option (List ℕ)) → List ℕ → Type 0
 Opens {R} may_open left bytes = (reader : R) → may_open reader → left reader ≡ Some bytes
-
--- the bytes that an opened reader has left, where they are known
-abbrev pub bytes_of : {R E : Type 0} → (R → Option (List ℕ)) → Result R E → Option (List ℕ)
-bytes_of remaining (Ok reader) = remaining reader
-bytes_of {R} {E} remaining (Err error) = None

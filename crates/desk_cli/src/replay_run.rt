@@ -8,17 +8,15 @@ ghost use Rattle.points.specs.Rights.{point_named};
 ghost use Rattle.desk.specs.PointState.{state_of};
 ghost use Rattle.desk.specs.Headline.{Holds};
 ghost use Rattle.deliveries.specs.declared.Delivery.{Delivery as a_delivery};
-ghost use Rattle.building_file.specs.BuildingFile.{building_of};
-ghost use Rattle.desk_cli.specs.Replay.{AppendsStart, Opens, Prints, PrintsNoMore, PrintsStart, Replays, bytes_of};
+ghost use Rattle.desk_console.specs.Input.{bytes_of};
+ghost use Rattle.desk_console.specs.Printed.{AppendsStart};
+ghost use Rattle.desk_cli.specs.Replay.{Opens, Prints, PrintsNoMore, PrintsStart, Replays};
 ghost use Rattle.desk_cli.specs.Replay.{is_empty_line, lines_of, point_lines, state_line};
 
 use crate::point_line::point_line;
-use crate::replay_fault::ReplayFault;
-use crate::{Input, Listed, Status};
-use building_file::{LONGEST_FILE, read_building};
-use building::Building;
 use delivery_lines::{LineFault, answer_line};
 use desk::Desk;
+use desk_console::{Input, Listed, RunFault, Status, flush, print_text, read_building};
 use points::Name;
 use std::alloc::Global;
 use std::io::{self, BufRead, BufReader, Read, Write};
@@ -56,19 +54,10 @@ where
         Ok(()) => Status::Done,
         Err(end) => {
             let end = end.after(out.flush());
-            tell(alloc, &end, fault);
+            end.tell(alloc, fault);
             end.status()
         }
     }
-}
-
-/// Tells a fault as one line: in one write, or where memory is refused for that, piece by piece and with the
-/// path as it is.
-fn tell<F: Write>(alloc: Global, end: &ReplayFault<'_>, fault: &mut F) {
-    let _told = match end.line(alloc) {
-        Ok(line) => fault.write_all(line.as_bytes()),
-        Err(_) => writeln!(fault, "{end}"),
-    };
 }
 
 fn replay_over<'a, B: Read + Drop, D: Read + Drop, O, W: Write>(
@@ -76,7 +65,7 @@ fn replay_over<'a, B: Read + Drop, D: Read + Drop, O, W: Write>(
     file: Input<'a, B>,
     deliveries: Listed<'a, O>,
     out: &mut W,
-) -> Result<(), ReplayFault<'a>>
+) -> Result<(), RunFault<'a>>
 where
     O: FnOnce() -> io::Result<BufReader<D>>,
     requires { O.IsAlwaysCallable deliveries.open }
@@ -89,38 +78,16 @@ where
         → Opens (O.post deliveries.entry.open) (bytes_of (reader_remaining D.remaining)) list_bytes
         → PrintsNoMore file_bytes list_bytes (W.contents out.old) (W.contents out.new) }
 {
-    let building = building_in(alloc, file)?;
+    let building = read_building(alloc, file)?;
     let store = MemStore::new(alloc);
     let mut desk = Desk::new(alloc, building, store);
     let Listed { path, open } = deliveries;
     match open() {
         Ok(reader) => print_replies(alloc, &mut desk, path, reader, out)?,
-        Err(error) => return Err(ReplayFault::of_read(&error, path)),
+        Err(error) => return Err(RunFault::of_read(&error, path)),
     }
     print_points(alloc, &mut desk, out)?;
     flush(out)
-}
-
-/// The building of a file.
-fn building_in<'a, B: Read + Drop>(
-    alloc: Global,
-    file: Input<'a, B>,
-) -> Result<Building, ReplayFault<'a>>
-    ensures { IfOk result (λ building. (bytes : List ℕ)
-        → bytes_of B.remaining file.entry.reader ≡ Some bytes → building_of bytes ≡ Some building) }
-{
-    let path = file.path;
-    let mut bytes = Vec::new(alloc);
-    match file.reader {
-        Ok(reader) => {
-            let mut start = reader.take(LONGEST_FILE as u64 + 1);
-            if let Err(error) = start.read_to_end(&mut bytes) {
-                return Err(ReplayFault::of_read(&error, path));
-            }
-        }
-        Err(error) => return Err(ReplayFault::of_read(&error, path)),
-    }
-    Ok(read_building(alloc, bytes.as_slice())?)
 }
 
 /// Answers each line that the reader has left.
@@ -130,7 +97,7 @@ fn print_replies<'a, S: Store + Drop, D: Read + Drop, W: Write>(
     path: &'a str,
     mut reader: BufReader<D>,
     out: &mut W,
-) -> Result<(), ReplayFault<'a>>
+) -> Result<(), RunFault<'a>>
     ensures prints { OnOk result ((bytes : List ℕ) (E : List a_delivery) → (S.standing desk.new.store).is_honest
         → reader_remaining D.remaining reader ≡ Some bytes
         → Holds desk.old.building E (S.standing desk.old.store)
@@ -153,10 +120,10 @@ fn print_replies<'a, S: Store + Drop, D: Read + Drop, W: Write>(
                 let line = without_end(line.as_slice());
                 print_reply_and_flush(alloc, desk, number, line, waits, out)?;
             }
-            Err(error) => return Err(ReplayFault::of_read(&error, path)),
+            Err(error) => return Err(RunFault::of_read(&error, path)),
         }
     }
-    Err(ReplayFault::CannotRead { path })
+    Err(RunFault::CannotRead { path })
 }
 
 /// Answers one line, with its number from 1, unless it is empty. Where the next line has to be waited for,
@@ -168,7 +135,7 @@ fn print_reply_and_flush<'a, S: Store + Drop, W: Write>(
     line: &[u8],
     waits: bool,
     out: &mut W,
-) -> Result<(), ReplayFault<'a>>
+) -> Result<(), RunFault<'a>>
     ensures prints { OnOk result ((E : List a_delivery) → (S.standing desk.new.store).is_honest
         → Holds desk.old.building E (S.standing desk.old.store)
         → Prints desk.old.building E (line.now ∷ []) (W.contents out.old) (W.contents out.new)
@@ -190,7 +157,7 @@ fn print_reply<'a, S: Store + Drop, W: Write>(
     number: u64,
     line: &[u8],
     out: &mut W,
-) -> Result<(), ReplayFault<'a>>
+) -> Result<(), RunFault<'a>>
     ensures prints { OnOk result ((E : List a_delivery) → (S.standing desk.new.store).is_honest
         → Holds desk.old.building E (S.standing desk.old.store)
         → Prints desk.old.building E (line.now ∷ []) (W.contents out.old) (W.contents out.new)
@@ -206,33 +173,8 @@ fn print_reply<'a, S: Store + Drop, W: Write>(
     }
     match answer_line(alloc, desk, line) {
         Ok(text) => print_text(out, text.as_slice()),
-        Err(LineFault::NotDelivery) => Err(ReplayFault::NotDelivery { line: number }),
-        Err(LineFault::NotDone(fault)) => Err(ReplayFault::from(fault)),
-    }
-}
-
-/// Prints a text whole, or where the output fails a beginning of it; what `write_all` has printed by
-/// then, std does not say.
-fn print_text<'a, W: Write>(out: &mut W, text: &[u8]) -> Result<(), ReplayFault<'a>>
-    ensures whole { OnOk result (Appends (W.contents out.old) (W.contents out.new) text.now) }
-    ensures no_more { AppendsStart (W.contents out.old) (W.contents out.new) text.now }
-{
-    let mut rest = text;
-    while !rest.is_empty() {
-        match out.write(rest) {
-            Ok(0) | Err(_) => return Err(ReplayFault::OutputFailed),
-            Ok(taken) => rest = &rest[taken..],
-        }
-    }
-    Ok(())
-}
-
-fn flush<'a, W: Write>(out: &mut W) -> Result<(), ReplayFault<'a>>
-    ensures { Keeps (W.contents out.old) (W.contents out.new) }
-{
-    match out.flush() {
-        Ok(()) => Ok(()),
-        Err(_) => Err(ReplayFault::OutputFailed),
+        Err(LineFault::NotDelivery) => Err(RunFault::NotDelivery { line: number }),
+        Err(LineFault::NotDone(fault)) => Err(RunFault::from(fault)),
     }
 }
 
@@ -241,15 +183,15 @@ fn print_points<'a, S: Store + Drop, W: Write>(
     alloc: Global,
     desk: &mut Desk<S>,
     out: &mut W,
-) -> Result<(), ReplayFault<'a>>
+) -> Result<(), RunFault<'a>>
     ensures whole { (S.standing desk.new.store).is_honest → OnOk result (Appends (W.contents out.old) (W.contents out.new)
         (point_lines desk.old.building (S.standing desk.old.store).content.tables)) }
     ensures no_more { (S.standing desk.new.store).is_honest → AppendsStart (W.contents out.old) (W.contents out.new)
         (point_lines desk.old.building (S.standing desk.old.store).content.tables) }
 {
-    let count = desk.building().points.as_slice().len();
+    let count = desk.building().points().len();
     for place in 0..count {
-        let name = desk.building().points.as_slice()[place].name;
+        let name = desk.building().points()[place].name;
         let text = point_text(alloc, desk, &name)?;
         print_text(out, text.as_bytes())?;
     }
@@ -261,7 +203,7 @@ fn point_text<'a, S: Store + Drop>(
     alloc: Global,
     desk: &mut Desk<S>,
     name: &Name,
-) -> Result<String, ReplayFault<'a>>
+) -> Result<String, RunFault<'a>>
     ensures text { (S.standing desk.new.store).is_honest → IfOk result (λ text. string_bytes text ≡ state_line name.now
         (state_of ((S.standing desk.old.store).content.tables.places name.now)
         (point_named desk.old.building.points name.now))) }

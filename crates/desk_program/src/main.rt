@@ -2,7 +2,9 @@
 #![tactic(auto)]
 
 use command_line::{ArgFault, Line};
-use desk_cli::{Input, Listed, Status, replay};
+use desk_check::check;
+use desk_cli::replay;
+use desk_console::{Input, Listed, Status};
 use std::env;
 use std::fs::{self, File};
 use std::io::{self, BufReader, BufWriter, Write};
@@ -30,6 +32,16 @@ fn words(rt: &HostRuntime) -> io::Result<Vec<String>> {
 /// The file of a path, read in blocks.
 fn open_list(rt: &HostRuntime, path: &str) -> io::Result<BufReader<File>> {
     BufReader::new(rt.alloc(), fs::open(rt, path)?)
+}
+
+fn run_check(rt: &HostRuntime, file: &str) -> io::Result<Status> {
+    let alloc = rt.alloc();
+    let mut out = BufWriter::new(alloc, io::writer(rt))?;
+    let building = Input {
+        path: file,
+        reader: fs::open(rt, file),
+    };
+    Ok(check(alloc, building, &mut out, &mut rt.stderr()))
 }
 
 fn run_replay(rt: &HostRuntime, file: &str, deliveries: &str) -> io::Result<Status> {
@@ -71,6 +83,7 @@ fn refuse_unread(rt: &HostRuntime, error: &io::Error) -> Status {
 
 fn run(rt: &HostRuntime, words: &[String]) -> io::Result<Status> {
     match Line::of(rt.alloc(), words) {
+        Ok(Line::Check { file }) => run_check(rt, file),
         Ok(Line::Replay { file, deliveries }) => run_replay(rt, file, deliveries),
         Err(fault) => Ok(refuse(rt, &fault)),
     }

@@ -1,5 +1,6 @@
 //! A reader and a writer that fail in the midst.
-use desk_cli::{Input, Listed, Status, replay};
+use desk_cli::replay;
+use desk_console::{Input, Listed, Status};
 use std::alloc::Global;
 use std::io::{self, BufReader, Read, Write};
 use std::process::Abort;

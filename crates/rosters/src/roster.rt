@@ -1,8 +1,8 @@
 //! Lists of named items that are searched by an index.
 
-ghost use Rattle.std.specs.Prelude.{◌≡◌, [], ◌∷◌, slice_get, ◌++◌, false, find, option_copied, position, OnErr, OnOk};
+ghost use Rattle.std.specs.Prelude.{◌≡◌, IsTrue, [], ◌∷◌, map, slice_get, ◌++◌, false, find, option_copied, position, OnErr, OnOk};
 ghost use Rattle.points.specs.Names.{is_among};
-ghost use Rattle.rosters.specs.Roster.{has_name, has_the_name};
+ghost use Rattle.rosters.specs.Roster.{are_distinct, has_name, has_the_name};
 
 use crate::Named;
 use points::{Name, Names};
@@ -17,13 +17,14 @@ pub struct Roster<T: Named> {
 }
 
 impl<T: Named> Model for Roster<T> {
-    ghost use Rattle.std.specs.Prelude.{◌≡◌, List, map};
+    ghost use Rattle.std.specs.Prelude.{◌≡◌, IsTrue, List, map};
+    ghost use Rattle.rosters.specs.Roster.{are_distinct};
 
     ghost Value = { List T };
 
     ghost view = { λ roster. roster.items.items };
 
-    ghost invariant = { λ roster. roster.names ≡ map T.name_of roster.items.items };
+    ghost invariant = { λ roster. (roster.names ≡ map T.name_of roster.items.items) × IsTrue (are_distinct roster.names) };
 }
 
 impl<T: Named> Roster<T> {
@@ -70,6 +71,13 @@ impl<T: Named> Roster<T> {
         push_name(&mut self.names, item.name())?;
         self.items.push(item)?;
         Ok(())
+    }
+
+    /// No two items have one name: what this says holds of each roster, and nothing is done.
+    pub fn has_distinct_names(&self)
+        ensures { IsTrue (are_distinct (map T.name_of self.now)) }
+    {
+        let _ = &self.names;
     }
 
     /// The items as a slice.

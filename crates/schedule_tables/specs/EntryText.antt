@@ -12,7 +12,7 @@ use Rattle.dates.specs.declared.entry.Entry.TheVariants as entry
 use Rattle.dates.specs.declared.entry_fault.EntryFault.{EntryFault}
 use Rattle.dates.specs.declared.entry_fault.EntryFault.TheVariants.{Shape}
 use Rattle.dates.specs.declared.range.Range.{Range}
-use Rattle.dates.specs.Reading.{reading}
+use Rattle.dates.specs.Entry.{reading}
 use Rattle.toml_fields.specs.Fields.{text_in}
 
 -- B8 with the number of the entry's fault

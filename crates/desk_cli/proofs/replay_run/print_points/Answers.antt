@@ -1,9 +1,10 @@
 use Rattle.std.proofs.Common.{◌+◌, ◌∙◌, ap, rules, refl, subst, sym, arith}
 use Rattle.std.specs.Io.KnownBytes.{Appends}
 use Rattle.store.specs.Standing.{Content}
-use Rattle.desk_cli.specs.Replay.{AppendsStart, line_of_point}
-use Rattle.desk_cli.proofs.ReplayLemmas.{Appends-Appends, points-then}
-use Rattle.desk_cli.proofs.StopLemmas.{start-after, start-taken, start-whole}
+use Rattle.desk_console.specs.Printed.{AppendsStart}
+use Rattle.desk_console.proofs.PrintedLemmas.{Appends-Appends, start-after, start-taken, start-whole}
+use Rattle.desk_cli.specs.Replay.{line_of_point}
+use Rattle.desk_cli.proofs.ReplayLemmas.{points-then}
 use Rattle.desk_cli.proofs.replay_run.print_points.Goals as goal
 
 pub loop-place-preserved : goal.loop-place-preserved

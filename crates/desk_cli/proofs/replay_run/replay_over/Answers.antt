@@ -3,8 +3,9 @@ use Rattle.std.specs.Io.Buffered.{reader_remaining}
 use Rattle.deliveries.specs.Tables.{tables}
 use Rattle.store.specs.Standing.{sound}
 use Rattle.store.specs.Memory.{standing_of}
+use Rattle.desk_console.proofs.PrintedLemmas.{Keeps-same}
 use Rattle.desk_cli.proofs.EmptyLemmas.{tables-none}
-use Rattle.desk_cli.proofs.ReplayLemmas.{Keeps-same, Replays-Keeps, Replays-done}
+use Rattle.desk_cli.proofs.ReplayLemmas.{Replays-Keeps, Replays-done}
 use Rattle.desk_cli.proofs.StopLemmas.{no_more-lines, no_more-points}
 use Rattle.desk_cli.proofs.replay_run.replay_over.Goals as goal
 

@@ -8,5 +8,5 @@ pub returns : goal.returns
 returns g c =
     let name_of = g.T.Named.name_of in
     let name = c.args.name.now in
-    c.contains.ensures ∙ ap (is_among name) c.self.invariant ∙ among-map name_of name c.self.inside.items.items
+    c.contains.ensures ∙ ap (is_among name) c.self.invariant.0 ∙ among-map name_of name c.self.inside.items.items
     ∙ ap (has_name name_of name) c.self.view_is

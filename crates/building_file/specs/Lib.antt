@@ -1,6 +1,0 @@
-pub mod BuildingFile
-pub mod DistinctNames
-pub mod FileFault
-pub mod PanelTable
-pub mod PointTable
-pub mod TableFields

@@ -1,0 +1,4 @@
+pub mod Input
+pub mod Printed
+pub mod RunFault
+pub mod Status

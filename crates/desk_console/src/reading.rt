@@ -1,0 +1,36 @@
+//! The building of a file.
+
+ghost use Rattle.std.specs.Prelude.{◌≡◌, List, ℕ, IfOk, Ok, Some};
+ghost use Rattle.building.specs.Building.{contents_of};
+ghost use Rattle.building.specs.BuildingFile.{building_of};
+ghost use Rattle.desk_console.specs.Input.{bytes_of};
+
+use crate::{Input, RunFault};
+use building::Building;
+use std::alloc::Global;
+use std::io::Read;
+
+/// The bytes of a file that are read: one more than a building file has at most.
+const READ: u64 = 1_048_577;
+
+/// The building of a file, or why there is none.
+pub fn read_building<'a, B: Read + Drop>(
+    alloc: Global,
+    file: Input<'a, B>,
+) -> Result<Building, RunFault<'a>>
+    ensures { IfOk result (λ building. (bytes : List ℕ)
+        → bytes_of B.remaining file.entry.reader ≡ Some bytes → building_of bytes ≡ Ok (contents_of building)) }
+{
+    let path = file.path;
+    let mut bytes = Vec::new(alloc);
+    match file.reader {
+        Ok(reader) => {
+            let mut start = reader.take(READ);
+            if let Err(error) = start.read_to_end(&mut bytes) {
+                return Err(RunFault::of_read(&error, path));
+            }
+        }
+        Err(error) => return Err(RunFault::of_read(&error, path)),
+    }
+    Ok(Building::read(alloc, bytes.as_slice())?)
+}

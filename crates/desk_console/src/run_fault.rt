@@ -1,0 +1,135 @@
+//! Why a run stopped.
+
+ghost use Rattle.std.specs.Prelude.{◌≡◌};
+
+use crate::Status;
+use building::{BuildingFault, FileFault};
+use std::alloc::{AllocError, Global};
+use std::io::Write;
+use std::{fmt, io};
+use store::StoreFault;
+
+/// Why a run of the program stopped. Its text is the line of the fault end, without the line end.
+#[derive(Clone, Copy, Debug, PartialEq, Eq)]
+pub enum RunFault<'a> {
+    /// The file of this path can't be read.
+    CannotRead { path: &'a str },
+    /// The building file is at fault.
+    Building(FileFault),
+    /// The line of this number, counted from 1, tells no delivery.
+    NotDelivery { line: u64 },
+    /// The output failed.
+    OutputFailed,
+    /// Memory was refused.
+    NoMemory,
+    /// The store failed.
+    Store(StoreFault),
+}
+
+impl<'a> RunFault<'a> {
+    /// What the program ends with.
+    pub fn status(&self) -> Status
+        ensures { (result ≡ Status.Done) → ⊥ }
+    {
+        match self {
+            RunFault::NoMemory | RunFault::Store(_) => Status::Store,
+            _ => Status::Fault,
+        }
+    }
+
+    /// The fault that is told where the output is flushed after this one: of two ends the one that lost
+    /// output.
+    pub fn after(self, flushed: io::Result<()>) -> RunFault<'a> {
+        match flushed {
+            Ok(()) => self,
+            Err(_) => RunFault::OutputFailed,
+        }
+    }
+
+    /// The fault as one line with its line end (LF): a character in it that would end or hide the line is
+    /// written as an escape.
+    fn line(&self, alloc: Global) -> Result<String, AllocError> {
+        let text = self.to_string(alloc)?;
+        let mut line = String::new(alloc);
+        for character in text.chars() {
+            if character.is_control() {
+                write!(line, "{}", character.escape_default())?;
+            } else {
+                line.push(character)?;
+            }
+        }
+        line.push('\n')?;
+        Ok(line)
+    }
+
+    /// Tells the fault as one line: in one write, or where memory is refused for that, piece by piece and
+    /// with the path as it is.
+    pub fn tell<F: Write>(&self, alloc: Global, out: &mut F) {
+        let _told = match self.line(alloc) {
+            Ok(line) => out.write_all(line.as_bytes()),
+            Err(_) => writeln!(out, "{self}"),
+        };
+    }
+
+    /// Why a file of this path is not read.
+    pub fn of_read(error: &io::Error, path: &'a str) -> RunFault<'a> {
+        match error.kind() {
+            io::ErrorKind::OutOfMemory => RunFault::NoMemory,
+            _ => RunFault::CannotRead { path },
+        }
+    }
+}
+
+impl fmt::Display for RunFault<'_> {
+    ghost use Rattle.std.specs.Prelude.{Some};
+    ghost use Rattle.desk_console.specs.RunFault.{line_of};
+
+    ghost output = { λ fault. Some (line_of fault) };
+
+    fn fmt<W: fmt::Write>(&self, f: &mut fmt::Formatter<W>) -> fmt::Result {
+        match self {
+            RunFault::CannotRead { path } => write!(f, "desk: cannot read {path}"),
+            RunFault::Building(fault) => write!(f, "desk: {fault}"),
+            RunFault::NotDelivery { line } => write!(f, "desk: line {line} is not a delivery"),
+            RunFault::OutputFailed => f.write_str("desk: cannot write"),
+            RunFault::NoMemory => f.write_str("desk: out of memory"),
+            RunFault::Store(fault) => write!(f, "desk: store fault {fault}"),
+        }
+    }
+}
+
+impl From<AllocError> for RunFault<'_> {
+    ghost use Rattle.desk_console.specs.declared.run_fault.RunFault.{RunFault};
+
+    ghost from_gives = { λ _ fault. fault ≡ RunFault.NoMemory };
+
+    fn from(_error: AllocError) -> Self {
+        RunFault::NoMemory
+    }
+}
+
+impl From<BuildingFault> for RunFault<'_> {
+    ghost use Rattle.desk_console.specs.RunFault.{fault_of_building};
+
+    ghost from_gives = { λ fault given. given ≡ fault_of_building fault };
+
+    fn from(fault: BuildingFault) -> Self {
+        match fault {
+            BuildingFault::File(fault) => RunFault::Building(fault),
+            BuildingFault::NoMemory => RunFault::NoMemory,
+        }
+    }
+}
+
+impl From<StoreFault> for RunFault<'_> {
+    ghost use Rattle.desk_console.specs.RunFault.{fault_of_store};
+
+    ghost from_gives = { λ fault given. given ≡ fault_of_store fault };
+
+    fn from(fault: StoreFault) -> Self {
+        match fault {
+            StoreFault::NoMemory => RunFault::NoMemory,
+            _ => RunFault::Store(fault),
+        }
+    }
+}
