@@ -1,0 +1,6 @@
+pub mod Answers
+pub mod HolidayList
+pub mod ImportFaults
+pub mod ImportTexts
+pub mod RecordTexts
+pub mod StandIn

@@ -1,0 +1,131 @@
+//! The rows of a holiday list.
+
+ghost use Rattle.std.specs.Prelude.{◌≡◌, [], ◌∷◌, ◌++◌, map, OnOk};
+ghost use Rattle.std.specs.Result.{result_ok};
+ghost use Rattle.dates.specs.Entry.{reading};
+ghost use Rattle.csv.specs.Records.{fields_of};
+ghost use Rattle.holidays.specs.Answers.{Answers, result_map};
+ghost use Rattle.holidays.specs.HolidayList.{all_ok, calendar_of, header_in, holidays_in, row_in, rows_told};
+ghost use Rattle.csv_records.specs.CsvRecords.{records_of};
+
+use crate::building_stand_in::Building;
+use crate::record_texts::{is_text, two_texts};
+use crate::{ImportCause, ImportFault, ImportRefusal};
+use csv_records::{ByteRecord, all_records};
+use dates::Entry;
+use std::alloc::{AllocError, Global};
+use texts::name_of;
+
+/// The record of the last row that a list may have: 2,000 rows follow the header (this profile's limit).
+const LAST_RECORD: u64 = 2_001;
+
+/// A row of a holiday list: an entry for a calendar.
+#[derive(Clone, Copy, Debug, PartialEq, Eq)]
+pub struct ImportedRow {
+    /// The place of the calendar in the building file, from 0.
+    pub calendar: usize,
+    pub entry: Entry,
+}
+
+/// Reads the rows of a holiday list for the calendars of a building, or tells the fault of its least faulty
+/// record.
+pub fn read_holidays(
+    alloc: Global,
+    building: &Building,
+    bytes: &[u8],
+) -> Result<Vec<ImportedRow>, ImportRefusal>
+    ensures { Answers (holidays_in (calendar_of building.now.calendars) (records_of bytes.now))
+        (result_map (λ rows. rows.items) result) }
+{
+    let records = all_records(alloc, bytes)?;
+    rows_of(alloc, building, records.as_slice())
+}
+
+/// The rows of a list's records.
+fn rows_of(
+    alloc: Global,
+    building: &Building,
+    records: &[ByteRecord],
+) -> Result<Vec<ImportedRow>, ImportRefusal>
+    ensures { Answers (holidays_in (calendar_of building.now.calendars) (map fields_of records.now))
+        (result_map (λ rows. rows.items) result) }
+{
+    match records {
+        [] => Err(ImportCause::OtherHeader.at(1).into()),
+        [header, rows @ ..] => {
+            check_header(header)?;
+            rows_under_header(alloc, building, rows)
+        }
+    }
+}
+
+/// Refuses another header than `calendar,entry` (I1, I2).
+fn check_header(fields: &ByteRecord) -> Result<(), ImportFault>
+    ensures { result ≡ header_in (fields_of fields.now) }
+{
+    if !is_text(fields) {
+        return Err(ImportCause::NotCsv.at(1));
+    }
+    match two_texts(fields) {
+        Some((calendar, entry)) if calendar == "calendar" && entry == "entry" => Ok(()),
+        _ => Err(ImportCause::OtherHeader.at(1)),
+    }
+}
+
+/// The rows of the records under the header.
+fn rows_under_header(
+    alloc: Global,
+    building: &Building,
+    records: &[ByteRecord],
+) -> Result<Vec<ImportedRow>, ImportRefusal>
+    ensures { Answers (all_ok (rows_told (calendar_of building.now.calendars) 2 (map fields_of records.now)))
+        (result_map (λ rows. rows.items) result) }
+{
+    let mut rows = Vec::new(alloc);
+    for (index, fields) in records.iter().enumerate() {
+        match row_in(building, index as u64 + 2, fields) {
+            Ok(row) => push_last(&mut rows, row)?,
+            Err(fault) => return Err(fault.into()),
+        }
+    }
+    Ok(rows)
+}
+
+fn push_last<T: Drop>(items: &mut Vec<T>, item: T) -> Result<(), AllocError>
+    ensures pushed { OnOk result (items.new.items ≡ items.old.items ++ item ∷ []) }
+{
+    items.push(item)?;
+    Ok(())
+}
+
+/// The row that a record of this number names (I1, I5, I3, I4).
+#[tactic(auto, unfolding(crate::specs::HolidayList::row_in))]
+fn row_in(building: &Building, number: u64, fields: &ByteRecord) -> Result<ImportedRow, ImportFault>
+    ensures { result ≡ row_in (calendar_of building.now.calendars) number (fields_of fields.now) }
+{
+    let (name, entry) = two_texts(fields).ok_or(ImportCause::NotCsv.at(number))?;
+    if number > LAST_RECORD {
+        return Err(ImportCause::TooManyRows.at(number));
+    }
+    let calendar =
+        calendar_of(building, name).ok_or(ImportCause::UnknownCalendar.at(number))?;
+    let entry = entry_of(entry).ok_or(ImportCause::NotAnEntry.at(number))?;
+    Ok(ImportedRow { calendar, entry })
+}
+
+/// The place of the calendar that a text names.
+fn calendar_of(building: &Building, text: &str) -> Option<usize>
+    ensures { result ≡ calendar_of building.now.calendars text.now }
+{
+    building.calendar_place(&name_of(text)?)
+}
+
+/// The entry that a text spells.
+fn entry_of(text: &str) -> Option<Entry>
+    ensures { result ≡ result_ok (reading text.now) }
+{
+    match Entry::read(text) {
+        Ok(entry) => Some(entry),
+        Err(_) => None,
+    }
+}
