@@ -9,6 +9,7 @@ use Rattle.texts.specs.Texts.{name_of}
 use Rattle.holidays.specs.Answers.{◌>>=◌, or_fault, where_holds, result_map}
 use Rattle.holidays.specs.ImportFaults.{fault}
 use Rattle.holidays.specs.RecordTexts.{two_texts}
+use Rattle.holidays.specs.Told.{all_ok, told}
 use Rattle.holidays.specs.declared.import_fault.ImportCause.TheVariants.{NotAnEntry, NotCsv, OtherHeader, TooManyRows, UnknownCalendar}
 use Rattle.holidays.specs.declared.import_fault.ImportFault.{ImportFault}
 use Rattle.holidays.specs.declared.imported_row.ImportedRow.{ImportedRow}
@@ -41,18 +42,7 @@ row_in place number fields = do
 
 -- ---- what the records tell together
 
--- what each record tells, where the first has this number
-unfoldable pub rows_told : (List ℕ → Option ℕ) → ℕ → List Fields → List (Result ImportedRow ImportFault)
-rows_told place number [] = []
-rows_told place number (fields ∷ rest) = row_in place number fields ∷ rows_told place (suc number) rest
-
--- all values, where there is no fault, else the first fault
-unfoldable pub all_ok : {A : Type 0} → List (Result A ImportFault) → Result (List A) ImportFault
-all_ok [] = Ok []
-all_ok (Ok value ∷ rest) = result_map (λ values. value ∷ values) (all_ok rest)
-all_ok (Err fault ∷ rest) = Err fault
-
 -- the rows of a list, where a calendar stands at each name; without a header it is at fault as with another one
 unfoldable pub holidays_in : (List ℕ → Option ℕ) → List Fields → Result (List ImportedRow) ImportFault
 holidays_in place [] = Err (fault OtherHeader 1)
-holidays_in place (header ∷ rows) = header_in header >>= (λ named. all_ok (rows_told place 2 rows))
+holidays_in place (header ∷ rows) = header_in header >>= (λ named. all_ok (told (row_in place) 2 rows))

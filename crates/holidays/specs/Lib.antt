@@ -4,3 +4,4 @@ pub mod ImportFaults
 pub mod ImportTexts
 pub mod RecordTexts
 pub mod StandIn
+pub mod Told

@@ -1,19 +1,20 @@
 //! The rows of a holiday list.
 
-ghost use Rattle.std.specs.Prelude.{◌≡◌, [], ◌∷◌, ◌++◌, map, OnOk};
+ghost use Rattle.std.specs.Prelude.{◌≡◌, map};
 ghost use Rattle.std.specs.Result.{result_ok};
 ghost use Rattle.dates.specs.Entry.{reading};
 ghost use Rattle.csv.specs.Records.{fields_of};
 ghost use Rattle.holidays.specs.Answers.{Answers, result_map};
-ghost use Rattle.holidays.specs.HolidayList.{all_ok, calendar_of, header_in, holidays_in, row_in, rows_told};
+ghost use Rattle.holidays.specs.HolidayList.{calendar_of, header_in, holidays_in, row_in};
 ghost use Rattle.csv_records.specs.CsvRecords.{records_of};
 
 use crate::building_stand_in::Building;
+use crate::read_row::{ReadRow, read_rows};
 use crate::record_texts::{is_text, two_texts};
 use crate::{ImportCause, ImportFault, ImportRefusal};
 use csv_records::{ByteRecord, all_records};
 use dates::Entry;
-use std::alloc::{AllocError, Global};
+use std::alloc::Global;
 use texts::name_of;
 
 /// The record of the last row that a list may have: 2,000 rows follow the header (this profile's limit).
@@ -54,7 +55,7 @@ fn rows_of(
         [] => Err(ImportCause::OtherHeader.at(1).into()),
         [header, rows @ ..] => {
             check_header(header)?;
-            rows_under_header(alloc, building, rows)
+            read_rows(alloc, building, 2, rows)
         }
     }
 }
@@ -72,30 +73,14 @@ fn check_header(fields: &ByteRecord) -> Result<(), ImportFault>
     }
 }
 
-/// The rows of the records under the header.
-fn rows_under_header(
-    alloc: Global,
-    building: &Building,
-    records: &[ByteRecord],
-) -> Result<Vec<ImportedRow>, ImportRefusal>
-    ensures { Answers (all_ok (rows_told (calendar_of building.now.calendars) 2 (map fields_of records.now)))
-        (result_map (λ rows. rows.items) result) }
-{
-    let mut rows = Vec::new(alloc);
-    for (index, fields) in records.iter().enumerate() {
-        match row_in(building, index as u64 + 2, fields) {
-            Ok(row) => push_last(&mut rows, row)?,
-            Err(fault) => return Err(fault.into()),
-        }
-    }
-    Ok(rows)
-}
+impl ReadRow<ImportedRow> for Building {
+    ghost use Rattle.holidays.specs.HolidayList.{calendar_of, row_in};
 
-fn push_last<T: Drop>(items: &mut Vec<T>, item: T) -> Result<(), AllocError>
-    ensures pushed { OnOk result (items.new.items ≡ items.old.items ++ item ∷ []) }
-{
-    items.push(item)?;
-    Ok(())
+    ghost meaning = { λ building. row_in (calendar_of building.calendars) };
+
+    fn read(&self, number: u64, fields: &ByteRecord) -> Result<ImportedRow, ImportFault> {
+        row_in(self, number, fields)
+    }
 }
 
 /// The row that a record of this number names (I1, I5, I3, I4).

@@ -13,4 +13,5 @@ mod building_stand_in;
 mod import_fault;
 mod import_refusal;
 mod imported_row;
+mod read_row;
 mod record_texts;
