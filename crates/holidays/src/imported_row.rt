@@ -43,6 +43,7 @@ pub fn read_holidays(
 }
 
 /// The rows of a list's records.
+#[tactic(auto, unfolding(crate::specs::HolidayList::holidays_in))]
 fn rows_of(
     alloc: Global,
     building: &Building,
@@ -51,13 +52,11 @@ fn rows_of(
     ensures { Answers (holidays_in (calendar_of building.now.calendars) (map fields_of records.now))
         (result_map (λ rows. rows.items) result) }
 {
-    match records {
-        [] => Err(ImportCause::OtherHeader.at(1).into()),
-        [header, rows @ ..] => {
-            check_header(header)?;
-            read_rows(alloc, building, 2, rows)
-        }
-    }
+    let Some((header, rows)) = records.split_first() else {
+        return Err(ImportCause::OtherHeader.at(1).into());
+    };
+    check_header(header)?;
+    read_rows(alloc, building, 2, rows)
 }
 
 /// Refuses another header than `calendar,entry` (I1, I2).
