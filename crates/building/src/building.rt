@@ -12,6 +12,7 @@ ghost use Rattle.building.specs.BuildingFile.{building_of, contents_in, with_sch
 ghost use Rattle.building.specs.TopTable.{top_of};
 ghost use Rattle.device_tables.specs.PanelTable.{is_sound_panel};
 ghost use Rattle.device_tables.specs.PointTable.{is_sound_point};
+ghost use Rattle.schedule_tables.specs.ScheduleTable.{is_sound_schedule};
 ghost use Rattle.building.specs.Building.{contents_of};
 
 use crate::parsed_file::tree_of;
@@ -106,7 +107,8 @@ impl Building {
 
     /// The schedules, in file order.
     pub fn schedules(&self) -> &[NamedSchedule]
-        ensures { result.now ≡ self.now.schedules }
+        ensures schedules { result.now ≡ self.now.schedules }
+        ensures sound { IsTrue (list_all (is_sound_schedule self.now.points self.now.calendars) self.now.schedules) }
     {
         self.schedules.as_slice()
     }

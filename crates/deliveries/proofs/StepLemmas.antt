@@ -113,7 +113,8 @@ pub keeps-tables : (b : Building) (E : List Delivery) (p : Text) → Keeps ((tab
 unfolding tables
 keeps-tables b E p number = of (kept_at (taken_by b p E) number)
   where
-    of : (content : Option Content) → content_of_row (option_map (row_of (asks.front (taken_by b p E)) number ((machine b E).answers p number)) content) ≡ content
+    of : (content : Option Content) → content_of_row (option_map
+        (row_of (asks.front (taken_by b p E)) number ((machine b E).answers p number)) content) ≡ content
     of None = refl
     of (Some content) = refl
 

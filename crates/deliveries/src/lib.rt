@@ -7,10 +7,8 @@
 //! speaks of nothing else.
 #![tactic(auto)]
 
-pub use building::Building;
 pub use delivery::Delivery;
 pub use reply::Reply;
 
-mod building;
 mod delivery;
 mod reply;

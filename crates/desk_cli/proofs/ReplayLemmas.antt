@@ -28,7 +28,8 @@ use Rattle.delivery_lines.specs.ReplyText.{reply_line}
 
 pub replies-append : (b : Building) (E ds es : List Delivery) → replies b E (ds ++ es) ≡ replies b E ds ++ replies b (E ++ ds) es
 replies-append b E [] es = ap (λ F. replies b F es) (sym (append-nil E))
-replies-append b E (d ∷ ds) es = ap (λ t. reply b E d ∷ t) (replies-append b (E ++ d ∷ []) ds es ∙ ap (λ F. replies b (E ++ d ∷ []) ds ++ replies b F es) (append_assoc E (d ∷ []) ds))
+replies-append b E (d ∷ ds) es = ap (λ t. reply b E d ∷ t) (replies-append b (E ++ d ∷ []) ds es
+    ∙ ap (λ F. replies b (E ++ d ∷ []) ds ++ replies b F es) (append_assoc E (d ∷ []) ds))
 
 pub told_by-append : (ls ms : List (List ℕ)) (ds es : List Delivery) → told_by ls ≡ Some ds → told_by ms ≡ Some es → told_by (ls ++ ms) ≡ Some (ds ++ es)
 told_by-append [] ms ds es p q = q ∙ ap (λ (ts : List Delivery). Some (ts ++ es)) (same_Some _ _ p)
@@ -50,7 +51,8 @@ Prints-Prints b E ls ms w x y t u first more = record {
   told = first.told ++ more.told;
   told_is = told_by-append ls ms first.told more.told first.told_is more.told_is;
   printed = subst (λ text. Appends w y text)
-      (sym (flat_map-append reply_line (replies b E first.told) (replies b (E ++ first.told) more.told)) ∙ ap reply_lines (sym (replies-append b E first.told more.told)))
+      (sym (flat_map-append reply_line (replies b E first.told) (replies b (E ++ first.told) more.told))
+          ∙ ap reply_lines (sym (replies-append b E first.told more.told)))
       (Appends-Appends w x y _ _ first.printed more.printed);
   holds = more.holds ∙ ap (λ list. sound (tables b list)) (append_assoc E first.told more.told);
 }
@@ -87,9 +89,11 @@ next_line x [] = elim (x == 10) as (λ b. (x == 10) ≡ b → lines_of (x ∷ []
   | true ↦ λ e. rw e (ap (λ l. l ∷ []) (sym (strip_last-one x true e)))
   | false ↦ λ e. rw e (ap (λ l. l ∷ []) (sym (strip_last-one x false e)))
 ] refl
-next_line x (y ∷ ys) = elim (x == 10) as (λ b. (x == 10) ≡ b → lines_of (x ∷ y ∷ ys) ≡ strip_last 10 (take_through 10 (x ∷ y ∷ ys)) ∷ lines_of (drop_through 10 (x ∷ y ∷ ys))) [
+next_line x (y ∷ ys) = elim (x == 10) as (λ b. (x == 10) ≡ b → lines_of (x ∷ y ∷ ys) ≡ strip_last 10 (take_through 10 (x ∷ y ∷ ys))
+    ∷ lines_of (drop_through 10 (x ∷ y ∷ ys))) [
   | true ↦ λ e. rw e (ap (λ l. l ∷ lines_of (y ∷ ys)) (sym (strip_last-one x true e)))
-  | false ↦ λ e. rw e (ap (with_first x) (next_line y ys) ∙ ap (λ l. l ∷ lines_of (drop_through 10 (y ∷ ys))) (sym (strip_last-cons x (take_through 10 (y ∷ ys)) (some_taken y ys))))
+  | false ↦ λ e. rw e (ap (with_first x) (next_line y ys) ∙ ap (λ l. l ∷ lines_of (drop_through 10 (y ∷ ys)))
+      (sym (strip_last-cons x (take_through 10 (y ∷ ys)) (some_taken y ys))))
 ] refl
 
 lines_of-next : (xs : List ℕ) → 0 < length (take_through 10 xs) → lines_of xs ≡ strip_last 10 (take_through 10 xs) ∷ lines_of (drop_through 10 xs)
@@ -164,7 +168,8 @@ Replays-done file list b b' b'' old mid new now file_is same prints still points
   told = prints.told;
   building_is = file_is ∙ ap (λ (building : Building). Ok (contents_of building)) (sym same);
   told_is = prints.told_is;
-  printed = Appends-Appends old mid new _ _ prints.printed (subst (λ text. Appends mid new text) (ap₂ (λ x (held : Content). point_lines x held.tables) still prints.holds) points);
+  printed = Appends-Appends old mid new _ _ prints.printed (subst (λ text. Appends mid new text)
+      (ap₂ (λ x (held : Content). point_lines x held.tables) still prints.holds) points);
 }
 
 -- ---- points, one after another

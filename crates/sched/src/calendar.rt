@@ -11,6 +11,13 @@ pub struct CalId {
     pub place: usize,
 }
 
+/// An entry for a calendar.
+#[derive(Clone, Copy, Debug, PartialEq, Eq)]
+pub struct CalendarEntry {
+    pub calendar: CalId,
+    pub entry: Entry,
+}
+
 /// A calendar (12.9): it holds on the days of its entries, those of the file and the imported ones
 /// together.
 #[derive(Debug, Drop)]

@@ -9,7 +9,7 @@
 //! the time from which a value stands.
 #![tactic(auto)]
 
-pub use calendar::{CalId, Calendar};
+pub use calendar::{CalId, Calendar, CalendarEntry};
 pub use day_list::{DayList, TimeValue};
 pub use exception::{Exception, Period};
 pub use laws::{

@@ -34,6 +34,7 @@ Goes-after fault first second third before after = record {
     (λ told. absurd (is_not (sym (stays_open first second before) ∙ after.shut.0 told))),
     (λ shut. absurd (not_shut (before.shut.1 shut))),
   );
+  untouched = λ honest shut. absurd (not_shut (before.shut.1 shut));
   goes_on = λ told. after.goes_on told ∙ before.goes_on not_failed;
   steady = λ told. after.steady told ∙ before.steady not_failed;
   failed = λ told. let rises = after.failed told in (rises.0, subst (λ count. HasRisen count third.failures) (before.steady not_failed) rises.1);
@@ -74,6 +75,7 @@ IsOpen-read first second reads = record {
   goes = record {
     honest = λ honest. honest;
     shut = ((λ told. absurd (not_shut told)), (λ shut. absurd (is_not (sym (stays_open first second reads.goes) ∙ shut))));
+    untouched = λ honest shut. record { content = refl; leaves = λ content left. left };
     goes_on = λ told. refl;
     steady = λ told. refl;
     failed = λ told. absurd (not_failed told);
@@ -87,20 +89,23 @@ IsOpen-read first second reads = record {
     not_bad : None ≡ Some BadRow → ⊥
     not_bad e = cc
 
--- a call that fails for want of memory, or for a row that cannot stand, where nothing was done but reads
+-- a call that did nothing but read, and then tells a fault of its own
+pub Goes-told : (fault : StoreFault) (first second : Standing) → Goes None first second → (Some fault ≡ Some Shut → ⊥) → (Some fault ≡ Some Failed → ⊥)
+    → Goes (Some fault) first second
+Goes-told fault first second before no_shut no_failure = record {
+  honest = before.honest;
+  shut = ((λ told. absurd (no_shut told)), (λ shut. absurd (not_shut (before.shut.1 shut))));
+  untouched = before.untouched;
+  goes_on = λ told. before.goes_on not_failed;
+  steady = λ told. before.steady not_failed;
+  failed = λ told. absurd (no_failure told);
+  settled = before.settled;
+}
+
+-- a call that fails for want of memory, where nothing was done but reads
 pub Reads-told : (fault : StoreFault) (first second : Standing) → Reads None first second → (Some fault ≡ Some NoMemory) → Reads (Some fault) first second
 Reads-told fault first second before is = record {
-  goes = record {
-    honest = before.goes.honest;
-    shut = (
-      (λ told. absurd (memory_not_shut (sym is ∙ told))),
-      (λ shut. absurd (not_shut (before.goes.shut.1 shut))),
-    );
-    goes_on = λ told. before.goes.goes_on not_failed;
-    steady = λ told. before.goes.steady not_failed;
-    failed = λ told. absurd (memory_not_failed (sym is ∙ told));
-    settled = before.goes.settled;
-  };
+  goes = Goes-told fault first second before.goes (λ told. memory_not_shut (sym is ∙ told)) (λ told. memory_not_failed (sym is ∙ told));
   kept = λ honest told. before.kept honest not_failed;
   left = before.left;
   bad_row = λ honest told. absurd (memory_not_bad (sym is ∙ told));

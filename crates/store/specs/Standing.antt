@@ -37,11 +37,17 @@ HasRisen old new = (old < new) ⊎ ((old ≡ 2 ^ 64 - 1) × (new ≡ old))
 abbrev pub IsSettled : Standing → Type 0
 IsSettled standing = standing.is_honest → standing.is_shut ≡ false → (content : Content) → standing.may_leave content → content ≡ standing.content
 
+-- nothing is touched: it holds the same, and a stop leaves nothing that it could not leave before
+pub record IsUntouched (old new : Standing) : Type 0 where
+  pub content : new.content ≡ old.content
+  pub leaves : (content : Content) → new.may_leave content → old.may_leave content
+
 -- what each call says of the failures, of the fault that it tells or of none: S3 on a shut store and only
--- there, S2 where the store failed in this call, which shuts it
+-- there, which it leaves untouched; S2 where the store failed in this call, which shuts it
 pub record Goes (fault : Option StoreFault) (old new : Standing) : Type 0 where
   pub honest : new.is_honest → old.is_honest
   pub shut : (fault ≡ Some Shut) ↔ IsTrue old.is_shut
+  pub untouched : new.is_honest → IsTrue old.is_shut → IsUntouched old new
   pub goes_on : (fault ≡ Some Failed → ⊥) → new.is_shut ≡ old.is_shut
   pub steady : (fault ≡ Some Failed → ⊥) → new.failures ≡ old.failures
   pub failed : fault ≡ Some Failed → IsTrue new.is_shut × HasRisen old.failures new.failures

@@ -3,6 +3,8 @@
 #![tactic(auto)]
 
 #[cfg(test)]
+mod calendars;
+#[cfg(test)]
 mod panels;
 #[cfg(test)]
 mod points_and_schedules;
