@@ -7,11 +7,12 @@
 
 pub use import_fault::{ImportCause, ImportFault};
 pub use import_refusal::ImportRefusal;
-pub use imported_row::{ImportedRow, read_holidays};
+pub use laws::all_rows_or_the_least_fault;
+pub use holiday_list::read_holidays;
 
-mod building_stand_in;
+mod holiday_list;
 mod import_fault;
 mod import_refusal;
-mod imported_row;
+mod laws;
 mod read_row;
 mod record_texts;

@@ -1,6 +1,6 @@
 -- What a clock shows in nanoseconds and in hundredths of a second.
 use Rattle.std.proofs.Common.{◌≡◌, ℕ, zero, suc, ◌/◌, ◌≤◌, ◌<◌, true, false, int_le, inl, inr, refl, sym, ap, ap₂, ◌∙◌, arith}
-use Rattle.std.proofs.Common.{ℤ, pos, ◌+ℤ◌, ◌-ℤ◌, ◌*ℤ◌, ◌≤ℤ◌, ◌<ℤ◌, unsigned_abs, None}
+use Rattle.std.proofs.Common.{ℤ, pos, ◌+ℤ◌, ◌-ℤ◌, ◌*ℤ◌, ◌≤ℤ◌, ◌<ℤ◌, unsigned_abs, Option, Some, None, IfSome}
 use Rattle.std.proofs.lemmas.Bool.Decides.{leb_tells}
 use Rattle.std.specs.Int.{int_div_euclid, int_rem_euclid}
 use Rattle.jiff_core.specs.Calendar.{days_of_years, day_count}
@@ -18,7 +18,8 @@ use Rattle.jiff_tz.specs.Year.{year_of_day, years_within}
 use Rattle.jiff_tz.specs.Zone.{offset_at, zero_in_range}
 use Rattle.jiff_tz.specs.declared.timezone.TimeZone.{TimeZone}
 use Rattle.jiff_tz.specs.declared.timezone.TimeZone.TheVariants.{UTC, Unknown, Fixed, Posix, Tzif}
-use Rattle.local_times.specs.LocalTimes.{clock_at, is_local_year, local_at, local_of, local_on}
+use Rattle.local_times.specs.LocalTimes.{clock_at, is_local_year, IsShown, local_at, local_of, local_on}
+use Rattle.local_times.specs.declared.local_clock.LocalTime.{LocalTime}
 use Rattle.local_times.proofs.DateLemmas.{nonneg_abs}
 
 -- ---- the parts of what a clock shows
@@ -47,6 +48,21 @@ local_of-shown zone moment shown e =
     let day = parts_day (epoch_day shown.date) (clock_at zone moment) (time_nanos shown.time) below parts in
     let time = parts_time (epoch_day shown.date) (clock_at zone moment) (time_nanos shown.time) below parts in
     ap₂ local_on (sym day) (sym time)
+
+is_shown : (day clock : ℤ) (nanos time : ℕ) → day *ℤ pos 86_400_000_000_000 +ℤ pos nanos ≡ clock *ℤ pos 10_000_000
+    → time ≡ nanos / 10_000_000 → day *ℤ pos 8_640_000 +ℤ pos time ≡ clock
+is_shown day clock nanos time e h = omega (arith, signed_arith)
+
+-- a day and a time with the same parts as what the clock shows are what it shows
+pub shown_parts : (zone : TimeZone) (moment : ℤ) (shown : DateTime) (local : Option LocalTime)
+    → civil_nanos shown ≡ moment *ℤ pos 10_000_000 +ℤ nanos_of_seconds (offset_at zone (moment *ℤ pos 10_000_000))
+    → IfSome local (λ l. (epoch_day l.day ≡ epoch_day shown.date) × (l.time ≡ time_nanos shown.time / 10_000_000))
+    → IfSome local (IsShown (clock_at zone moment))
+shown_parts zone moment shown None e h = h
+shown_parts zone moment shown (Some l) e h =
+    let parts = sym (civil_nanos-parts shown) ∙ e ∙ in_hundredths zone moment in
+    let same = ap (λ day. day *ℤ pos 86_400_000_000_000 +ℤ pos (time_nanos shown.time)) h.0 ∙ parts in
+    is_shown (epoch_day l.day) (clock_at zone moment) (time_nanos shown.time) l.time same h.1
 
 -- ---- moments before and from 1970 on
 

@@ -1,9 +1,10 @@
 -- What the clock of a zone shows at a moment, which is a number of hundredths of a second since
 -- 1970-01-01T00:00:00Z.
 use Rattle.std.specs.Prelude.{ℕ, zero, suc, ◌+◌, ◌-◌, nat_le, Bool, ◌&&◌, int_le, if◌then◌else◌, Option, None, option_map}
-use Rattle.std.specs.Prelude.{ℤ, pos, ◌+ℤ◌, ◌-ℤ◌, ◌*ℤ◌, unsigned_abs}
+use Rattle.std.specs.Prelude.{◌≡◌, ℤ, pos, ◌+ℤ◌, ◌-ℤ◌, ◌*ℤ◌, unsigned_abs}
 use Rattle.std.specs.Int.{int_div_euclid, int_rem_euclid}
 use Rattle.jiff_core.specs.Calendar.{days_from_civil, days_of_months}
+use Rattle.jiff_core.specs.Date.{epoch_day}
 use Rattle.jiff_core.specs.declared.civil.date.Date.{Date}
 use Rattle.jiff_tz.specs.Year.{year_of_day}
 use Rattle.jiff_tz.specs.Zone.{offset_at}
@@ -53,3 +54,9 @@ local_of clock = local_on (int_div_euclid clock (pos 8_640_000)) (unsigned_abs (
 -- the local time at a moment
 unfoldable pub local_at : TimeZone → ℤ → Option LocalTime
 local_at zone moment = if int_le (pos 0) moment then local_of (clock_at zone moment) else None
+
+-- ---- what that means
+
+-- so many hundredths of a second lie between 1970-01-01T00:00:00 and the day and the time
+abbrev pub IsShown : ℤ → LocalTime → Type 0
+IsShown clock local = epoch_day local.day *ℤ pos 8_640_000 +ℤ pos local.time ≡ clock

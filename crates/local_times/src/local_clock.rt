@@ -1,9 +1,9 @@
 //! The day and the time of day at a moment.
 
-ghost use Rattle.std.specs.Prelude.{◌≡◌, ◌<◌, ◌/◌};
+ghost use Rattle.std.specs.Prelude.{◌≡◌, ◌<◌, ◌/◌, IfSome};
 ghost use Rattle.jiff_core.specs.Date.{epoch_day};
 ghost use Rattle.jiff_core.specs.Time.{time_nanos};
-ghost use Rattle.local_times.specs.LocalTimes.{local_at, local_on};
+ghost use Rattle.local_times.specs.LocalTimes.{clock_at, IsShown, local_at, local_on};
 
 use dates::Day;
 use jiff::Timestamp;
@@ -27,7 +27,8 @@ pub struct LocalTime {
 /// The local time at a moment, a number of hundredths of a second since 1970-01-01T00:00:00Z. There is none
 /// before that, and none outside the local years 1970 to 2154. Takes no memory.
 pub fn local_time(zone: &ZoneRule, moment: i64) -> Option<LocalTime>
-    ensures { result ≡ local_at zone.now moment }
+    ensures value { result ≡ local_at zone.now moment }
+    ensures shows { IfSome result (IsShown (clock_at zone.now moment)) }
 {
     if moment < 0 {
         return None;
@@ -39,7 +40,9 @@ pub fn local_time(zone: &ZoneRule, moment: i64) -> Option<LocalTime>
 
 /// A date with a time of day, where it is of such a year.
 fn shown_at(date: civil::Date, time: civil::Time) -> Option<LocalTime>
-    ensures { result ≡ local_on (epoch_day date) (time_nanos time / 10_000_000) }
+    ensures value { result ≡ local_on (epoch_day date) (time_nanos time / 10_000_000) }
+    ensures parts { IfSome result (λ local. (epoch_day local.day ≡ epoch_day date)
+        × (local.time ≡ time_nanos time / 10_000_000)) }
 {
     if date.year < FIRST_YEAR {
         return None;

@@ -5,36 +5,30 @@ ghost use Rattle.std.specs.Result.{result_ok};
 ghost use Rattle.dates.specs.Entry.{reading};
 ghost use Rattle.csv.specs.Records.{fields_of};
 ghost use Rattle.holidays.specs.Answers.{Answers, result_map};
-ghost use Rattle.holidays.specs.HolidayList.{calendar_of, header_in, holidays_in, row_in};
+ghost use Rattle.holidays.specs.CalendarNamed.{calendar_of};
+ghost use Rattle.holidays.specs.HolidayList.{header_in, holidays_in, row_in};
 ghost use Rattle.csv_records.specs.CsvRecords.{records_of};
 
-use crate::building_stand_in::Building;
 use crate::read_row::{ReadRow, read_rows};
 use crate::record_texts::{is_text, two_texts};
 use crate::{ImportCause, ImportFault, ImportRefusal};
+use building::Building;
 use csv_records::{ByteRecord, all_records};
 use dates::Entry;
+use sched::{CalId, CalendarEntry};
 use std::alloc::Global;
 use texts::name_of;
 
 /// The record of the last row that a list may have: 2,000 rows follow the header (this profile's limit).
 const LAST_RECORD: u64 = 2_001;
 
-/// A row of a holiday list: an entry for a calendar.
-#[derive(Clone, Copy, Debug, PartialEq, Eq)]
-pub struct ImportedRow {
-    /// The place of the calendar in the building file, from 0.
-    pub calendar: usize,
-    pub entry: Entry,
-}
-
-/// Reads the rows of a holiday list for the calendars of a building, or tells the fault of its least faulty
-/// record.
+/// Reads the rows of a holiday list, entries for the calendars of a building, or tells the fault of its least
+/// faulty record.
 pub fn read_holidays(
     alloc: Global,
     building: &Building,
     bytes: &[u8],
-) -> Result<Vec<ImportedRow>, ImportRefusal>
+) -> Result<Vec<CalendarEntry>, ImportRefusal>
     ensures { Answers (holidays_in (calendar_of building.now.calendars) (records_of bytes.now))
         (result_map (λ rows. rows.items) result) }
 {
@@ -48,7 +42,7 @@ fn rows_of(
     alloc: Global,
     building: &Building,
     records: &[ByteRecord],
-) -> Result<Vec<ImportedRow>, ImportRefusal>
+) -> Result<Vec<CalendarEntry>, ImportRefusal>
     ensures { Answers (holidays_in (calendar_of building.now.calendars) (map fields_of records.now))
         (result_map (λ rows. rows.items) result) }
 {
@@ -72,19 +66,20 @@ fn check_header(fields: &ByteRecord) -> Result<(), ImportFault>
     }
 }
 
-impl ReadRow<ImportedRow> for Building {
-    ghost use Rattle.holidays.specs.HolidayList.{calendar_of, row_in};
+impl ReadRow<CalendarEntry> for Building {
+    ghost use Rattle.holidays.specs.CalendarNamed.{calendar_of};
+    ghost use Rattle.holidays.specs.HolidayList.{row_in};
 
     ghost meaning = { λ building. row_in (calendar_of building.calendars) };
 
-    fn read(&self, number: u64, fields: &ByteRecord) -> Result<ImportedRow, ImportFault> {
+    fn read(&self, number: u64, fields: &ByteRecord) -> Result<CalendarEntry, ImportFault> {
         row_in(self, number, fields)
     }
 }
 
 /// The row that a record of this number names (I1, I5, I3, I4).
 #[tactic(auto, unfolding(crate::specs::HolidayList::row_in))]
-fn row_in(building: &Building, number: u64, fields: &ByteRecord) -> Result<ImportedRow, ImportFault>
+fn row_in(building: &Building, number: u64, fields: &ByteRecord) -> Result<CalendarEntry, ImportFault>
     ensures { result ≡ row_in (calendar_of building.now.calendars) number (fields_of fields.now) }
 {
     let (name, entry) = two_texts(fields).ok_or(ImportCause::NotCsv.at(number))?;
@@ -94,14 +89,15 @@ fn row_in(building: &Building, number: u64, fields: &ByteRecord) -> Result<Impor
     let calendar =
         calendar_of(building, name).ok_or(ImportCause::UnknownCalendar.at(number))?;
     let entry = entry_of(entry).ok_or(ImportCause::NotAnEntry.at(number))?;
-    Ok(ImportedRow { calendar, entry })
+    Ok(CalendarEntry { calendar, entry })
 }
 
-/// The place of the calendar that a text names.
-fn calendar_of(building: &Building, text: &str) -> Option<usize>
+/// The calendar that a text names.
+fn calendar_of(building: &Building, text: &str) -> Option<CalId>
     ensures { result ≡ calendar_of building.now.calendars text.now }
 {
-    building.calendar_place(&name_of(text)?)
+    let place = building.calendar_place(&name_of(text)?)?;
+    Some(CalId { place })
 }
 
 /// The entry that a text spells.
