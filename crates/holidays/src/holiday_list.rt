@@ -79,15 +79,18 @@ impl ReadRow<CalendarEntry> for Building {
 
 /// The row that a record of this number names (I1, I5, I3, I4).
 #[tactic(auto, unfolding(crate::specs::HolidayList::row_in))]
-fn row_in(building: &Building, number: u64, fields: &ByteRecord) -> Result<CalendarEntry, ImportFault>
+fn row_in(
+    building: &Building,
+    number: u64,
+    fields: &ByteRecord,
+) -> Result<CalendarEntry, ImportFault>
     ensures { result ≡ row_in (calendar_of building.now.calendars) number (fields_of fields.now) }
 {
     let (name, entry) = two_texts(fields).ok_or(ImportCause::NotCsv.at(number))?;
     if number > LAST_RECORD {
         return Err(ImportCause::TooManyRows.at(number));
     }
-    let calendar =
-        calendar_of(building, name).ok_or(ImportCause::UnknownCalendar.at(number))?;
+    let calendar = calendar_of(building, name).ok_or(ImportCause::UnknownCalendar.at(number))?;
     let entry = entry_of(entry).ok_or(ImportCause::NotAnEntry.at(number))?;
     Ok(CalendarEntry { calendar, entry })
 }

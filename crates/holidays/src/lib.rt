@@ -5,10 +5,10 @@
 //! is this profile's). The whole list is read, or its least faulty record is told by an `ImportFault`.
 #![tactic(auto)]
 
+pub use holiday_list::read_holidays;
 pub use import_fault::{ImportCause, ImportFault};
 pub use import_refusal::ImportRefusal;
 pub use laws::all_rows_or_the_least_fault;
-pub use holiday_list::read_holidays;
 
 mod holiday_list;
 mod import_fault;

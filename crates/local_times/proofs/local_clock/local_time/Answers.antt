@@ -70,6 +70,6 @@ returns-clause-shows c =
     let instant = sym c.ok.ensures.value ∙ c.in_ok-instant.was in
     let nanos = ok_value (λ t. t.nanosecond ≡ moment *ℤ pos 10_000_000) c.from_nanosecond.result c.in_ok-instant.instant instant value in
     let shown = c.to_datetime.ensures
-        ∙ ap₂ (λ z n. n +ℤ nanos_of_seconds (offset_at z n)) c.time_zone.ensures nanos in
+    ∙ ap₂ (λ z n. n +ℤ nanos_of_seconds (offset_at z n)) c.time_zone.ensures nanos in
     let plain = rw c.to_plain-shown.ensures at c.shown_at.ensures.parts in
     shown_parts zone moment c.to_datetime.result c.shown_at.result shown plain

@@ -51,6 +51,7 @@ pub returns-clause-parts : goal.returns-clause-parts
 returns-clause-parts c =
     let fits : FitsSigned w16 c.args.date.year = omega (arith, signed_arith, c.args.date.year_in) in
     let wide : FitsSigned w32 c.args.date.year = omega (arith, signed_arith, c.args.date.year_in) in
-    let same = simp to_z-of_z at c.in_ok-day.ensures.value in
-    (epoch_day_same c.in_ok-day.day c.args.date same.0 (omega (arith, signed_arith, same.1)) (omega (arith, signed_arith, same.2)),
-      c.in_ok-time.ensures.value ∙ c.hundredths_of.ensures.value)
+    let same = simp to_z-of_z at c.in_ok-day.ensures.value in (
+      epoch_day_same c.in_ok-day.day c.args.date same.0 (omega (arith, signed_arith, same.1)) (omega (arith, signed_arith, same.2)),
+      c.in_ok-time.ensures.value ∙ c.hundredths_of.ensures.value,
+    )
