@@ -1,6 +1,8 @@
 -- Records that were read in turn to the end of a text are its records: each takes at least one byte.
-use Rattle.std.proofs.Common.{◌≡◌, ◌==◌, ◌++◌, ℕ, zero, suc, ◌+◌, ◌≤◌, ◌<◌, Bool, true, false, if◌then◌else◌, List, [], ◌∷◌, length, Option, Some, None, refl, sym, ap, arith}
-use Rattle.csv.specs.Machine.{Read, after_end, ends_at_end, ends_with, field_after, fields_after, in_field, is_byte, is_end, next_record, start_field, start_record, step}
+use Rattle.std.proofs.Common.{◌≡◌, ◌==◌, ℕ, zero, suc, ◌+◌, ◌≤◌, ◌<◌, Bool, true, false, if◌then◌else◌, refl, sym, ap, arith}
+use Rattle.std.proofs.Common.{List, [], ◌∷◌, ◌++◌, length, Option, Some, None}
+use Rattle.csv.specs.Machine.{Read, after_end, ends_at_end, ends_with, field_after, fields_after}
+use Rattle.csv.specs.Machine.{in_field, is_byte, is_end, next_record, start_field, start_record, step}
 use Rattle.csv.specs.Reading.{AreRecords, Reached, default_config, records, records_from}
 use Rattle.csv.specs.declared.parser.Action.{Action}
 use Rattle.csv.specs.declared.parser.Action.TheVariants as act
@@ -71,7 +73,8 @@ record_rests cfg s fields field [] p e = by (ends_at_end s) e
     by true t = let same : (fields ++ field ∷ [], st.StartRecord, []) ≡ p = (cc) in rw (← same) (refl, omega arith)
     by false t = absurd (cc t)
 record_rests cfg s fields field (c ∷ rest) p e =
-    by (is_end (step cfg s c).1) refl e (record_rests cfg (step cfg s c).0 (fields_after (step cfg s c).1 fields field) (field_after (step cfg s c).1 c field) rest p)
+    let next = step cfg s c in
+    by (is_end next.1) refl e (record_rests cfg next.0 (fields_after next.1 fields field) (field_after next.1 c field) rest p)
   where
     later : Option Read
     later = next_record cfg (step cfg s c).0 (fields_after (step cfg s c).1 fields field) (field_after (step cfg s c).1 c field) rest
