@@ -107,6 +107,7 @@ fn calendar_of(building: &Building, text: &str) -> Option<CalId>
 fn entry_of(text: &str) -> Option<Entry>
     ensures { result ≡ result_ok (reading text.now) }
 {
+    // not by `ok()`, for which the check makes no plan at this type
     match Entry::read(text) {
         Ok(entry) => Some(entry),
         Err(_) => None,

@@ -9,7 +9,8 @@ use crate::{ImportFault, ImportRefusal};
 use csv_records::ByteRecord;
 use std::alloc::Global;
 
-/// How a record is read.
+/// How a record is read. The loop over a list's records stands over this trait, since the check makes no plan
+/// for one that gathers entries.
 pub trait ReadRow<T> {
     ghost use Rattle.std.specs.Prelude.{◌≡◌, Result, ℕ};
     ghost use Rattle.csv.specs.Records.{fields_of};
