@@ -20,7 +20,7 @@ loop-place-preserved g c =
       printed = λ honest.
           let before = c.point_text.ensures.honest honest in
           let then = points-then c.args.desk.now.building c.loop-place.desk.building first.content.tables old.content.tables
-          c.as_slice.result.now c.loop-place.place c.index-as_slice-place.result _ _ c.as_bytes.result.now
+          c.points.result.now c.loop-place.place c.index-points-place.result _ _ c.as_bytes.result.now
           so_far.building (ap (λ (held : Content). held.tables) (so_far.same before)) (search rules) (omega arith) refl
           (c.in_ok-text.ensures.text honest) c.as_bytes.ensures.value in
           subst (λ text. Appends (g.W.Write.contents c.args.out.now) (g.W.Write.contents c.print_text.new.out) text) (sym then)
@@ -39,7 +39,7 @@ returns-in_err-print_text-clause-no_more g c = λ honest.
     let old = g.S.Store.standing c.loop-place.desk.store in
     let before = c.point_text.ensures.honest honest in
     let then = points-then c.args.desk.now.building c.loop-place.desk.building first.content.tables old.content.tables
-    c.as_slice.result.now c.loop-place.place c.index-as_slice-place.result _ _ c.as_bytes.result.now
+    c.points.result.now c.loop-place.place c.index-points-place.result _ _ c.as_bytes.result.now
     so_far.building (ap (λ (held : Content). held.tables) (so_far.same before)) (search rules) (omega arith) refl
     (c.in_ok-text.ensures.text honest) c.as_bytes.ensures.value in
     start-taken (line_of_point c.args.desk.now.building first.content.tables) c.args.desk.now.building.points (c.loop-place.place + 1) _ _
