@@ -12,8 +12,12 @@ const BUILDING: &str = "zone = \"CET-1CEST,M3.5.0,M10.5.0/3\"\n\
     [[point]]\nname = \"LIGHT\"\nkind = \"binary\"\ndefault = 0\n\
     [[panel]]\nname = \"P1\"\npoints = [\"LIGHT\"]\npriorities = [8]\n";
 
+fn read(alloc: Global, text: &str) -> Result<Building, Fail> {
+    Ok(Building::read(alloc, text.as_bytes())?)
+}
+
 fn building(alloc: Global) -> Result<Building, Fail> {
-    Ok(Building::read(alloc, BUILDING.as_bytes())?)
+    read(alloc, BUILDING)
 }
 
 /// A desk over a store without rows.
