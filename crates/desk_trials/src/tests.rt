@@ -15,7 +15,10 @@ const BUILDING: &str = "zone = \"CET-1CEST,M3.5.0,M10.5.0/3\"\n\
 /// A desk of the building over a store without rows.
 fn desk(alloc: Global) -> Result<Desk<MemStore>, Fail> {
     let building = Building::read(alloc, BUILDING.as_bytes())?;
-    Ok(Desk::new(alloc, building, MemStore::new(alloc)))
+    match Desk::open(alloc, building, MemStore::new(alloc)) {
+        Ok(desk) => Ok(desk),
+        Err((fault, _store)) => Err(fault.into()),
+    }
 }
 
 fn command(number: i64, priority: i64) -> Result<Delivery, Fail> {
