@@ -38,11 +38,13 @@ place_of-permitted points panel content e = first_three _ _ _ _ e
 pub names_a_place : (b : Building) (panel : Text) (content : Content) → rule_for b panel content ≡ None → names_no_place content.priority ≡ false
 names_a_place b panel content e = under (panel_named b panel) e
   where
-    under : (named : Option Panel) → option_map_or (λ p. rule_of b.points p content) named (Some NoSuchPoint) ≡ None → names_no_place content.priority ≡ false
+    under : (named : Option Panel) → option_map_or (λ p. rule_of b.points p content) named (Some NoSuchPoint) ≡ None
+        → names_no_place content.priority ≡ false
     under None e = absurd (not_none NoSuchPoint e)
     under (Some p) e = place_of-permitted b.points p content e
 
-pub rule_for-known : (b : Building) (panel : Text) (content : Content) (p : Panel) → panel_named b panel ≡ Some p → rule_for b panel content ≡ rule_of b.points p content
+pub rule_for-known : (b : Building) (panel : Text) (content : Content) (p : Panel) → panel_named b panel ≡ Some p
+    → rule_for b panel content ≡ rule_of b.points p content
 rule_for-known b panel content p known = rw known refl
 
 pub answer_to-refused : (b : Building) (places : Text → Places) (panel : Text) (content : Content) (rule : Rule) → rule_for b panel content ≡ Some rule

@@ -8,7 +8,6 @@ use Rattle.std.specs.Option.{option_map_or}
 use Rattle.std.specs.Str.{bytes_eq}
 use Rattle.std.proofs.lemmas.Bool.{cases_Bool, false≢true}
 use Rattle.std.proofs.lemmas.Slice.Eq.{bytes_eq-Decides}
-use Rattle.points.specs.declared.answer.Answer.{Answer}
 use Rattle.points.specs.declared.command_row.CommandRow.{CommandRow}
 use Rattle.points.specs.declared.content.Content.{Content}
 use Rattle.points.specs.declared.panel.Panel.{Panel}

@@ -57,12 +57,14 @@ placed-any test xs = some_where (nat_lt (position_or_len test xs) (length xs)) (
 -- a name that is found is one of the list's
 each-known : (test : Text → Bool) (holds : Text → Type 0) (texts : List Text) → AreTexts holds texts → list_all test texts ≡ true
     → (name : Text) → holds name → IsTrue (test name)
-each-known test holds texts are all name here = All-contains (λ x. test x ≡ true) texts name (AllPass-from_list_all test texts all) ((are.each name).1 here)
+each-known test holds texts are all name here =
+    All-contains (λ x. test x ≡ true) texts name (AllPass-from_list_all test texts all) ((are.each name).1 here)
 
 all-known : (test : Text → Bool) (holds : Text → Type 0) (texts : List Text) → AreTexts holds texts
     → ((name : Text) → holds name → IsTrue (test name)) → list_all test texts ≡ true
 all-known test holds texts are known =
-    list_all-from_AllPass test texts (All-weaker (Contains texts) (λ x. test x ≡ true) (λ x here. known x ((are.each x).0 here)) texts (All-contains_itself texts))
+    list_all-from_AllPass test texts
+    (All-weaker (Contains texts) (λ x. test x ≡ true) (λ x here. known x ((are.each x).0 here)) texts (All-contains_itself texts))
 
 both : (a b : Bool) → (a && b) ≡ true → (a ≡ true) × (b ≡ true)
 both true b e = (refl, e)

@@ -20,7 +20,8 @@ returns-in-Err-clause-headline g c = λ E honest held.
     let before = c.in-Err.ensures.goes.honest honest in
     let done = so_far.so_far E before held in
     let here : Holds c.loop-delivery.self.building (E ++ ds) old = subst (λ (x : Building). Holds x (E ++ ds) old) (sym so_far.building) done.1 in
-    let delivered = subst (λ (x : Building). Delivers x (E ++ ds) d (Err c.in-Err.fault) new) so_far.building (c.in-Err.ensures.delivers (E ++ ds) honest here) in
+    let delivered = subst (λ (x : Building). Delivers x (E ++ ds) d (Err c.in-Err.fault) new) so_far.building
+    (c.in-Err.ensures.delivers (E ++ ds) honest here) in
     let more : take (at + 1) all ≡ ds ++ d ∷ [] =
     take_more all at d (omega (arith, c.loop-delivery-test.true)) ∙ ap (λ (x : Delivery). ds ++ x ∷ []) (sym c.delivery-item.is) in
     record {
