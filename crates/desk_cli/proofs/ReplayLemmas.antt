@@ -52,7 +52,7 @@ Prints-Prints b E ls ms w x y t u first more = record {
   told_is = told_by-append ls ms first.told more.told first.told_is more.told_is;
   printed = subst (λ text. Appends w y text)
       (sym (flat_map-append reply_line (replies b E first.told) (replies b (E ++ first.told) more.told))
-          ∙ ap reply_lines (sym (replies-append b E first.told more.told)))
+      ∙ ap reply_lines (sym (replies-append b E first.told more.told)))
       (Appends-Appends w x y _ _ first.printed more.printed);
   holds = more.holds ∙ ap (λ list. sound (tables b list)) (append_assoc E first.told more.told);
 }
@@ -91,10 +91,10 @@ next_line x [] = elim (x == 10) as (λ b. (x == 10) ≡ b → lines_of (x ∷ []
 ] refl
 next_line x (y ∷ ys) = elim (x == 10) as (λ b. (x == 10) ≡ b → lines_of (x ∷ y ∷ ys) ≡ strip_last 10 (take_through 10 (x ∷ y ∷ ys))
     ∷ lines_of (drop_through 10 (x ∷ y ∷ ys))) [
-  | true ↦ λ e. rw e (ap (λ l. l ∷ lines_of (y ∷ ys)) (sym (strip_last-one x true e)))
-  | false ↦ λ e. rw e (ap (with_first x) (next_line y ys) ∙ ap (λ l. l ∷ lines_of (drop_through 10 (y ∷ ys)))
-      (sym (strip_last-cons x (take_through 10 (y ∷ ys)) (some_taken y ys))))
-] refl
+      | true ↦ λ e. rw e (ap (λ l. l ∷ lines_of (y ∷ ys)) (sym (strip_last-one x true e)))
+      | false ↦ λ e. rw e (ap (with_first x) (next_line y ys) ∙ ap (λ l. l ∷ lines_of (drop_through 10 (y ∷ ys)))
+          (sym (strip_last-cons x (take_through 10 (y ∷ ys)) (some_taken y ys))))
+    ] refl
 
 lines_of-next : (xs : List ℕ) → 0 < length (take_through 10 xs) → lines_of xs ≡ strip_last 10 (take_through 10 xs) ∷ lines_of (drop_through 10 xs)
 lines_of-next [] h = absurd (omega arith)

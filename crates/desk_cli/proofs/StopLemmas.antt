@@ -65,7 +65,7 @@ first-after b E lines more old mid new now prints part = record {
   told_is = told_by-append lines part.first prints.told part.told prints.told_is part.told_is;
   printed = subst (λ text. AppendsStart old new text)
       (sym (flat_map-append reply_line (replies b E prints.told) (replies b (E ++ prints.told) part.told))
-          ∙ ap reply_lines (sym (replies-append b E prints.told part.told)))
+      ∙ ap reply_lines (sym (replies-append b E prints.told part.told)))
       (start-after old mid new _ _ prints.printed part.printed);
 }
 
@@ -73,7 +73,7 @@ first-after b E lines more old mid new now prints part = record {
 replied : (b : Building) (E : List Delivery) (line text : List ℕ) (answered : Vec ℕ Global) (old new : Option (List ℕ)) (now : Standing)
     (told : Option Delivery)
     → is_empty_line line ≡ false → delivery_of line ≡ told → AnswersLine b E told (Ok answered) now → text ≡ answered.items
-        → AppendsStart old new text → PrintsStart b E (line ∷ []) old new
+    → AppendsStart old new text → PrintsStart b E (line ∷ []) old new
 replied b E line text answered old new now None some none answers is start = absurd answers
 replied b E line text answered old new now (Some d) some one answers is start = record {
   first = line ∷ [];
@@ -86,7 +86,7 @@ replied b E line text answered old new now (Some d) some one answers is start = 
 
 pub first-replied : (b : Building) (E : List Delivery) (line text : List ℕ) (answered : Vec ℕ Global) (old new : Option (List ℕ)) (now : Standing)
     → is_empty_line line ≡ false → AnswersLine b E (delivery_of line) (Ok answered) now → text ≡ answered.items → AppendsStart old new text
-        → PrintsStart b E (line ∷ []) old new
+    → PrintsStart b E (line ∷ []) old new
 first-replied b E line text answered old new now some answers is start = replied b E line text answered old new now
     (delivery_of line) some refl answers is start
 
@@ -97,7 +97,7 @@ pub Progress-stops : (b : Building) (E : List Delivery) (bytes : List ℕ) (left
     → PrintsStart b E (lines_of bytes) old new
 Progress-stops b E bytes left old new now p =
     subst (λ ls. PrintsStart b E ls old new) (sym p.lines_are)
-        (first-of_more b E p.passed (lines_of p.rest) old new (first-all b E p.passed old new now p.prints))
+    (first-of_more b E p.passed (lines_of p.rest) old new (first-all b E p.passed old new now p.prints))
 
 -- at it
 pub Progress-stops-at : (b : Building) (E : List Delivery) (bytes line : List ℕ) (left after old mid new : Option (List ℕ)) (now : Content)
@@ -139,7 +139,7 @@ no_more-points file list b b' b'' old mid new last now file_is same prints still
     told_is = prints.told_is;
     printed = start-Keeps old new last _
         (start-after old mid new _ _ prints.printed (subst (λ text. AppendsStart mid new text)
-            (λ i. point_lines (still i) (prints.holds i).tables) points)) kept;
+        (λ i. point_lines (still i) (prints.holds i).tables) points)) kept;
   }),
 )
 

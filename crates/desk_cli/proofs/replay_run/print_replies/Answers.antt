@@ -36,7 +36,7 @@ returns-in_err-print_reply_and_flush-in-Ok-clause-no_more g c = λ bytes E hones
     Progress-stops-at c.args.desk.now.building E bytes line _ _ _ _ _ _
     (c.loop-number.invariant.so_far bytes E (c.print_reply_and_flush.ensures.honest honest) left holds)
     (subst (λ (start : List ℕ). IfSome (reader_remaining g.D.Read.remaining c.loop-number.reader)
-        (λ xs. line ≡ start ++ take_through 10 xs)) c.clear.ensures.items c.in-Ok.ensures.bytes)
+    (λ xs. line ≡ start ++ take_through 10 xs)) c.clear.ensures.items c.in-Ok.ensures.bytes)
     c.in-Ok.ensures.rest
     (let fewer = c.read_until.new.buf.ok.0 in let test = c.in-Ok.field-0-test.1 in omega (arith, c.in-Ok.ensures.ok))
     (λ F now. first-same c.loop-number.desk.building c.args.desk.now.building F c.without_end-line.result.now (strip_last 10 line) _ _
@@ -53,7 +53,7 @@ loop-number-preserved g c = record {
       Progress-line c.args.desk.now.building E bytes line _ _ _ _ _ _ _
       (c.loop-number.invariant.so_far bytes E (c.print_reply_and_flush.ensures.honest honest) left holds)
       (subst (λ (start : List ℕ). IfSome (reader_remaining g.D.Read.remaining c.loop-number.reader)
-          (λ xs. line ≡ start ++ take_through 10 xs)) c.clear.ensures.items c.in-Ok.ensures.bytes)
+      (λ xs. line ≡ start ++ take_through 10 xs)) c.clear.ensures.items c.in-Ok.ensures.bytes)
       c.in-Ok.ensures.rest
       (let fewer = c.read_until.new.buf.ok.0 in let test = c.in-Ok.field-0-test.1 in omega (arith, c.in-Ok.ensures.ok))
       (λ F now. Prints-same c.loop-number.desk.building c.args.desk.now.building F c.without_end-line.result.now (strip_last 10 line) _ _ _

@@ -19,9 +19,8 @@ invariant_of-self-2 g c =
     let name_of = g.T.Named.name_of in
     let pushed = c.in_ok-push_name.ensures.pushed ∙ ap (λ (n : List ℕ). c.self.inside.names ++ n ∷ []) c.name.ensures in
     let new = ap (λ (names : List (List ℕ)). is_among (name_of c.args.item) names) c.self.invariant.0
-        ∙ among-map name_of (name_of c.args.item) c.self.inside.items.items
-        ∙ ap (has_name name_of (name_of c.args.item)) c.self.view_is ∙ c.requires.new in
-    (
+    ∙ among-map name_of (name_of c.args.item) c.self.inside.items.items
+    ∙ ap (has_name name_of (name_of c.args.item)) c.self.view_is ∙ c.requires.new in (
       pushed
           ∙ names_pushed name_of c.self.inside.names c.self.inside.items.items c.args.item c.self.invariant.0
           ∙ ap (λ (xs : List g.row.T.Denot). map name_of (xs ++ c.args.item ∷ [])) (sym c.in_ok-reserve.ensures.items)
