@@ -2,7 +2,7 @@
 use Rattle.std.proofs.Common.{◌≡◌, ℕ, ◌<◌, ◌++◌, false, Ok, Vec, List, [], ◌∷◌, drop, length, take, Option, None}
 use Rattle.std.proofs.Common.{Some, IfSome, refl, sym, ap, subst, ◌∙◌, inl, inr, ⊎_elim, append_assoc}
 use Rattle.std.proofs.lemmas.Grind.{flat_map-append}
-use Rattle.std.proofs.lemmas.List.{append-nil, take-append-drop}
+use Rattle.std.proofs.lemmas.List.{append-nil}
 use Rattle.std.specs.List.{flat_map}
 use Rattle.std.specs.declared.alloc.Global.{Global}
 use Rattle.std.specs.Io.BufRead.{DropsThrough, drop_through, strip_last, take_through}
@@ -16,7 +16,7 @@ use Rattle.store.specs.Standing.{Content, Standing, sound}
 use Rattle.delivery_lines.specs.DeliveryLine.{delivery_of}
 use Rattle.delivery_lines.specs.LineAnswer.{AnswersLine}
 use Rattle.desk_console.specs.Printed.{AppendsStart}
-use Rattle.desk_console.proofs.PrintedLemmas.{Appends-Appends, Appends-Keeps, Appends-nothing, start-Keeps, start-after, start-longer, start-nothing, start-taken, start-whole}
+use Rattle.desk_console.proofs.PrintedLemmas.{start-Keeps, start-after, start-longer, start-nothing, start-whole}
 use Rattle.desk_cli.specs.Replay.{Prints, PrintsNoMore, PrintsStart, is_empty_line, lines_of, point_lines, reply_lines}
 use Rattle.delivery_lines.specs.ReplyText.{reply_line}
 use Rattle.desk_cli.proofs.ReplayLemmas.{Progress, lines_of-left, replies-append, told_by-append}

@@ -11,7 +11,6 @@ use Rattle.building_fault.specs.FaultAt.{fault_at}
 use Rattle.building_fault.specs.Steps.{◌>>=◌}
 use Rattle.dates.specs.declared.range.Range.{Range}
 use Rattle.named_tables.specs.Reference.{each_reference, is_named}
-use Rattle.points.specs.declared.Kind.{Kind}
 use Rattle.points.specs.declared.Point.{Point}
 use Rattle.schedule_tables.specs.declared.day_values.DayValues.{DayValues}
 use Rattle.schedule_tables.specs.declared.named_calendar.NamedCalendar.{NamedCalendar}
