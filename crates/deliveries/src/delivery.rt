@@ -1,10 +1,12 @@
 //! What reaches the desk.
-ghost use Rattle.std.specs.Prelude.{◌≡◌};
+ghost use Rattle.std.specs.Prelude.{◌≡◌, option_map};
 
+use listing::Listing;
 use points::{Content, Name};
+use sched::CalendarEntry;
 
 /// One delivery, as it came: it may be a repeat, and come late or out of order.
-#[derive(Clone, Copy, Debug, PartialEq, Eq)]
+#[derive(Debug, Drop)]
 pub enum Delivery {
     /// A panel's command under a number of the panel's own, 1 to 1,000,000,000,000.
     Command {
@@ -17,17 +19,23 @@ pub enum Delivery {
         panel: Name,
         upto: i64,
     },
+    /// The schedules are to write what they say at a moment, in hundredths of a second since
+    /// 1970-01-01T00:00:00Z.
+    Tick { at: i64 },
+    /// Entries for calendars of the building.
+    Import { rows: Listing<CalendarEntry> },
 }
 
 impl Delivery {
-    ghost use Rattle.deliveries.specs.Accepted.{panel_of};
+    ghost use Rattle.deliveries.specs.Accepted.{sender_of};
 
-    /// The panel that it comes from.
-    pub fn panel(&self) -> &Name
-        ensures { result.now ≡ panel_of self.now }
+    /// The panel that it comes from; none of a tick and of an import.
+    pub fn panel(&self) -> Option<&Name>
+        ensures { option_map (λ name. name.now) result ≡ sender_of self.now }
     {
         match self {
-            Delivery::Command { panel, .. } | Delivery::Skip { panel, .. } => panel,
+            Delivery::Command { panel, .. } | Delivery::Skip { panel, .. } => Some(panel),
+            Delivery::Tick { .. } | Delivery::Import { .. } => None,
         }
     }
 }
