@@ -1,6 +1,7 @@
 //! The rule of a time zone.
 
 ghost use Rattle.std.specs.Prelude.{◌≡◌, option_map, Some};
+ghost use Rattle.jiff.specs.ZoneView.{plain_zone};
 ghost use Rattle.jiff_tz.specs.PosixReader.{read_whole};
 ghost use Rattle.zone_rules.specs.ZoneRule.{rule_text};
 
@@ -32,5 +33,12 @@ impl ZoneRule {
     {
         let zone = TimeZone::posix(text).ok()?;
         Some(ZoneRule { zone })
+    }
+
+    /// The rule as a time zone of `jiff`.
+    pub fn time_zone(&self) -> TimeZone<'static>
+        ensures { plain_zone result ≡ self.now }
+    {
+        self.zone
     }
 }

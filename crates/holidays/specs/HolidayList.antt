@@ -1,0 +1,48 @@
+-- The rows that the records of a holiday list name, or the fault of the least faulty one.
+use Rattle.std.specs.Prelude.{ℕ, suc, nat_le, Bool, ◌&&◌, List, [], ◌∷◌, codes, position, Option, Some, None, option_and_then, Result, Ok, Err, ⊤}
+use Rattle.std.specs.List.{list_all}
+use Rattle.std.specs.Result.{result_ok}
+use Rattle.std.specs.Str.{bytes_eq, is_utf8}
+use Rattle.csv_records.specs.CsvRecords.{Fields}
+use Rattle.dates.specs.Entry.{reading}
+use Rattle.texts.specs.Texts.{name_of}
+use Rattle.holidays.specs.Answers.{◌>>=◌, or_fault, where_holds, result_map}
+use Rattle.holidays.specs.ImportFaults.{fault}
+use Rattle.holidays.specs.RecordTexts.{two_texts}
+use Rattle.holidays.specs.Told.{all_ok, told}
+use Rattle.holidays.specs.declared.import_fault.ImportCause.TheVariants.{NotAnEntry, NotCsv, OtherHeader, TooManyRows, UnknownCalendar}
+use Rattle.holidays.specs.declared.import_fault.ImportFault.{ImportFault}
+use Rattle.holidays.specs.declared.imported_row.ImportedRow.{ImportedRow}
+
+-- ---- what one record tells, by its number from 1
+
+abbrev pub is_header : List ℕ × List ℕ → Bool
+is_header names = bytes_eq names.0 (codes "calendar") && bytes_eq names.1 (codes "entry")
+
+-- the header: I1 where it is not UTF-8, I2 where it is another
+abbrev pub header_in : Fields → Result ⊤ ImportFault
+header_in fields = do
+  text ← where_holds (list_all is_utf8 fields) (fault NotCsv 1) fields
+  names ← or_fault (fault OtherHeader 1) (two_texts text)
+  where_holds (is_header names) (fault OtherHeader 1) tt
+
+-- the place of the calendar that a text names
+abbrev pub calendar_of : List (List ℕ) → List ℕ → Option ℕ
+calendar_of calendars text = option_and_then (λ name. position (λ calendar. bytes_eq calendar name) calendars) (name_of text)
+
+-- a row: I1 where it is not two fields of UTF-8, I5 beyond record 2,001, I3 where no calendar stands at the
+-- name, I4 where the text spells no entry
+unfoldable pub row_in : (List ℕ → Option ℕ) → ℕ → Fields → Result ImportedRow ImportFault
+row_in place number fields = do
+  texts ← or_fault (fault NotCsv number) (two_texts fields)
+  counted ← where_holds (nat_le number 2_001) (fault TooManyRows number) texts
+  calendar ← or_fault (fault UnknownCalendar number) (place counted.0)
+  entry ← or_fault (fault NotAnEntry number) (result_ok (reading counted.1))
+  Ok (record { calendar = calendar; entry = entry })
+
+-- ---- what the records tell together
+
+-- the rows of a list, where a calendar stands at each name; without a header it is at fault as with another one
+unfoldable pub holidays_in : (List ℕ → Option ℕ) → List Fields → Result (List ImportedRow) ImportFault
+holidays_in place [] = Err (fault OtherHeader 1)
+holidays_in place (header ∷ rows) = header_in header >>= (λ named. all_ok (told (row_in place) 2 rows))

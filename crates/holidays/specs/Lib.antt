@@ -1,0 +1,7 @@
+pub mod Answers
+pub mod HolidayList
+pub mod ImportFaults
+pub mod ImportTexts
+pub mod RecordTexts
+pub mod StandIn
+pub mod Told

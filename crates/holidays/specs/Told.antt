@@ -1,0 +1,16 @@
+-- What the records of a list tell, each by itself and together.
+use Rattle.std.specs.Prelude.{ℕ, suc, ◌+◌, List, [], ◌∷◌, Result, Ok, Err}
+use Rattle.csv_records.specs.CsvRecords.{Fields}
+use Rattle.holidays.specs.Answers.{result_map}
+use Rattle.holidays.specs.declared.import_fault.ImportFault.{ImportFault}
+
+-- what each record tells, where the first has this number
+abbrev pub told : {A : Type 0} → (ℕ → Fields → Result A ImportFault) → ℕ → List Fields → List (Result A ImportFault)
+told meaning number [] = []
+told meaning number (fields ∷ rest) = meaning number fields ∷ told meaning (number + 1) rest
+
+-- all values, where there is no fault, else the first fault
+abbrev pub all_ok : {A : Type 0} → List (Result A ImportFault) → Result (List A) ImportFault
+all_ok [] = Ok []
+all_ok (Ok value ∷ rest) = result_map (λ values. value ∷ values) (all_ok rest)
+all_ok (Err fault ∷ rest) = Err fault

@@ -1,0 +1,17 @@
+//! Which days does this holiday list name, and for which calendars?
+//!
+//! `read_holidays` reads the records of a CSV text with the columns `calendar` and `entry`: each names a
+//! calendar of the building and spells an entry for it (ANSI/ASHRAE 135-2016, 12.9 and clause 21; the list
+//! is this profile's). The whole list is read, or its least faulty record is told by an `ImportFault`.
+#![tactic(auto)]
+
+pub use import_fault::{ImportCause, ImportFault};
+pub use import_refusal::ImportRefusal;
+pub use imported_row::{ImportedRow, read_holidays};
+
+mod building_stand_in;
+mod import_fault;
+mod import_refusal;
+mod imported_row;
+mod read_row;
+mod record_texts;
