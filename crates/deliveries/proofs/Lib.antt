@@ -1,3 +1,4 @@
+pub mod ClockLemmas
 pub mod EventLemmas
 pub mod MachineLemmas
 pub mod MovedLemmas

@@ -32,7 +32,7 @@ use Rattle.deliveries.proofs.TakenLemmas.{take-unmoved}
 
 -- where nothing more is accepted of any panel, the tables stay
 
-tables-at : Machine → (Text → asks.Taken) → Tables
+pub tables-at : Machine → (Text → asks.Taken) → Tables
 tables-at machine taken = record {
   places = machine.places;
   next = λ panel. asks.front (taken panel);
@@ -42,7 +42,7 @@ tables-at machine taken = record {
   last_tick = machine.last_tick;
 }
 
-tables-is : (b : Building) (E : List Delivery) → tables b E ≡ tables-at (machine b E) (λ panel. taken_by b panel E)
+pub tables-is : (b : Building) (E : List Delivery) → tables b E ≡ tables-at (machine b E) (λ panel. taken_by b panel E)
 unfolding tables tables-at
 tables-is b E = refl
 
@@ -82,7 +82,7 @@ tables-same b E d sent same =
     let machines : machine b (E ++ d ∷ []) ≡ machine b E = machine-push b E d ∙ ap (run b (machine b E)) none in
     tables-is b (E ++ d ∷ []) ∙ (λ i. tables-at (machines i) (λ q. same q i)) ∙ sym (tables-is b E)
 
-asks-none : (b : Building) (q : Text) (d : Delivery) → asked d ≡ None → asks_of b q d ≡ []
+pub asks-none : (b : Building) (q : Text) (d : Delivery) → asked d ≡ None → asks_of b q d ≡ []
 asks-none b q d none =
     elim (bytes_eq (panel_of d) q && is_some (panel_named b q)) as (λ t. cond t (listed (asked d)) [] ≡ []) [ true ↦ ap listed none | false ↦ refl ]
 

@@ -1,5 +1,4 @@
 use Rattle.std.specs.Prelude.{ℤ, Bool, true, ◌&&◌, nat_lt, if◌then◌else◌, List, [], ◌∷◌, ◌++◌, fold, length, map, Option, Some, None, is_some, int_lt}
-use Rattle.std.specs.Int.{int_max}
 use Rattle.std.specs.List.{list_all}
 use Rattle.local_times.specs.LocalTimes.{local_at}
 use Rattle.sched.specs.declared.calendar.CalendarEntry.{CalendarEntry}
@@ -34,10 +33,13 @@ moment_of building (delivery_of.Skip panel upto) = None
 moment_of building (delivery_of.Tick moment) = if is_moment building moment then Some moment else None
 moment_of building (delivery_of.Import rows) = None
 
+abbrev pub later : Option ℤ → ℤ → ℤ
+later None moment = moment
+later (Some last) moment = if int_lt last moment then moment else last
+
 abbrev pub later_of : Option ℤ → Option ℤ → Option ℤ
 later_of last None = last
-later_of None (Some moment) = Some moment
-later_of (Some last) (Some moment) = Some (int_max last moment)
+later_of last (Some moment) = Some (later last moment)
 
 -- the greatest moment of the ticks in range
 abbrev pub last_tick_of : Building → List Delivery → Option ℤ

@@ -1,4 +1,5 @@
 pub mod Accepted
+pub mod Clocked
 pub mod Events
 pub mod Machine
 pub mod Moved

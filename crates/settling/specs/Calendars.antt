@@ -7,6 +7,8 @@ use Rattle.std.specs.Str.{bytes_eq}
 use Rattle.building.specs.Building.{Building}
 use Rattle.dates.specs.declared.entry.Entry.{Entry}
 use Rattle.dates.specs.Entry.{reading, spelling}
+use Rattle.jiff_core.specs.declared.civil.date.Date.{Date}
+use Rattle.sched.specs.Calendar.{calendar_holds}
 use Rattle.sched.specs.declared.calendar.Calendar.{Calendar}
 use Rattle.schedule_tables.specs.declared.named_calendar.NamedCalendar.{NamedCalendar}
 use Rattle.store.specs.declared.change.ImportedEntry.{ImportedEntry}
@@ -23,6 +25,10 @@ with_texts imported named = record { entries = named.calendar.entries ++ entries
 -- the calendars of the building, each at its place
 abbrev pub calendars_of : Building → (Text → List Text) → List Calendar
 calendars_of building imported = map (with_texts imported) building.calendars
+
+-- which of them hold on a day
+abbrev pub hold_on : Date → List Calendar → List Bool
+hold_on day calendars = map (λ calendar. calendar_holds calendar day) calendars
 
 -- the texts of those items that are for a calendar
 abbrev pub texts_for : Text → List ImportedEntry → List Text

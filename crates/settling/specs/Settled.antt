@@ -45,16 +45,16 @@ abbrev pub releases : OnLeave → Bool
 releases Stay = false
 releases Release = true
 
--- leaving: falls quiet, and releases what it wrote
-abbrev pub is_leaving : Now → Shown → NamedSchedule → Bool
-is_leaving now shown schedule = falls_quiet now shown schedule && releases schedule.on_leave
-
--- a value, or nothing, in the place of each target
+-- a value, or NULL, in the place of each target
 abbrev pub at_each_target : Option ℤ → NamedSchedule → List PlaceValue
 at_each_target value schedule = map (λ point. record { point = point; priority = schedule.priority; value = value }) schedule.targets
 
+-- one that falls quiet is leaving where it releases its places: they are cleared
+abbrev pub when_leaving : NamedSchedule → List PlaceValue
+when_leaving schedule = if releases schedule.on_leave then at_each_target None schedule else []
+
 abbrev pub cleared_by : Now → Shown → NamedSchedule → List PlaceValue
-cleared_by now shown schedule = if is_leaving now shown schedule then at_each_target None schedule else []
+cleared_by now shown schedule = if falls_quiet now shown schedule then when_leaving schedule else []
 
 abbrev pub put_by : Now → Shown → NamedSchedule → List PlaceValue
 put_by now shown schedule = if is_due now shown schedule then at_each_target (value_of now schedule) schedule else []
