@@ -12,7 +12,8 @@ import sys
 import tempfile
 from concurrent.futures import ThreadPoolExecutor
 
-from slow_desk import LAST_NUMBER, REMEMBERED, WINDOW, Building, Command, Content, Panel, Point, Skip, printed
+from slow_desk import LAST_NUMBER, REMEMBERED, WINDOW, Building, Command, Content, Import, Panel, Point, Skip, Tick, printed
+from slow_schedules import HUNDREDTHS_A_DAY, Calendar, Exception_, Schedule
 
 LISTS = 3000
 LONGEST = 24
@@ -20,6 +21,12 @@ LONG_LISTS = 12
 SHORT = 3
 NAMES = ["R101-SET", "LIGHT", "MODE", "fan_2.a"]
 PRIORITIES = [1, 2, 5, 8, 9, 10, 15, 16]
+ZONES = ["CET-1CEST,M3.5.0,M10.5.0/3", "CET-1CEST,M3.5.0,M10.5.0/3", "UTC0", "EST5"]
+ENTRIES = ["*-*-*", "*-03-30", "*-10-26", "*-*-*/sun", "wnd:*:6:*", "2025-03-01..2025-10-25", "*-odd-*", "*-*-last"]
+PERIODS = ["*..*", "*..*", "*..*", "2025-03-30..2025-10-25", "2025-10-26..*", "2026-01-01..2025-01-01"]
+# Midnight UTC before the two days of 2025 on which the clock is set.
+ODD_DAYS = [174_329_280_000_00 // 100, 176_143_680_000_00 // 100]
+HOUR = HUNDREDTHS_A_DAY // 24
 
 
 def some_point(rng, name):
@@ -39,7 +46,33 @@ def some_building(rng):
         )
         for place in range(1, rng.randint(1, 3) + 1)
     )
-    return Building(points, panels)
+    calendars = tuple(
+        Calendar(f"C{place}", tuple(rng.sample(ENTRIES, rng.randint(0, 2)))) for place in range(rng.randint(0, 2))
+    )
+    schedules = tuple(some_schedule(rng, place, points, calendars) for place in range(rng.randint(0, 3)))
+    return Building(points, panels, rng.choice(ZONES), calendars, schedules)
+
+
+def some_times(rng, values):
+    return tuple((rng.choice([0, 1, 2, 3, 12, 23]) * HOUR, rng.choice(values)) for _ in range(rng.randint(0, 3)))
+
+
+def some_exception(rng, values, calendars):
+    named = rng.choice(calendars).name if calendars and rng.random() < 0.7 else None
+    return Exception_(rng.randint(1, 3), None if named else rng.choice(ENTRIES), named, some_times(rng, values))
+
+
+def some_schedule(rng, place, points, calendars):
+    """A schedule of some points, at one of two priorities, so that several write to one place."""
+    targets = rng.sample(points, rng.randint(1, len(points)))
+    low, high = max(point.low for point in targets), min(point.high for point in targets)
+    values = [None] + [value for value in (low, low + 1, high) if low <= value <= high]
+    weekly = tuple(some_times(rng, values) for _ in range(7))
+    exceptions = tuple(some_exception(rng, values, calendars) for _ in range(rng.randint(0, 2)))
+    names = tuple(point.name for point in targets)
+    return Schedule(
+        f"S{place}", rng.choice(PERIODS), rng.choice([15, 16]), names, rng.choice(values), weekly, exceptions, rng.random() < 0.5
+    )
 
 
 def some_content(rng):
@@ -63,12 +96,25 @@ def some_deliveries(rng, building, longest=LONGEST):
     contents = [some_content(rng) for _ in range(4)]
     panels = [panel.name for panel in building.panels] + ["P9"]
     deliveries, nexts = [], dict.fromkeys(panels, 1)
+    moment = rng.choice(ODD_DAYS)
     for _ in range(rng.randint(0, longest)):
+        if rng.random() < 0.4:
+            moment += rng.choice([0, 0, HOUR, HOUR, 3 * HOUR, 20 * HOUR, -HOUR, 1])
+            deliveries.append(some_clock_delivery(rng, building, moment))
+            continue
         panel = rng.choice(panels)
         delivery = some_delivery(rng, panel, nexts[panel], contents)
         nexts[panel] += isinstance(delivery, Command) and delivery.number == nexts[panel]
         deliveries.append(delivery)
     return deliveries
+
+
+def some_clock_delivery(rng, building, moment):
+    """A tick about a moment or out of range, or an import, also of a calendar that the building lacks."""
+    if rng.random() < 0.75:
+        return Tick(rng.choice([moment] * 8 + [-1, 9223372036854775807]))
+    names = [each.name for each in building.calendars] * 4 + ["NONE"]
+    return Import(tuple((rng.choice(names), rng.choice(ENTRIES)) for _ in range(rng.randint(0, 3))))
 
 
 def long_deliveries(rng, building):
@@ -84,8 +130,26 @@ def long_deliveries(rng, building):
     return deliveries + [Skip(panel, last + rng.randint(-40, 64))] + asked
 
 
+def time_texts(times):
+    texts = [f"{time // HOUR:02}:{time % HOUR // 6000:02}={'NULL' if value is None else value}" for time, value in times]
+    return json.dumps(texts)
+
+
+def toml_of_schedule(schedule):
+    text = f'[[schedule]]\nname = "{schedule.name}"\npriority = {schedule.priority}\n'
+    text += f'period = "{schedule.period}"\ntargets = {json.dumps(schedule.targets)}\n'
+    if schedule.default is not None:
+        text += f"default = {schedule.default}\n"
+    text += "weekly = [" + ", ".join(time_texts(times) for times in schedule.weekly) + "]\n"
+    text += 'on_leave = "release"\n' if schedule.releases else ""
+    for exception in schedule.exceptions:
+        days = f'entry = "{exception.entry}"' if exception.calendar is None else f'calendar = "{exception.calendar}"'
+        text += f"[[schedule.exception]]\npriority = {exception.priority}\n{days}\ntimes = {time_texts(exception.times)}\n"
+    return text
+
+
 def toml_of(building):
-    text = 'zone = "UTC0"\n'
+    text = f'zone = "{building.zone}"\n'
     for point in building.points:
         text += f'[[point]]\nname = "{point.name}"\nkind = "{point.kind}"\n'
         if point.kind == "multi":
@@ -96,11 +160,19 @@ def toml_of(building):
     for panel in building.panels:
         text += f'[[panel]]\nname = "{panel.name}"\npoints = {json.dumps(panel.points)}\n'
         text += f"priorities = {json.dumps(panel.priorities)}\n"
-    return text
+    for calendar in building.calendars:
+        text += f'[[calendar]]\nname = "{calendar.name}"\nentries = {json.dumps(calendar.entries)}\n'
+    return text + "".join(toml_of_schedule(schedule) for schedule in building.schedules)
 
 
 def line_of(rng, delivery):
     """The line of a delivery: its keys in any order, and the lowest priority left out at times."""
+    if isinstance(delivery, Tick):
+        return json.dumps({"tick": delivery.at}) + "\n"
+    if isinstance(delivery, Import):
+        end = rng.choice(["\n", "\r\n"])
+        records = ["calendar,entry"] + [f"{name},{entry}" for name, entry in delivery.rows]
+        return json.dumps({"import": end.join(records) + end}) + "\n"
     if isinstance(delivery, Skip):
         keys = rng.sample(["panel", "skip"], 2)
         return json.dumps({key: {"panel": delivery.panel, "skip": delivery.upto}[key] for key in keys}) + "\n"

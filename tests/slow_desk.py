@@ -4,7 +4,9 @@ It shares no code with the desk and keeps no tables. What was accepted of a pane
 list, which commands were applied there, what the priority machine has and what is replied are each computed
 from the list by their definitions.
 """
-from dataclasses import dataclass
+from dataclasses import dataclass, field
+
+from slow_schedules import local_time, schedule_value
 
 WINDOW = 64
 REMEMBERED = 1000
@@ -35,6 +37,9 @@ class Panel:
 class Building:
     points: tuple
     panels: tuple
+    zone: str = "UTC0"
+    calendars: tuple = ()
+    schedules: tuple = ()
 
     def point(self, name):
         return next((point for point in self.points if point.name == name), None)
@@ -61,6 +66,18 @@ class Command:
 class Skip:
     panel: str
     upto: int
+
+
+@dataclass(frozen=True)
+class Tick:
+    at: int
+
+
+@dataclass(frozen=True)
+class Import:
+    """Rows of the name of a calendar and the text of an entry."""
+
+    rows: tuple
 
 
 # ---- what was accepted of a panel
@@ -90,11 +107,16 @@ class Taken:
         return Taken({**self.keys, number: delivery.content}, self.upto) if accepted else self
 
 
+def panel_of(delivery):
+    """The name of the panel that sent it; none of a tick and of an import."""
+    return delivery.panel if isinstance(delivery, (Command, Skip)) else None
+
+
 def taken_along(building, deliveries, panel):
     """What was accepted of a panel before each delivery of a list, and after the last one."""
     along = [Taken({}, 1)]
     for delivery in deliveries:
-        asked = building.panel(panel) is not None and delivery.panel == panel
+        asked = building.panel(panel) is not None and panel_of(delivery) == panel
         along.append(along[-1].after(delivery) if asked else along[-1])
     return along
 
@@ -107,14 +129,34 @@ def applied(old, new):
     return [(number, new.keys[number]) for number in range(old.front(), new.front()) if number in new.keys]
 
 
+def unknown_row(building, delivery):
+    """The record of the first row whose calendar the building lacks, the header being 1; or None."""
+    names = {each.name for each in building.calendars}
+    return next((place for place, (name, _) in enumerate(delivery.rows, 2) if name not in names), None)
+
+
+def clock_events(building, earlier, delivery):
+    """A tick in range that is later than each before it in range; an import."""
+    if isinstance(delivery, Import):
+        return [] if unknown_row(building, delivery) else [delivery]
+    if not isinstance(delivery, Tick) or local_time(building.zone, delivery.at) is None:
+        return []
+    before = [each.at for each in earlier if isinstance(each, Tick) and local_time(building.zone, each.at) is not None]
+    return [delivery] if all(at < delivery.at for at in before) else []
+
+
 def events_along(building, deliveries):
-    """The commands that each delivery of a list applies."""
-    panels = {delivery.panel for delivery in deliveries}
+    """What each delivery of a list has acted on: commands in number order, a tick, or an import."""
+    panels = {panel_of(delivery) for delivery in deliveries} - {None}
     along = {panel: taken_along(building, deliveries, panel) for panel in panels}
     told = []
     for index, delivery in enumerate(deliveries):
-        old, new = along[delivery.panel][index : index + 2]
-        told.append([] if new is old else [Command(delivery.panel, *entry) for entry in applied(old, new)])
+        panel = panel_of(delivery)
+        if panel is None:
+            told.append(clock_events(building, deliveries[:index], delivery))
+            continue
+        old, new = along[panel][index : index + 2]
+        told.append([] if new is old else [Command(panel, *entry) for entry in applied(old, new)])
     return along, told
 
 
@@ -140,19 +182,84 @@ def present(building, places, name):
     return places[name, min(priorities)], min(priorities)
 
 
+@dataclass
+class Machine:
+    """The places with values, the answers of commands, what each schedule shows, imported pairs, the last tick."""
+
+    places: dict = field(default_factory=dict)
+    answers: dict = field(default_factory=dict)
+    shown: dict = field(default_factory=dict)
+    imported: set = field(default_factory=set)
+    last: int | None = None
+
+
+def command(building, state, event):
+    content, against = event.content, rule(building, event.panel, event.content)
+    if against is not None:
+        return ("refused", against)
+    state.places.pop((content.point, content.priority), None)
+    if content.value is not None:
+        state.places[content.point, content.priority] = content.value
+    return ("done", *present(building, state.places, content.point))
+
+
+def calendars_now(building, imported):
+    """The entries of each calendar, of the file and imported."""
+    return {
+        each.name: list(each.entries) + [entry for name, entry in imported if name == each.name]
+        for each in building.calendars
+    }
+
+
+def settle(building, state, moment):
+    """Settles all schedules at a moment, and answers the number of writes."""
+    day, now = local_time(building.zone, moment)
+    calendars = calendars_now(building, state.imported)
+    values = {each.name: schedule_value(each, calendars, day, now) for each in building.schedules}
+    active = {each.name for each in building.schedules if each.active(day)}
+    due = [each for each in building.schedules if each.name in active and state.shown.get(each.name) != (values[each.name],)]
+    leaving = [each for each in building.schedules if each.name not in active and each.releases and each.name in state.shown]
+    written = {(target, each.priority): None for each in leaving for target in each.targets}
+    written |= {(target, each.priority): values[each.name] for each in due for target in each.targets}
+    for place, value in written.items():
+        state.places.pop(place, None)
+        if value is not None:
+            state.places[place] = value
+    state.shown = {name: (values[name],) for name in active}
+    return sum(len(each.targets) for each in due + leaving)
+
+
+def import_rows(building, state, rows):
+    added = []
+    for name, entry in rows:
+        known = {*next(each.entries for each in building.calendars if each.name == name)}
+        if entry not in known and (name, entry) not in state.imported:
+            state.imported = state.imported | {(name, entry)}
+            added.append((name, entry))
+    writes = 0 if state.last is None else settle(building, state, state.last)
+    return len(added), len(rows) - len(added), writes
+
+
+def act(building, state, event):
+    """Acts on one event, and answers what a tick or an import is told."""
+    if isinstance(event, Command):
+        state.answers[event.panel, event.number] = command(building, state, event)
+        return None
+    if isinstance(event, Tick):
+        writes = settle(building, state, event.at)
+        state.last = event.at
+        return f'{{"answer":"tick","writes":{writes}}}'
+    added, known, writes = import_rows(building, state, event.rows)
+    return f'{{"added":{added},"answer":"import","known":{known},"writes":{writes}}}'
+
+
 def machine(building, events):
-    """The places and the answers after a list of events."""
-    places, answers = {}, {}
-    for event in events:
-        content, against = event.content, rule(building, event.panel, event.content)
-        if against is not None:
-            answers[event.panel, event.number] = ("refused", against)
-            continue
-        places.pop((content.point, content.priority), None)
-        if content.value is not None:
-            places[content.point, content.priority] = content.value
-        answers[event.panel, event.number] = ("done", *present(building, places, content.point))
-    return places, answers
+    """The machine after the events of a list of deliveries, and what each delivery's last event is told."""
+    state, told = Machine(), []
+    for each in events:
+        answers = [act(building, state, event) for event in each]
+        told.append(answers[-1] if answers else None)
+    return state, told
 
 
 # ---- what is replied and printed
@@ -170,6 +277,15 @@ def reply_to_skip(old, new, upto):
     if upto > old.front() + WINDOW:
         return f'{{"answer":"too_far","next":{old.front()},"number":{upto}}}'
     return f'{{"answer":"skip","next":{new.front()}}}'
+
+
+def reply_to_clock(building, delivery, told):
+    """The reply to a tick or an import, where its event is told this, or it has none."""
+    if told is not None:
+        return told
+    if isinstance(delivery, Import):
+        return f'{{"answer":"import_refused","fault":"I3","record":{unknown_row(building, delivery)}}}'
+    return '{"answer":"bad_moment"}' if local_time(building.zone, delivery.at) is None else '{"answer":"old","writes":0}'
 
 
 def reply(building, old, new, delivery, answers):
@@ -204,10 +320,12 @@ def point_line(building, places, point):
 def printed(building, deliveries):
     """What a replay of the list prints. An answer is told once and stays, so those of the whole list serve."""
     along, events = events_along(building, deliveries)
-    places, answers = machine(building, [event for told in events for event in told])
+    state, told = machine(building, events)
     replies = [
-        reply(building, *along[delivery.panel][index : index + 2], delivery, answers)
+        reply_to_clock(building, delivery, told[index])
+        if panel_of(delivery) is None
+        else reply(building, *along[delivery.panel][index : index + 2], delivery, state.answers)
         for index, delivery in enumerate(deliveries)
     ]
-    points = [point_line(building, places, point) for point in building.points]
+    points = [point_line(building, state.places, point) for point in building.points]
     return "".join(line + "\n" for line in replies + points)

@@ -58,6 +58,14 @@ impl Entry {
         ensures value { IfOk result (λ text. string_bytes text ≡ spelling self.now) }
         ensures range { IsEntry self.now }
     {
+        self.lies_in_range();
+        self.to_string(alloc)
+    }
+
+    /// The entry's numbers lie in their ranges: what this says holds of each entry, and nothing is done.
+    pub fn lies_in_range(&self)
+        ensures { IsEntry self.now }
+    {
         // The numbers are in range, each by the type that holds it.
         match self {
             Entry::Pattern(pattern) => {
@@ -72,7 +80,6 @@ impl Entry {
             }
             Entry::WeekNDay(week_n_day) => prove!(week_n_day.months.number() <= Some(12)),
         }
-        self.to_string(alloc)
     }
 
     /// Whether the day is one of the entry's. It takes no memory.

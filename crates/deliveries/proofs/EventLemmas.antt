@@ -24,7 +24,7 @@ pub taken_by-push : (b : Building) (p : Text) (E : List Delivery) (d : Delivery)
 taken_by-push b p E d =
     ap (asks.taken asks.opening) (flat_map-push (asks_of b p) E d) ∙ taken-append asks.opening (flat_map (asks_of b p) E) (asks_of b p d)
 
-run-append : (b : Building) (m : Machine) (xs ys : List Event) → run b m (xs ++ ys) ≡ run b (run b m xs) ys
+pub run-append : (b : Building) (m : Machine) (xs ys : List Event) → run b m (xs ++ ys) ≡ run b (run b m xs) ys
 run-append b m [] ys = refl
 run-append b m (x ∷ xs) ys = run-append b (step b m x) xs ys
 

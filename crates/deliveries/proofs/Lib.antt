@@ -1,3 +1,6 @@
+pub mod AgainLemmas
+pub mod ClockLemmas
+pub mod DeliveredLemmas
 pub mod EventLemmas
 pub mod MachineLemmas
 pub mod MovedLemmas

@@ -26,6 +26,21 @@ pub places-run : (b : Building) (m : Machine) (p : Text) (entries : List Numbere
 places-run b m p [] = refl
 places-run b m p (entry ∷ entries) = places-run b (step b m (Command p entry.number entry.content)) p entries
 
+-- commands leave what schedules show, what is imported, and the last tick
+pub shown-run : (b : Building) (m : Machine) (p : Text) (entries : List NumberedContent) → (run b m (events_of p entries)).shown ≡ m.shown
+shown-run b m p [] = refl
+shown-run b m p (entry ∷ entries) = shown-run b (step b m (Command p entry.number entry.content)) p entries
+
+pub imported-run : (b : Building) (m : Machine) (p : Text) (entries : List NumberedContent)
+    → (run b m (events_of p entries)).imported ≡ m.imported
+imported-run b m p [] = refl
+imported-run b m p (entry ∷ entries) = imported-run b (step b m (Command p entry.number entry.content)) p entries
+
+pub last_tick-run : (b : Building) (m : Machine) (p : Text) (entries : List NumberedContent)
+    → (run b m (events_of p entries)).last_tick ≡ m.last_tick
+last_tick-run b m p [] = refl
+last_tick-run b m p (entry ∷ entries) = last_tick-run b (step b m (Command p entry.number entry.content)) p entries
+
 -- the answers of other panels stay
 pub answers-elsewhere : (b : Building) (m : Machine) (p q : Text) (number : ℕ) (entries : List NumberedContent) → bytes_eq p q ≡ false
     → (run b m (events_of p entries)).answers q number ≡ m.answers q number

@@ -1,6 +1,7 @@
 -- What a plan does is what one delivery more does.
 use Rattle.std.proofs.Common.{◌≡◌, ℕ, ◌+◌, ◌-◌, ◌<◌, ◌==◌, ◌++◌, true, false, List, [], ◌∷◌, Option, Some, None, is_some}
 use Rattle.std.proofs.Common.{◌⊎◌, refl, sym, ap, ◌∙◌, subst, arith, inl, inr, cond, nat_lt, ℤ}
+use Rattle.std.specs.List.{list_any}
 use Rattle.std.specs.Str.{bytes_eq}
 use Rattle.std.proofs.lemmas.Bool.Decides.{nat_tests}
 use Rattle.std.proofs.lemmas.Bool.{cases_Bool, false≢true}
@@ -33,11 +34,11 @@ use Rattle.deliveries.specs.Accepted.{panel_of, taken_by}
 use Rattle.deliveries.specs.Events.{events_of, machine}
 use Rattle.deliveries.specs.Machine.{Machine, Command, run, step}
 use Rattle.deliveries.specs.Moved.{answered_rows, first_answer, moved, parked_rows, places_after_each}
-use Rattle.deliveries.specs.Reply.{number_asked, number_told, reply, reply_on, reply_to}
+use Rattle.deliveries.specs.Reply.{number_asked, number_told, reply, reply_on}
 use Rattle.deliveries.specs.Tables.{row_at, tables}
-use Rattle.deliveries.proofs.MachineLemmas.{Rise, answers-apart, bytes_eq-same, content_in-below, places-run}
+use Rattle.deliveries.proofs.MachineLemmas.{Rise, answers-apart, bytes_eq-same, content_in-below, imported-run, last_tick-run, places-run, shown-run}
 use Rattle.deliveries.proofs.RowLemmas.{Rise-applied, rows-asked, rows-of_others}
-use Rattle.deliveries.proofs.StepLemmas.{Asks, machine-asked, taken-here, taken-apart}
+use Rattle.deliveries.proofs.StepLemmas.{Asks, machine-asked, reply-asked, taken-here, taken-apart}
 
 -- the rows after a plan, by its parts
 rows-moved : Building → (Text → Places) → Text → ℕ → List NumberedContent → Option NumberedContent → (Text → Rows) → Text → Rows
@@ -102,9 +103,10 @@ module _ (b : Building) (E : List Delivery) (d : Delivery) (ask : asks.Ask) (ask
         places = (ap (λ (m : Machine). m.places) machines ∙ places-run b (machine b E) panel (applied before after)) i;
         next = λ q. next-asked q i;
         row = λ q number. (ap (λ (m : Machine). row_at (taken_by b q (E ++ d ∷ [])) number (m.answers q number)) machines ∙ rows-of q number) i;
-        shown = λ schedule. None;
-        imported = λ calendar text. false;
-        last_tick = None;
+        shown = (ap (λ (m : Machine). m.shown) machines ∙ shown-run b (machine b E) panel (applied before after)) i;
+        imported = λ calendar text. list_any (bytes_eq text)
+            ((ap (λ (m : Machine). m.imported) machines ∙ imported-run b (machine b E) panel (applied before after)) i calendar);
+        last_tick = (ap (λ (m : Machine). m.last_tick) machines ∙ last_tick-run b (machine b E) panel (applied before after)) i;
       }
 
   places-tables : (tables b E).places ≡ (machine b E).places
@@ -197,10 +199,6 @@ told-answer b m p t (asks.Command number content) row next later z =
       | inr other ↦ reply_on-other _ next later z _ _ other
     ]
 
-reply-is : (b : Building) (E : List Delivery) (d : Delivery) (ask : asks.Ask) → Asks b d ask → reply b E d ≡ reply_to b E d ask
-unfolding reply
-reply-is b E d ask asking = rw (asking.known, asking.asks_it) refl
-
 -- the reply to a delivery, from its plan
 pub reply-moved : (b : Building) (E : List Delivery) (d : Delivery) (ask : asks.Ask) (plan : Plan) → Asks b d ask
     → let t = taken_by b (panel_of d) E in Plans t ask (row_asked ((tables b E).row (panel_of d)) ask) plan
@@ -210,7 +208,7 @@ reply-moved b E d ask plan asking plans =
     let t = taken_by b p E in
     let row = row_asked ((tables b E).row p) ask in
     let z = number_told d in
-    reply-is b E d ask asking
+    reply-asked b E d ask asking
     ∙ (λ i. reply_on (verdict_of t ask row) (asks.front t) (asks.front (taken-here b E d ask asking i)) z
     ((machine-asked b E d ask asking i).answers p (number_asked ask)))
     ∙ told-answer b (machine b E) p t ask row (asks.front t) (asks.front (asks.take t ask)) z

@@ -99,6 +99,8 @@ asked-in_range (delivery_of.Command panel number content) ask e =
     ask_command-is (number_upto LAST_NUMBER number) content ask (λ n found. (number_upto-most LAST_NUMBER number n found).1) e
 asked-in_range (delivery_of.Skip panel upto) ask e =
     ask_skip-is (number_upto (LAST_NUMBER + 1) upto) ask (λ n found. (number_upto-most (LAST_NUMBER + 1) upto n found).1) e
+asked-in_range (delivery_of.Tick moment) ask e = absurd cc
+asked-in_range (delivery_of.Import rows) ask e = absurd cc
 
 LiesInRange-asks_of : (b : Building) (p : Text) (t : asks.Taken) (d : Delivery) → LiesInRange t → LiesInRange (asks.taken t (asks_of b p d))
 LiesInRange-asks_of b p t d lies = elim (bytes_eq (panel_of d) p && is_some (panel_named b p)) as

@@ -8,7 +8,7 @@ use Rattle.window.specs.declared.TheConstants.{LAST_NUMBER}
 use Rattle.window.specs.Taken as asks
 use Rattle.building.specs.Building.{Building}
 use Rattle.deliveries.specs.declared.delivery.Delivery.{Delivery}
-use Rattle.deliveries.specs.declared.delivery.Delivery.TheVariants.{Command, Skip}
+use Rattle.deliveries.specs.declared.delivery.Delivery.TheVariants.{Command, Skip, Tick, Import}
 
 abbrev pub panel_named : Building → Text → Option Panel
 panel_named building name = find (λ panel. bytes_eq panel.name name) building.panels
@@ -18,9 +18,12 @@ abbrev pub number_upto : ℕ → ℤ → Option ℕ
 number_upto last (pos n) = if nat_le 1 n && nat_le n last then Some n else None
 number_upto last (negsuc n) = None
 
+-- the panel's name; a tick and an import ask nothing of a panel, whatever its name
 abbrev pub panel_of : Delivery → Text
 panel_of (Command panel number content) = panel
 panel_of (Skip panel upto) = panel
+panel_of (Tick at) = []
+panel_of (Import rows) = []
 
 abbrev pub ask_command : Option ℕ → Content → Option asks.Ask
 ask_command None content = None
@@ -34,6 +37,8 @@ ask_skip (Some upto) = Some (asks.Skip upto)
 abbrev pub asked : Delivery → Option asks.Ask
 asked (Command panel number content) = ask_command (number_upto LAST_NUMBER number) content
 asked (Skip panel upto) = ask_skip (number_upto (LAST_NUMBER + 1) upto)
+asked (Tick at) = None
+asked (Import rows) = None
 
 abbrev pub listed : Option asks.Ask → List asks.Ask
 listed None = []

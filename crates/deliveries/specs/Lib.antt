@@ -1,4 +1,6 @@
 pub mod Accepted
+pub mod Clocked
+pub mod Delivered
 pub mod Events
 pub mod Machine
 pub mod Moved

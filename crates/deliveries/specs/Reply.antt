@@ -1,4 +1,5 @@
-use Rattle.std.specs.Prelude.{ℕ, List, [], ◌∷◌, ◌++◌, Option, Some, None, ℤ}
+use Rattle.std.specs.Prelude.{ℕ, ◌+◌, ◌-◌, not, if◌then◌else◌, List, [], ◌∷◌, ◌++◌, length, position, Option, Some, None, option_map, ℤ, pos}
+use Rattle.std.specs.Option.{option_map_or}
 use Rattle.points.specs.declared.answer.Answer.{Answer}
 use Rattle.points.specs.declared.command_row.CommandState.TheVariants as state
 use Rattle.points.specs.declared.panel.Panel.{Panel}
@@ -9,17 +10,21 @@ use Rattle.window.specs.Verdict.{verdict_of}
 use Rattle.window.specs.View.{row_asked}
 use Rattle.building.specs.Building.{Building}
 use Rattle.deliveries.specs.declared.delivery.Delivery.{Delivery}
-use Rattle.deliveries.specs.declared.delivery.Delivery.TheVariants.{Command, Skip}
+use Rattle.deliveries.specs.declared.delivery.Delivery.TheVariants.{Command, Skip, Tick, Import}
 use Rattle.deliveries.specs.declared.reply.Reply.{Reply}
 use Rattle.deliveries.specs.declared.reply.Reply.TheVariants as answer_of
 use Rattle.deliveries.specs.Accepted.{asked, panel_named, panel_of, taken_by}
-use Rattle.deliveries.specs.Events.{machine}
+use Rattle.deliveries.specs.Events.{has_calendar, is_later, is_moment, last_tick_of, machine}
+use Rattle.deliveries.specs.Machine.{Machine, added, with_rows, writes_of}
+use Rattle.sched.specs.declared.calendar.CalendarEntry.{CalendarEntry}
 use Rattle.deliveries.specs.Tables.{tables}
 
 -- the number that a delivery is told with
 abbrev pub number_told : Delivery → ℤ
 number_told (Command panel number content) = number
 number_told (Skip panel upto) = upto
+number_told (Tick at) = at
+number_told (Import rows) = pos 0
 
 -- What is told on a verdict: with the next number before the delivery, the one after it, and the answer of
 -- the command that it acts on.
@@ -56,9 +61,43 @@ abbrev pub reply_of_panel : Building → List Delivery → Delivery → Option P
 reply_of_panel building earlier delivery None = answer_of.NoPanel
 reply_of_panel building earlier delivery (Some panel) = reply_in_range building earlier delivery (asked delivery)
 
--- the reply to a delivery after earlier ones
+-- ---- ticks and imports
+
+-- the reply to a tick: out of range, not later than one before it, or what its event writes
+abbrev pub reply_to_tick : Building → List Delivery → ℤ → Reply
+reply_to_tick building earlier moment =
+    if not (is_moment building moment) then answer_of.BadMoment
+    else (if is_later (last_tick_of building earlier) moment
+    then answer_of.Ticked (writes_of building (machine building earlier) (Some moment))
+    else answer_of.Old)
+
+-- what an import is answered: the rows that it adds, the others, and what its event writes
+abbrev pub imported_reply : Building → Machine → List CalendarEntry → Reply
+imported_reply building before rows =
+    let count = length (added building before.imported rows) in
+    let now = with_rows building before rows in
+    answer_of.Imported count (length rows - count) (writes_of building now now.last_tick)
+
+-- the record of the first row without calendar, if there is one: the header is record 1
+abbrev pub refused_record : Building → List CalendarEntry → Option ℕ
+refused_record building rows = option_map (λ place. place + 2) (position (λ row. not (has_calendar building row)) rows)
+
+abbrev pub reply_to_import : Building → List Delivery → List CalendarEntry → Reply
+reply_to_import building earlier rows =
+    option_map_or answer_of.ImportRefused (refused_record building rows) (imported_reply building (machine building earlier) rows)
+
+-- ---- a delivery after earlier ones
+
+-- the reply to a tick or an import; else that of the panel
+abbrev pub reply_by_clock : Building → List Delivery → Delivery → Reply → Reply
+reply_by_clock building earlier (Command panel number content) of_panel = of_panel
+reply_by_clock building earlier (Skip panel upto) of_panel = of_panel
+reply_by_clock building earlier (Tick moment) of_panel = reply_to_tick building earlier moment
+reply_by_clock building earlier (Import rows) of_panel = reply_to_import building earlier rows
+
 unfoldable pub reply : Building → List Delivery → Delivery → Reply
-reply building earlier delivery = reply_of_panel building earlier delivery (panel_named building (panel_of delivery))
+reply building earlier delivery = reply_by_clock building earlier delivery
+    (reply_of_panel building earlier delivery (panel_named building (panel_of delivery)))
 
 -- the replies to deliveries, one after the other
 abbrev pub replies : Building → List Delivery → List Delivery → List Reply

@@ -1,4 +1,6 @@
-use Rattle.std.specs.Prelude.{ℕ, false, nat_lt, if◌then◌else◌, List, Option, None, option_map}
+use Rattle.std.specs.Prelude.{ℕ, nat_lt, if◌then◌else◌, List, Option, option_map}
+use Rattle.std.specs.List.{list_any}
+use Rattle.std.specs.Str.{bytes_eq}
 use Rattle.points.specs.declared.answer.Answer.{Answer}
 use Rattle.points.specs.declared.command_row.CommandRow.{CommandRow}
 use Rattle.points.specs.declared.command_row.CommandState.TheVariants.{Parked, Answered}
@@ -26,7 +28,7 @@ tables building deliveries = record {
   places = (machine building deliveries).places;
   next = λ panel. front (taken_by building panel deliveries);
   row = λ panel number. row_at (taken_by building panel deliveries) number ((machine building deliveries).answers panel number);
-  shown = λ schedule. None;
-  imported = λ calendar text. false;
-  last_tick = None;
+  shown = (machine building deliveries).shown;
+  imported = λ calendar text. list_any (bytes_eq text) ((machine building deliveries).imported calendar);
+  last_tick = (machine building deliveries).last_tick;
 }

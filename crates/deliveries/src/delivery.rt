@@ -1,10 +1,10 @@
 //! What reaches the desk.
-ghost use Rattle.std.specs.Prelude.{◌≡◌};
-
+use listing::Listing;
 use points::{Content, Name};
+use sched::CalendarEntry;
 
 /// One delivery, as it came: it may be a repeat, and come late or out of order.
-#[derive(Clone, Copy, Debug, PartialEq, Eq)]
+#[derive(Debug, Drop)]
 pub enum Delivery {
     /// A panel's command under a number of the panel's own, 1 to 1,000,000,000,000.
     Command {
@@ -17,17 +17,9 @@ pub enum Delivery {
         panel: Name,
         upto: i64,
     },
-}
-
-impl Delivery {
-    ghost use Rattle.deliveries.specs.Accepted.{panel_of};
-
-    /// The panel that it comes from.
-    pub fn panel(&self) -> &Name
-        ensures { result.now ≡ panel_of self.now }
-    {
-        match self {
-            Delivery::Command { panel, .. } | Delivery::Skip { panel, .. } => panel,
-        }
-    }
+    /// The schedules are to write what they say at a moment, in hundredths of a second since
+    /// 1970-01-01T00:00:00Z.
+    Tick { at: i64 },
+    /// Entries for calendars of the building.
+    Import { rows: Listing<CalendarEntry> },
 }

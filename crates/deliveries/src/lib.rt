@@ -3,12 +3,15 @@
 //! The definitions, over whole lists: what was accepted of each panel (`specs/Accepted.antt`), the commands
 //! that are acted on and their place among the deliveries (`specs/Events.antt`), the priority machine that
 //! acts on them (`specs/Machine.antt`), the tables that it leaves (`specs/Tables.antt`) and what each
-//! delivery is answered (`specs/Reply.antt`). No code here carries them out: `desk` does, and its contract
-//! speaks of nothing else.
+//! delivery is answered (`specs/Reply.antt`). What a store holds around one delivery is `specs/Delivered.antt`.
+//! The code that carries them out is that of `panel_commands`, `clock` and `desk`, whose contracts speak of
+//! nothing else; here stands what a delivery alone tells.
 #![tactic(auto)]
 
 pub use delivery::Delivery;
+pub use import_rows::refused_record;
 pub use reply::Reply;
 
 mod delivery;
+mod import_rows;
 mod reply;

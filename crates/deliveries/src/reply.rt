@@ -22,4 +22,19 @@ pub enum Reply {
     TooFar { next: u64, number: i64 },
     /// A skip: its numbers are acted on or given up, and `next` is the next one.
     SkipDone { next: u64 },
+    /// A tick: the schedules wrote so many values.
+    Ticked { writes: u64 },
+    /// A tick that is not later than one before it.
+    Old,
+    /// A moment before 1970-01-01T00:00:00Z, or outside the local years 1970 to 2154.
+    BadMoment,
+    /// An import: so many rows were added and so many known before, and the schedules wrote so many values.
+    Imported {
+        added: u64,
+        known: u64,
+        writes: u64,
+    },
+    /// An import of which a row names no calendar of the building: the record of the first such row, where the
+    /// header is record 1.
+    ImportRefused { record: u64 },
 }

@@ -1,82 +1,36 @@
--- The delivery that a line of JSON tells, by `serde_json`'s own reading of it.
-use Rattle.std.specs.Prelude.{ℕ, ℤ, pos, Bool, true, ◌&&◌, List, [], ◌∷◌, Option, Some, None}
-use Rattle.std.specs.Prelude.{codes, option_map, unwrap_or}
-use Rattle.std.specs.List.{list_any}
-use Rattle.std.specs.Str.{bytes_eq}
-use Rattle.serde_json.specs.Data as json
-use Rattle.serde_json.specs.Data.{Data, Members, no_members, member}
-use Rattle.serde_json.specs.Find.{as_i64, as_number, as_object, as_str, get}
+-- What a line of JSON tells, by `serde_json`'s own reading of it.
+use Rattle.std.specs.Prelude.{ℕ, List, Option, Some, None, codes}
+use Rattle.serde_json.specs.Data.{Data}
+use Rattle.serde_json.specs.Find.{get}
 use Rattle.serde_json.specs.Read.{read}
-use Rattle.deliveries.specs.declared.Delivery.{Delivery}
-use Rattle.deliveries.specs.declared.Delivery.TheVariants.{Command, Skip}
-use Rattle.texts.specs.Steps.{◌>>=◌, where_holds}
-use Rattle.texts.specs.Texts.{name_of}
+use Rattle.building.specs.Building.{Building}
+use Rattle.deliveries.specs.declared.delivery.Delivery.{Delivery}
+use Rattle.delivery_lines.specs.declared.told.Told.{Told}
+use Rattle.delivery_lines.specs.declared.told.Told.TheVariants as told
+use Rattle.delivery_lines.specs.ClockLine.{import_in, tick_in}
+use Rattle.delivery_lines.specs.PanelLine.{panel_delivery_in}
+use Rattle.texts.specs.Steps.{◌>>=◌}
 use Rattle.texts.specs.Texts.{text_of}
 
--- the keys that a command's line may have
-abbrev pub command_keys : List (List ℕ)
-command_keys = codes "number" ∷ codes "panel" ∷ codes "point" ∷ codes "priority" ∷ codes "value" ∷ []
-
-abbrev pub has_only : List (List ℕ) → Members → Bool
-has_only known no_members = true
-has_only known (member key value ms) =
-    list_any (λ k. bytes_eq k key) known && has_only known ms
-
-abbrev pub integer_in : Data → Option ℤ
-integer_in d = as_number d >>= as_i64
-
-abbrev pub name_in : Data → Option (List ℕ)
-name_in d = as_str d >>= name_of
-
--- a number, or null for NULL
-abbrev pub value_in : Data → Option (Option ℤ)
-value_in json.null = Some None
-value_in (json.boolean b) = None
-value_in (json.number n) = option_map (λ z. Some z) (as_i64 n)
-value_in (json.string s) = None
-value_in (json.array ds) = None
-value_in (json.object ms) = None
-
--- a priority that is missing, or null, is 16 (19.2)
-abbrev pub priority_in : Option Data → Option ℤ
-priority_in None = Some (pos 16)
-priority_in (Some d) = option_map (λ v. unwrap_or v (pos 16)) (value_in d)
-
--- the command that an object tells
-unfoldable pub command_in : Data → Option Delivery
-command_in d = do
-  ms ← as_object d
-  number ← get (codes "number") d >>= integer_in
-  panel ← get (codes "panel") d >>= name_in
-  point ← get (codes "point") d >>= name_in
-  priority ← priority_in (get (codes "priority") d)
-  value ← get (codes "value") d >>= value_in
-  where_holds (has_only command_keys ms)
-      (Command panel number (record { point = point; priority = priority; value = value }))
-
--- the keys that a skip's line has
-abbrev pub skip_keys : List (List ℕ)
-skip_keys = codes "panel" ∷ codes "skip" ∷ []
-
--- the skip that an object tells
-unfoldable pub skip_in : Data → Option Delivery
-skip_in d = do
-  ms ← as_object d
-  panel ← get (codes "panel") d >>= name_in
-  upto ← get (codes "skip") d >>= integer_in
-  where_holds (has_only skip_keys ms) (Skip panel upto)
-
 abbrev pub delivery_with : Option Data → Data → Option Delivery
-delivery_with None d = command_in d
-delivery_with (Some upto) d = skip_in d
+delivery_with None d = tick_in d
+delivery_with (Some panel) d = panel_delivery_in d
 
--- an object with the key `skip` tells a skip or nothing, another one a command or nothing
+-- an object with the key `panel` tells what a panel sends or nothing, another one a tick or nothing
 unfoldable pub delivery_in : Data → Option Delivery
-delivery_in d = delivery_with (get (codes "skip") d) d
+delivery_in d = delivery_with (get (codes "panel") d) d
 
--- the delivery that a line tells
-unfoldable pub delivery_of : List ℕ → Option Delivery
-delivery_of line = do
+abbrev pub told_with : Building → Data → Option Delivery → Option Told
+told_with b d None = import_in b d
+told_with b d (Some delivery) = Some (told.Delivery delivery)
+
+-- what an object tells: a delivery without a holiday list, or an import; each kind has its own keys, and no other
+unfoldable pub told_in : Building → Data → Option Told
+told_in b d = told_with b d (delivery_in d)
+
+-- what a line tells; an import is one of entries for calendars of the building
+unfoldable pub told_of : Building → List ℕ → Option Told
+told_of b line = do
   text ← text_of line
   d ← read text
-  delivery_in d
+  told_in b d

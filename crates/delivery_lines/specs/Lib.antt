@@ -1,4 +1,6 @@
+pub mod ClockLine
 pub mod DeliveryLine
-pub mod LineAnswer
 pub mod LineFault
+pub mod Members
+pub mod PanelLine
 pub mod ReplyText

@@ -1,14 +1,19 @@
-//! What does a line of a list of deliveries tell, and what is it answered?
+//! What does a line of a list of deliveries tell, and what is the text of a reply?
 //!
-//! `answer_line` reads the delivery of a line by `serde_json` (`delivery_line`), delivers it to the desk,
-//! and gives the text of the reply (`reply_text`) with its line end.
+//! `told_of` reads a line by `serde_json`: a command or a skip of a panel (`panel_line`), a tick, or the holiday
+//! list of an import, which `holidays` reads for the building (`clock_line`). A list at fault is told as such,
+//! and is no delivery. `ReplyText` is the text of a reply, `RefusedImportText` that of a list at fault.
 #![tactic(auto)]
 
-pub use line_answer::answer_line;
+pub use delivery_line::told_of;
 pub use line_fault::LineFault;
-pub use reply_text::ReplyText;
+pub use reply_text::{RefusedImportText, ReplyText};
+pub use told::Told;
 
+mod clock_line;
 mod delivery_line;
-mod line_answer;
 mod line_fault;
+mod members;
+mod panel_line;
 mod reply_text;
+mod told;

@@ -1,6 +1,7 @@
 //! The text of a reply.
 
 use deliveries::Reply;
+use holidays::{ImportCause, ImportFault};
 use points::Answer;
 use std::fmt;
 
@@ -41,6 +42,18 @@ impl fmt::Display for ReplyText {
             Reply::Forgotten { number } => {
                 write!(f, "{{\"answer\":\"forgotten\",\"number\":{number}}}")
             }
+            Reply::Ticked { writes } => write!(f, "{{\"answer\":\"tick\",\"writes\":{writes}}}"),
+            Reply::Old => f.write_str("{\"answer\":\"old\",\"writes\":0}"),
+            Reply::BadMoment => f.write_str("{\"answer\":\"bad_moment\"}"),
+            Reply::Imported { added, known, writes } => write!(
+                f,
+                "{{\"added\":{added},\"answer\":\"import\",\"known\":{known},\"writes\":{writes}}}"
+            ),
+            Reply::ImportRefused { record } => write!(
+                f,
+                "{}",
+                RefusedImportText(ImportCause::UnknownCalendar.at(record))
+            ),
         }
     }
 }
@@ -72,5 +85,24 @@ impl fmt::Display for AnswerText {
                 )
             }
         }
+    }
+}
+
+/// The refusal of an import as one JSON object, compact, its keys in byte order.
+#[derive(Clone, Copy, Debug, PartialEq, Eq)]
+pub struct RefusedImportText(pub ImportFault);
+
+impl fmt::Display for RefusedImportText {
+    ghost use Rattle.std.specs.Prelude.{Some};
+    ghost use Rattle.delivery_lines.specs.ReplyText.{refusal_text};
+
+    ghost output = { λ refused. Some (refusal_text refused.0) };
+
+    fn fmt<W: fmt::Write>(&self, f: &mut fmt::Formatter<W>) -> fmt::Result {
+        let ImportFault { cause, record } = self.0;
+        write!(
+            f,
+            "{{\"answer\":\"import_refused\",\"fault\":\"{cause}\",\"record\":{record}}}"
+        )
     }
 }

@@ -31,9 +31,9 @@ use Rattle.deliveries.specs.Machine.{Event, Machine, opening_machine, places_aft
 use Rattle.deliveries.specs.Machine.Event.{Command}
 use Rattle.deliveries.specs.Tables.{row_at, row_of, tables}
 use Rattle.deliveries.proofs.StepLemmas.{next-tables}
-use Rattle.desk.specs.Headline.{Holds}
+use Rattle.deliveries.specs.Delivered.{Holds}
 use Rattle.desk.specs.Opening.{AreKnown, Opens, has_panel, has_point}
-use Rattle.desk.proofs.DeliverLemmas.{none_of}
+use Rattle.panel_commands.proofs.DeliverLemmas.{none_of}
 use Rattle.desk.proofs.OpeningLemmas.{is_some-find}
 
 -- ---- panels

@@ -11,7 +11,8 @@ use Rattle.deliveries.specs.declared.delivery.Delivery.{Delivery}
 use Rattle.deliveries.specs.declared.reply.Reply.{Reply}
 use Rattle.deliveries.specs.Reply.{reply, replies}
 use Rattle.deliveries.specs.Tables.{tables}
-use Rattle.desk.specs.Headline.{Delivers, Ends, Holds, Stands}
+use Rattle.deliveries.specs.Delivered.{Delivers, Holds}
+use Rattle.desk.specs.Headline.{Ends, Stands}
 
 pub replies-push : (b : Building) (E ds : List Delivery) (d : Delivery) → replies b E (ds ++ d ∷ []) ≡ replies b E ds ++ reply b (E ++ ds) d ∷ []
 replies-push b E [] d = ap (λ earlier. reply b earlier d ∷ []) (sym (append-nil E))

@@ -1,119 +1,25 @@
 //! The desk.
-ghost use Rattle.std.specs.Prelude.{◌≡◌, ◌+◌, ◌≤◌, List, Some, None, IfErr, IfOk, IfSome};
+ghost use Rattle.std.specs.Prelude.{◌≡◌, List, None, Some, IfErr, IfOk};
 ghost use Rattle.std.specs.Result.{result_err};
 ghost use Rattle.points.specs.Rights.{point_named};
 ghost use Rattle.store.specs.declared.fault.StoreFault.TheVariants.{BadRow};
 ghost use Rattle.store.specs.Memory.{no_tables};
-ghost use Rattle.store.specs.Standing.{Goes, IsOpen, Reads, sound};
-ghost use Rattle.window.specs.Taken.{Ask, front};
+ghost use Rattle.store.specs.Standing.{Goes, Reads, sound};
 ghost use Rattle.deliveries.specs.declared.delivery.Delivery.{Delivery as a_delivery};
-ghost use Rattle.deliveries.specs.declared.delivery.Delivery.TheVariants as delivery_of;
-ghost use Rattle.deliveries.specs.Accepted.{number_upto, panel_named, taken_by};
-ghost use Rattle.desk.specs.Headline.{Delivers, Holds, Runs, Stands};
+ghost use Rattle.deliveries.specs.Delivered.{Delivers, Holds};
+ghost use Rattle.desk.specs.Headline.{Runs, Stands};
 ghost use Rattle.desk.specs.Opening.{Opens};
-ghost use Rattle.desk.specs.Planned.{IsPlanned};
 ghost use Rattle.desk.specs.PointState.{state_of};
 
-use crate::carrying_out::{carry_out, is_in_range};
 use crate::opening::look_over;
 use crate::point_state::PointState;
-use crate::replying::reply_on;
-use crate::viewing::{view_for_command, view_for_skip};
 use building::Building;
+use clock::{deliver_import, deliver_tick};
 use deliveries::{Delivery, Reply};
-use points::{Answer, Content, Name, Panel, Rule};
+use panel_commands::{deliver_command, deliver_skip};
+use points::Name;
 use std::alloc::Global;
 use store::{Store, StoreFault};
-use window::{LAST_NUMBER, Plan, plan_command, plan_skip};
-
-// A number from 1 to the last one, as a natural number.
-fn number_upto(last: u64, number: i64) -> Option<u64>
-    ensures found { result ≡ number_upto last number }
-    ensures most { IfSome result (λ natural. natural ≤ last) }
-{
-    match u64::try_from(number) {
-        Ok(natural) if 1 <= natural && natural <= last => Some(natural),
-        _ => None,
-    }
-}
-
-// Answers what was planned, and carries it out where it changes anything.
-fn answer_plan<S: Store>(
-    alloc: Global,
-    store: &mut S,
-    building: &Building,
-    panel: &Panel,
-    next: u64,
-    number: i64,
-    plan: &Plan,
-) -> Result<Reply, StoreFault>
-    requires open { IsOpen (S.standing store.old) }
-    requires known { panel_named building.now panel.now.name ≡ Some panel.now }
-    ensures goes { Goes (result_err result) (S.standing store.old) (S.standing store.new) }
-    ensures delivers { (earlier : List a_delivery) (delivery : a_delivery) (ask : Ask)
-        → IsPlanned building.now earlier delivery ask panel.now.name next number plan.now
-        → (S.standing store.new).is_honest → Holds building.now earlier (S.standing store.old)
-        → Delivers building.now earlier delivery result (S.standing store.new) }
-{
-    if plan.next == next && plan.park.is_none() {
-        let nothing = Answer::Refused(Rule::NoSuchPoint);
-        return Ok(reply_on(plan.verdict, next, plan.next, number, nothing));
-    }
-    if !is_in_range(plan) {
-        return Err(StoreFault::BadRow);
-    }
-    match carry_out(alloc, store, building, panel, plan) {
-        Ok(answer) => Ok(reply_on(plan.verdict, next, plan.next, number, answer)),
-        Err(fault) => Err(fault),
-    }
-}
-
-fn deliver_command<S: Store>(
-    alloc: Global,
-    store: &mut S,
-    building: &Building,
-    panel: &Panel,
-    next: u64,
-    number: i64,
-    content: &Content,
-) -> Result<Reply, StoreFault>
-    requires open { IsOpen (S.standing store.old) }
-    requires known { panel_named building.now panel.now.name ≡ Some panel.now }
-    ensures goes { Goes (result_err result) (S.standing store.old) (S.standing store.new) }
-    ensures delivers { (earlier : List a_delivery) → next ≡ front (taken_by building.now panel.now.name earlier)
-        → (S.standing store.new).is_honest → Holds building.now earlier (S.standing store.old)
-        → Delivers building.now earlier (delivery_of.Command panel.now.name number content.now) result (S.standing store.new) }
-{
-    let Some(natural) = number_upto(LAST_NUMBER, number) else {
-        return Ok(Reply::BadNumber);
-    };
-    let view = view_for_command(alloc, store, &panel.name, next, natural)?;
-    let plan = plan_command(alloc, &view, natural, content)?;
-    answer_plan(alloc, store, building, panel, next, number, &plan)
-}
-
-fn deliver_skip<S: Store>(
-    alloc: Global,
-    store: &mut S,
-    building: &Building,
-    panel: &Panel,
-    next: u64,
-    upto: i64,
-) -> Result<Reply, StoreFault>
-    requires open { IsOpen (S.standing store.old) }
-    requires known { panel_named building.now panel.now.name ≡ Some panel.now }
-    ensures goes { Goes (result_err result) (S.standing store.old) (S.standing store.new) }
-    ensures delivers { (earlier : List a_delivery) → next ≡ front (taken_by building.now panel.now.name earlier)
-        → (S.standing store.new).is_honest → Holds building.now earlier (S.standing store.old)
-        → Delivers building.now earlier (delivery_of.Skip panel.now.name upto) result (S.standing store.new) }
-{
-    let Some(natural) = number_upto(LAST_NUMBER + 1, upto) else {
-        return Ok(Reply::BadNumber);
-    };
-    let view = view_for_skip(alloc, store, &panel.name, next, natural)?;
-    let plan = plan_skip(alloc, &view, natural)?;
-    answer_plan(alloc, store, building, panel, next, upto, &plan)
-}
 
 /// A desk of a building, over a store of its tables.
 #[derive(Drop)]
@@ -183,32 +89,34 @@ impl<S: Store + Drop> Desk<S> {
             → Delivers self.old.building earlier delivery.now result (S.standing self.new.store) }
         ensures building { self.new.building ≡ self.old.building }
     {
-        let name = delivery.panel();
-        let next = self.store.panel_next(name)?;
-        let Some(panel) = self.building.find_panel(name) else {
-            return Ok(Reply::NoPanel);
-        };
         match delivery {
             Delivery::Command {
+                panel,
                 number,
                 content,
-                ..
             } => deliver_command(
                 self.alloc,
                 &mut self.store,
                 &self.building,
                 panel,
-                next,
                 *number,
                 content,
             ),
-            Delivery::Skip { upto, .. } => deliver_skip(
+            Delivery::Skip { panel, upto } => deliver_skip(
                 self.alloc,
                 &mut self.store,
                 &self.building,
                 panel,
-                next,
                 *upto,
+            ),
+            Delivery::Tick { at } => {
+                deliver_tick(self.alloc, &mut self.store, &self.building, *at)
+            }
+            Delivery::Import { rows } => deliver_import(
+                self.alloc,
+                &mut self.store,
+                &self.building,
+                rows.as_slice(),
             ),
         }
     }

@@ -6,7 +6,7 @@ ghost use Rattle.std.specs.Io.Buffered.{reader_remaining};
 ghost use Rattle.std.specs.Io.KnownBytes.{Appends, Keeps};
 ghost use Rattle.points.specs.Rights.{point_named};
 ghost use Rattle.desk.specs.PointState.{state_of};
-ghost use Rattle.desk.specs.Headline.{Holds};
+ghost use Rattle.deliveries.specs.Delivered.{Holds};
 ghost use Rattle.deliveries.specs.declared.Delivery.{Delivery as a_delivery};
 ghost use Rattle.desk_console.specs.Input.{bytes_of};
 ghost use Rattle.desk_console.specs.Printed.{AppendsStart};

@@ -1,7 +1,7 @@
 use Rattle.std.proofs.Common.{◌≡◌, ℕ, List, Some}
 use Rattle.std.specs.Io.Buffered.{reader_remaining}
 use Rattle.deliveries.specs.declared.Delivery.{Delivery}
-use Rattle.desk.specs.Headline.{Holds}
+use Rattle.deliveries.specs.Delivered.{Holds}
 use Rattle.desk_cli.proofs.ReplayLemmas.{Progress}
 use Rattle.desk_cli.proofs.replay_run.print_replies.Given as goal
 

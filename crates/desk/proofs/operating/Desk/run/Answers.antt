@@ -3,7 +3,7 @@ use Rattle.std.proofs.lemmas.List.{take_more}
 use Rattle.store.proofs.ReadLemmas.{stays_open}
 use Rattle.building.specs.Building.{Building}
 use Rattle.deliveries.specs.declared.delivery.Delivery.{Delivery}
-use Rattle.desk.specs.Headline.{Delivers, Holds}
+use Rattle.deliveries.specs.Delivered.{Delivers, Holds}
 use Rattle.desk.proofs.RunLemmas.{ends-failed, run-more, Stands-after}
 use Rattle.desk.proofs.operating.Desk.run.Goals as goal
 

@@ -1,7 +1,8 @@
 use Rattle.std.proofs.Common.{◌≡◌, ◌≤◌, ◌<◌, ◌++◌, List, None, false, length, take, vec_len, vec_capacity}
 use Rattle.deliveries.specs.declared.delivery.Delivery.{Delivery}
 use Rattle.deliveries.specs.Reply.{replies}
-use Rattle.desk.specs.Headline.{Holds, Stands}
+use Rattle.deliveries.specs.Delivered.{Holds}
+use Rattle.desk.specs.Headline.{Stands}
 use Rattle.desk.proofs.operating.Desk.run.Given as goal
 
 abbrev pub invariant-loop-delivery : goal.invariant-loop-delivery

@@ -1,0 +1,67 @@
+//! A line of a list of deliveries, answered.
+
+ghost use Rattle.std.specs.Prelude.{◌≡◌, List, IfErr, IfOk};
+ghost use Rattle.deliveries.specs.declared.delivery.Delivery.{Delivery as a_delivery};
+ghost use Rattle.deliveries.specs.Delivered.{Holds};
+ghost use Rattle.delivery_lines.specs.declared.line_fault.LineFault.{LineFault as a_fault};
+ghost use Rattle.delivery_lines.specs.DeliveryLine.{told_of};
+ghost use Rattle.delivery_lines.specs.ReplyText.{refusal_line};
+ghost use Rattle.answered_lines.specs.LineAnswer.{AnswersDelivery, AnswersLine};
+ghost use Rattle.store.specs.declared.fault.StoreFault.TheVariants.{NoMemory};
+
+use deliveries::Delivery;
+use delivery_lines::{LineFault, RefusedImportText, ReplyText, Told, told_of};
+use desk::Desk;
+use holidays::ImportFault;
+use std::alloc::Global;
+use store::Store;
+
+/// Delivers what a line tells, and answers the text of the reply with its line end (LF).
+///
+/// The line is one JSON object without its line end; a CR at its end is white space. A line that
+/// tells no delivery changes nothing, and so does an import whose holiday list is at fault, which is
+/// answered with its refusal. After a want of memory the desk holds its tables from before the line,
+/// or those with the line's delivery.
+pub fn answer_line<S: Store + Drop>(
+    alloc: Global,
+    desk: &mut Desk<S>,
+    line: &[u8],
+) -> Result<Vec<u8>, LineFault>
+    ensures answers { (earlier : List a_delivery) → (S.standing desk.new.store).is_honest
+        → Holds desk.old.building earlier (S.standing desk.old.store)
+        → AnswersLine desk.old.building earlier (told_of desk.old.building line.now) result (S.standing desk.new.store) }
+    ensures honest { (S.standing desk.new.store).is_honest → (S.standing desk.old.store).is_honest }
+    ensures building { desk.new.building ≡ desk.old.building }
+{
+    match told_of(alloc, desk.building(), line) {
+        Ok(Told::Delivery(delivery)) => answer_delivery(alloc, desk, &delivery),
+        Ok(Told::RefusedImport(fault)) => refusal_of(alloc, fault),
+        Err(fault) => Err(fault),
+    }
+}
+
+/// Carries out a delivery, and answers the text of the reply.
+fn answer_delivery<S: Store + Drop>(
+    alloc: Global,
+    desk: &mut Desk<S>,
+    delivery: &Delivery,
+) -> Result<Vec<u8>, LineFault>
+    ensures answers { (earlier : List a_delivery) → (S.standing desk.new.store).is_honest
+        → Holds desk.old.building earlier (S.standing desk.old.store)
+        → AnswersDelivery desk.old.building earlier delivery.now result (S.standing desk.new.store) }
+    ensures honest { (S.standing desk.new.store).is_honest → (S.standing desk.old.store).is_honest }
+    ensures building { desk.new.building ≡ desk.old.building }
+{
+    let reply = desk.deliver(delivery)?;
+    let text = format!(in alloc; "{}\n", ReplyText(reply))?;
+    Ok(text.into_bytes())
+}
+
+/// The text of a holiday list's refusal.
+fn refusal_of(alloc: Global, fault: ImportFault) -> Result<Vec<u8>, LineFault>
+    ensures text { IfOk result (λ text. text.items ≡ refusal_line fault) }
+    ensures memory { IfErr result (λ given. given ≡ a_fault.NotDone NoMemory) }
+{
+    let text = format!(in alloc; "{}\n", RefusedImportText(fault))?;
+    Ok(text.into_bytes())
+}

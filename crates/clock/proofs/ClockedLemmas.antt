@@ -1,0 +1,107 @@
+-- The change of a tick or an import makes the tables of one delivery more.
+use Rattle.std.proofs.Common.{◌≡◌, ℕ, ◌+◌, ◌-◌, ◌++◌, Bool, true, false, not, List, [], ◌∷◌, Option, Some, None, ◌&&◌, length, nat_lt, ℤ}
+use Rattle.std.proofs.Common.{refl, sym, ap, ◌∙◌, subst, inl, inr}
+use Rattle.std.proofs.Math.Path.{fun_ext}
+use Rattle.std.specs.List.{list_all, position_or_len}
+use Rattle.std.proofs.lemmas.Bool.{cases_Bool, false≢true}
+use Rattle.std.proofs.lemmas.List.{append-nil}
+use Rattle.building.specs.Building.{Building}
+use Rattle.deliveries.specs.declared.delivery.Delivery.{Delivery}
+use Rattle.deliveries.specs.declared.delivery.Delivery.TheVariants.{Import, Tick}
+use Rattle.deliveries.specs.declared.reply.Reply.TheVariants as answer_of
+use Rattle.deliveries.specs.Clocked.{Settles}
+use Rattle.deliveries.specs.Delivered.{Holds}
+use Rattle.deliveries.specs.Events.{has_calendar, is_later, is_moment, last_tick_of, machine}
+use Rattle.deliveries.specs.Machine.{added, local_of, writes_at}
+use Rattle.deliveries.specs.Reply.{refused_record, reply}
+use Rattle.deliveries.specs.Tables.{tables}
+use Rattle.deliveries.proofs.ClockLemmas.{Tells-tables, reply-imported, reply-ticked, tables-imported, tables-shown, tables-ticked}
+use Rattle.local_times.specs.declared.local_clock.LocalTime.{LocalTime}
+use Rattle.local_times.specs.LocalTimes.{local_at}
+use Rattle.sched.specs.declared.calendar.CalendarEntry.{CalendarEntry}
+use Rattle.settling.specs.Calendars.{Tells, with_items}
+use Rattle.settling.specs.Settled.{Shown}
+use Rattle.store.specs.declared.change.Change.{Change}
+use Rattle.store.specs.declared.change.ImportedEntry.{ImportedEntry}
+use Rattle.store.specs.Change.{with_change}
+use Rattle.store.specs.Standing.{Content, Standing}
+use Rattle.store.specs.Tables.{Tables, Text}
+
+-- the tables of a list tell what its machine has imported
+pub Tells-held : (b : Building) (E : List Delivery) (old : Standing) → Holds b E old → Tells old.content.tables.imported (machine b E).imported
+Tells-held b E old held = subst (λ (c : Content). Tells c.tables.imported (machine b E).imported) (sym held) (Tells-tables b E)
+
+shown-held : (b : Building) (E : List Delivery) (old : Standing) → Holds b E old → old.content.tables.shown ≡ (machine b E).shown
+shown-held b E old held = ap (λ (c : Content). c.tables.shown) held ∙ tables-shown b E
+
+with_items-none : (imported : Text → List Text) → with_items imported [] ≡ imported
+with_items-none imported = fun_ext (λ calendar. append-nil (imported calendar))
+
+-- rows of which none is refused have their calendars
+all-from : (test : CalendarEntry → Bool) (rows : List CalendarEntry) → nat_lt (position_or_len (λ row. not (test row)) rows) (length rows) ≡ false
+    → list_all test rows ≡ true
+all-from test [] none = refl
+all-from test (row ∷ rows) none = elim (cases_Bool (test row)) [
+  | inl here ↦ ap (λ b. b && list_all test rows) here
+      ∙ all-from test rows (sym (rw here refl) ∙ none)
+  | inr apart ↦ absurd (false≢true (sym none ∙ rw apart refl))
+]
+
+all-known : (b : Building) (rows : List CalendarEntry) → refused_record b rows ≡ None → list_all (has_calendar b) rows ≡ true
+all-known b rows none = elim (cases_Bool (nat_lt (position_or_len (λ row. not (has_calendar b row)) rows) (length rows))) [
+  | inl some ↦ let refused : Some (position_or_len (λ row. not (has_calendar b row)) rows + 2) ≡ None = rw some at none in absurd cc
+  | inr past ↦ all-from (has_calendar b) rows past
+]
+
+-- a change that settles over what a store holds
+pub Settled-over : Building → Standing → List ImportedEntry → Option LocalTime → Option ℤ → Change → Type 0
+Settled-over b old items local last change = (imported : Text → List Text) → Tells old.content.tables.imported imported
+    → Settles b (with_items imported items) old.content.tables.shown local items last change
+
+module _ (b : Building) (E : List Delivery) (old : Standing) (held : Holds b E old) where
+  settles-held : (items : List ImportedEntry) (local : Option LocalTime) (last : Option ℤ) (change : Change) → Settled-over b old items local last change
+      → Settles b (with_items (machine b E).imported items) (machine b E).shown local items last change
+  settles-held items local last change settles = subst (λ (shown : Shown). Settles b (with_items (machine b E).imported items) shown local items last change)
+      (shown-held b E old held) (settles (machine b E).imported (Tells-held b E old held))
+
+  module _ (moment : ℤ) (local : LocalTime) (change : Change) (is_at : local_at b.zone moment ≡ Some local)
+      (later : is_later (last_tick_of b E) moment ≡ true) (settles : Settled-over b old [] (Some local) (Some moment) change) where
+    here : let m = machine b E in Settles b m.imported m.shown (local_of b (Some moment)) [] (Some moment) change
+    here = let m = machine b E in
+        subst (λ at. Settles b m.imported m.shown at [] (Some moment) change) (sym is_at)
+        (subst (λ imported. Settles b imported m.shown (Some local) [] (Some moment) change) (with_items-none m.imported)
+        (settles-held [] (Some local) (Some moment) change settles))
+
+    in_range : is_moment b moment ≡ true
+    in_range = ap (λ at. is_some_at at) is_at
+      where
+        is_some_at : Option LocalTime → Bool
+        is_some_at None = false
+        is_some_at (Some at) = true
+
+    pub ticked-tables : tables b (E ++ Tick moment ∷ []) ≡ with_change change (tables b E)
+    ticked-tables = tables-ticked b E moment change in_range later here
+
+    pub ticked-reply : (writes : ℕ) → writes ≡ length change.places.items → answer_of.Ticked writes ≡ reply b E (Tick moment)
+    ticked-reply writes is = ap (λ n. answer_of.Ticked n) (is ∙ ap length here.places) ∙ sym (reply-ticked b E moment in_range later)
+
+  module _ (rows : List CalendarEntry) (none : refused_record b rows ≡ None) (items : List ImportedEntry)
+      (items_are : items ≡ added b (machine b E).imported rows) (change : Change)
+      (settles : Settled-over b old items (local_of b (machine b E).last_tick) None change) where
+    all : list_all (has_calendar b) rows ≡ true
+    all = all-known b rows none
+
+    settled-here : let m = machine b E in let more = added b m.imported rows in
+        Settles b (with_items m.imported more) m.shown (local_of b m.last_tick) more None change
+    settled-here = let m = machine b E in
+        subst (λ more. Settles b (with_items m.imported more) m.shown (local_of b m.last_tick) more None change) items_are
+        (settles-held items (local_of b m.last_tick) None change settles)
+
+    pub imported-tables : tables b (E ++ Import rows ∷ []) ≡ with_change change (tables b E)
+    imported-tables = tables-imported b E rows change all settled-here
+
+    pub imported-reply : (writes : ℕ) → writes ≡ length change.places.items
+        → answer_of.Imported (length items) (length rows - length items) writes ≡ reply b E (Import rows)
+    imported-reply writes is =
+        (λ i. answer_of.Imported (length (items_are i)) (length rows - length (items_are i)) ((is ∙ ap length settled-here.places) i))
+        ∙ sym (reply-imported b E rows none)

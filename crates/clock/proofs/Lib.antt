@@ -1,0 +1,2 @@
+pub mod ClockedLemmas
+pub mod KnownLemmas

@@ -1,0 +1,125 @@
+//! Imports.
+ghost use Rattle.std.specs.Prelude.{◌≡◌, ◌++◌, IfOk, List, None, OnOk};
+ghost use Rattle.std.specs.Result.{result_err};
+ghost use Rattle.deliveries.specs.declared.delivery.Delivery.{Delivery as a_delivery};
+ghost use Rattle.deliveries.specs.declared.delivery.Delivery.TheVariants as delivery_of;
+ghost use Rattle.deliveries.specs.Delivered.{Delivers, Holds};
+ghost use Rattle.deliveries.specs.Machine.{added, added_by, local_of};
+ghost use Rattle.deliveries.specs.Reply.{refused_record};
+ghost use Rattle.settling.specs.Calendars.{Tells, with_items};
+ghost use Rattle.store.specs.Standing.{Goes, IsOpen, Reads};
+ghost use Rattle.store.specs.Tables.{Text};
+
+use crate::changing::settled_change;
+use crate::known::is_known;
+use building::Building;
+use deliveries::{Reply, refused_record};
+use local_times::{LocalTime, local_time};
+use sched::CalendarEntry;
+use std::alloc::Global;
+use store::{ImportedEntry, Store, StoreFault};
+
+// Adds the item of a row, where its calendar does not know it.
+fn add_row<S: Store>(
+    store: &mut S,
+    building: &Building,
+    items: &mut Vec<ImportedEntry>,
+    row: &CalendarEntry,
+) -> Result<(), StoreFault>
+    requires open { IsOpen (S.standing store.old) }
+    ensures reads { Reads (result_err result) (S.standing store.old) (S.standing store.new) }
+    ensures adds { (S.standing store.new).is_honest → (imported : Text → List Text)
+        → Tells (S.standing store.old).content.tables.imported imported
+        → OnOk result (items.new.items ≡ items.old.items ++ added_by building.now (with_items imported items.old.items) row.now) }
+{
+    let Some(calendar) = building.calendars().get(row.calendar.place) else {
+        return Ok(());
+    };
+    if !is_known(store, calendar, items.as_slice(), &row.entry)? {
+        items.push(ImportedEntry {
+            calendar: calendar.name,
+            entry: row.entry,
+        })?;
+    }
+    Ok(())
+}
+
+// The items that rows add, each beside those before it.
+fn added_items<S: Store>(
+    alloc: Global,
+    store: &mut S,
+    building: &Building,
+    rows: &[CalendarEntry],
+) -> Result<Vec<ImportedEntry>, StoreFault>
+    requires open { IsOpen (S.standing store.old) }
+    ensures reads { Reads (result_err result) (S.standing store.old) (S.standing store.new) }
+    ensures added { (S.standing store.new).is_honest → (imported : Text → List Text)
+        → Tells (S.standing store.old).content.tables.imported imported
+        → IfOk result (λ items. items.items ≡ added building.now imported rows.now) }
+{
+    let mut items = Vec::new(alloc);
+    for row in rows {
+        add_row(store, building, &mut items, row)?;
+    }
+    Ok(items)
+}
+
+// The local time at the last tick, if there was one.
+fn local_of(building: &Building, last: Option<i64>) -> Option<LocalTime>
+    ensures { result ≡ local_of building.now last }
+{
+    match last {
+        Some(moment) => local_time(building.zone(), moment),
+        None => None,
+    }
+}
+
+// Imports rows that have their calendars.
+fn import<S: Store>(
+    alloc: Global,
+    store: &mut S,
+    building: &Building,
+    rows: &[CalendarEntry],
+    last: Option<i64>,
+) -> Result<Reply, StoreFault>
+    requires open { IsOpen (S.standing store.old) }
+    ensures goes { Goes (result_err result) (S.standing store.old) (S.standing store.new) }
+    ensures delivers { (earlier : List a_delivery) → refused_record building.now rows.now ≡ None
+        → last ≡ (S.standing store.old).content.tables.last_tick
+        → (S.standing store.new).is_honest → Holds building.now earlier (S.standing store.old)
+        → Delivers building.now earlier (delivery_of.Import rows.now) result (S.standing store.new) }
+{
+    let items = added_items(alloc, store, building, rows)?;
+    let added = items.len();
+    let local = local_of(building, last);
+    let change = settled_change(alloc, store, building, items, local, None)?;
+    match store.commit(&change) {
+        Ok(()) => Ok(Reply::Imported {
+            added: added as u64,
+            known: rows.len().saturating_sub(added) as u64,
+            writes: change.places.len() as u64,
+        }),
+        Err(fault) => Err(fault),
+    }
+}
+
+/// Carries out an import and answers it: of whatever list the store holds the tables, it then holds those of the
+/// list with this import after it. Where a row names no calendar of the building, nothing is imported. It begins
+/// with a read, so that a store that is shut answers before all else; what it changes it changes in one commit,
+/// its last call of the store.
+pub fn deliver_import<S: Store>(
+    alloc: Global,
+    store: &mut S,
+    building: &Building,
+    rows: &[CalendarEntry],
+) -> Result<Reply, StoreFault>
+    ensures goes { Goes (result_err result) (S.standing store.old) (S.standing store.new) }
+    ensures delivers { (earlier : List a_delivery) → (S.standing store.new).is_honest → Holds building.now earlier (S.standing store.old)
+        → Delivers building.now earlier (delivery_of.Import rows.now) result (S.standing store.new) }
+{
+    let last = store.last_tick()?;
+    match refused_record(building, rows) {
+        Some(record) => Ok(Reply::ImportRefused { record }),
+        None => import(alloc, store, building, rows, last),
+    }
+}

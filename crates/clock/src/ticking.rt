@@ -1,0 +1,74 @@
+//! Ticks.
+ghost use Rattle.std.specs.Prelude.{◌≡◌, List, Some, true};
+ghost use Rattle.std.specs.Result.{result_err};
+ghost use Rattle.deliveries.specs.declared.delivery.Delivery.{Delivery as a_delivery};
+ghost use Rattle.deliveries.specs.declared.delivery.Delivery.TheVariants as delivery_of;
+ghost use Rattle.deliveries.specs.Delivered.{Delivers, Holds};
+ghost use Rattle.deliveries.specs.Events.{is_later, last_tick_of};
+ghost use Rattle.local_times.specs.LocalTimes.{local_at};
+ghost use Rattle.store.specs.Standing.{Goes, IsOpen};
+
+use crate::changing::settled_change;
+use building::Building;
+use deliveries::Reply;
+use local_times::{LocalTime, local_time};
+use std::alloc::Global;
+use store::{Store, StoreFault};
+
+// Whether a moment is later than the last tick.
+fn is_later(last: Option<i64>, moment: i64) -> bool
+    ensures { result ≡ is_later last moment }
+{
+    match last {
+        Some(last) => last < moment,
+        None => true,
+    }
+}
+
+// Settles the schedules at a moment that is later than the last tick.
+fn tick_at<S: Store>(
+    alloc: Global,
+    store: &mut S,
+    building: &Building,
+    moment: i64,
+    local: LocalTime,
+) -> Result<Reply, StoreFault>
+    requires open { IsOpen (S.standing store.old) }
+    ensures goes { Goes (result_err result) (S.standing store.old) (S.standing store.new) }
+    ensures delivers { (earlier : List a_delivery) → local_at building.now.zone moment ≡ Some local
+        → is_later (last_tick_of building.now earlier) moment ≡ true
+        → (S.standing store.new).is_honest → Holds building.now earlier (S.standing store.old)
+        → Delivers building.now earlier (delivery_of.Tick moment) result (S.standing store.new) }
+{
+    let nothing = Vec::new(alloc);
+    let change = settled_change(alloc, store, building, nothing, Some(local), Some(moment))?;
+    match store.commit(&change) {
+        Ok(()) => Ok(Reply::Ticked {
+            writes: change.places.len() as u64,
+        }),
+        Err(fault) => Err(fault),
+    }
+}
+
+/// Carries out a tick and answers it: of whatever list the store holds the tables, it then holds those of the
+/// list with this tick after it. It begins with a read, so that a store that is shut answers before all else;
+/// what it changes it changes in one commit, its last call of the store.
+pub fn deliver_tick<S: Store>(
+    alloc: Global,
+    store: &mut S,
+    building: &Building,
+    moment: i64,
+) -> Result<Reply, StoreFault>
+    ensures goes { Goes (result_err result) (S.standing store.old) (S.standing store.new) }
+    ensures delivers { (earlier : List a_delivery) → (S.standing store.new).is_honest → Holds building.now earlier (S.standing store.old)
+        → Delivers building.now earlier (delivery_of.Tick moment) result (S.standing store.new) }
+{
+    let last = store.last_tick()?;
+    let Some(local) = local_time(building.zone(), moment) else {
+        return Ok(Reply::BadMoment);
+    };
+    if !is_later(last, moment) {
+        return Ok(Reply::Old);
+    }
+    tick_at(alloc, store, building, moment, local)
+}

@@ -1,0 +1,42 @@
+-- The tick or the import that an object tells.
+use Rattle.std.specs.Prelude.{ℕ, List, [], ◌∷◌, Option, codes, option_map, Result, Ok, Err}
+use Rattle.serde_json.specs.Data.{Data}
+use Rattle.serde_json.specs.Find.{as_object, as_str, get}
+use Rattle.building.specs.Building.{Building}
+use Rattle.csv_records.specs.CsvRecords.{records_of}
+use Rattle.deliveries.specs.declared.delivery.Delivery.{Delivery}
+use Rattle.deliveries.specs.declared.delivery.Delivery.TheVariants.{Import, Tick}
+use Rattle.delivery_lines.specs.declared.told.Told.{Told}
+use Rattle.delivery_lines.specs.declared.told.Told.TheVariants as told
+use Rattle.delivery_lines.specs.Members.{has_only, integer_in}
+use Rattle.holidays.specs.CalendarNamed.{calendar_of}
+use Rattle.holidays.specs.HolidayList.{holidays_in}
+use Rattle.holidays.specs.declared.import_fault.ImportFault.{ImportFault}
+use Rattle.sched.specs.declared.calendar.CalendarEntry.{CalendarEntry}
+use Rattle.texts.specs.Steps.{◌>>=◌, where_holds}
+
+-- the tick that an object tells
+unfoldable pub tick_in : Data → Option Delivery
+tick_in d = do
+  ms ← as_object d
+  at ← get (codes "tick") d >>= integer_in
+  where_holds (has_only (codes "tick" ∷ []) ms) (Tick at)
+
+-- the text of the holiday list that an object tells
+unfoldable pub list_in : Data → Option (List ℕ)
+list_in d = do
+  ms ← as_object d
+  text ← get (codes "import") d >>= as_str
+  where_holds (has_only (codes "import" ∷ []) ms) text
+
+abbrev pub import_with : Result (List CalendarEntry) ImportFault → Told
+import_with (Ok rows) = told.Delivery (Import rows)
+import_with (Err fault) = told.RefusedImport fault
+
+-- the import of a holiday list's rows, for the calendars of a building; or the fault of the list
+unfoldable pub import_of : Building → List ℕ → Told
+import_of b text = import_with (holidays_in (calendar_of b.calendars) (records_of text))
+
+-- what an object with a holiday list tells
+unfoldable pub import_in : Building → Data → Option Told
+import_in b d = option_map (import_of b) (list_in d)

@@ -1,0 +1,15 @@
+-- The members of an object, by `serde_json`'s own reading of it.
+use Rattle.std.specs.Prelude.{ℕ, ℤ, Bool, true, ◌&&◌, List, Option}
+use Rattle.std.specs.List.{list_any}
+use Rattle.std.specs.Str.{bytes_eq}
+use Rattle.serde_json.specs.Data.{Data, Members, no_members, member}
+use Rattle.serde_json.specs.Find.{as_i64, as_number}
+use Rattle.texts.specs.Steps.{◌>>=◌}
+
+abbrev pub has_only : List (List ℕ) → Members → Bool
+has_only known no_members = true
+has_only known (member key value ms) =
+    list_any (λ k. bytes_eq k key) known && has_only known ms
+
+abbrev pub integer_in : Data → Option ℤ
+integer_in d = as_number d >>= as_i64

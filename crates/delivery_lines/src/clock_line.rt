@@ -1,0 +1,74 @@
+//! The tick or the import that an object tells.
+
+ghost use Rattle.std.specs.Prelude.{◌≡◌, option_map, Some};
+ghost use Rattle.serde_json.specs.Find.{get};
+ghost use Rattle.serde_json.specs.View.{view};
+ghost use Rattle.delivery_lines.specs.ClockLine.{import_in, import_of, list_in, tick_in};
+ghost use Rattle.delivery_lines.specs.LineFault.{Tells};
+
+use crate::members::{has_only, integer_in};
+use crate::{LineFault, Told};
+use building::Building;
+use deliveries::Delivery;
+use holidays::{ImportRefusal, read_holidays};
+use listing::Listing;
+use serde_json::Value;
+use std::alloc::Global;
+use store::StoreFault;
+
+/// The tick that an object tells.
+#[tactic(auto, unfolding(crate::specs::ClockLine::tick_in))]
+pub(crate) fn tick_in(value: &Value) -> Option<Delivery>
+    ensures { result ≡ tick_in (view value.now) }
+{
+    let members = value.as_object()?;
+    let at = integer_in(value.get("tick")?)?;
+    if has_only(members, &["tick"]) {
+        Some(Delivery::Tick { at })
+    } else {
+        None
+    }
+}
+
+/// The text of the holiday list that an object tells.
+#[tactic(auto, unfolding(crate::specs::ClockLine::list_in))]
+fn list_in(value: &Value) -> Option<&str>
+    ensures { option_map (λ text. text.now) result ≡ list_in (view value.now) }
+{
+    let members = value.as_object()?;
+    let text = value.get("import")?.as_str()?;
+    if has_only(members, &["import"]) {
+        Some(text)
+    } else {
+        None
+    }
+}
+
+/// What an object with a holiday list tells.
+#[tactic(auto, unfolding(crate::specs::ClockLine::import_in))]
+pub(crate) fn import_in(
+    alloc: Global,
+    building: &Building,
+    value: &Value,
+) -> Result<Told, LineFault>
+    ensures { Tells (import_in building.now (view value.now)) result }
+{
+    match list_in(value) {
+        Some(text) => import_of(alloc, building, text),
+        None => Err(LineFault::NotDelivery),
+    }
+}
+
+/// The import of a holiday list, or the fault of the list.
+#[tactic(auto, unfolding(crate::specs::ClockLine::import_of))]
+fn import_of(alloc: Global, building: &Building, text: &str) -> Result<Told, LineFault>
+    ensures { Tells (Some (import_of building.now text.now)) result }
+{
+    match read_holidays(alloc, building, text.as_bytes()) {
+        Ok(rows) => Ok(Told::Delivery(Delivery::Import {
+            rows: Listing::from_vec(rows),
+        })),
+        Err(ImportRefusal::Fault(fault)) => Ok(Told::RefusedImport(fault)),
+        Err(ImportRefusal::NoMemory) => Err(LineFault::NotDone(StoreFault::NoMemory)),
+    }
+}

@@ -1,0 +1,4 @@
+pub mod CarryLemmas
+pub mod CommandLemmas
+pub mod DeliverLemmas
+pub mod PlannedLemmas

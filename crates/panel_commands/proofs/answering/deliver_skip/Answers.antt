@@ -1,0 +1,32 @@
+use Rattle.std.proofs.Common.{◌≡◌, ◌∙◌, sym, ap, subst, None, option_copied, to_z, of_z, w64, rules}
+use Rattle.deliveries.specs.Accepted.{panel_named}
+use Rattle.deliveries.specs.declared.delivery.Delivery.TheVariants.{Skip}
+use Rattle.deliveries.specs.Delivered.{Delivers}
+use Rattle.deliveries.proofs.DeliveredLemmas.{Delivers-read_only}
+use Rattle.deliveries.proofs.StepLemmas.{reply-unknown, tables-unknown}
+use Rattle.panel_commands.proofs.CommandLemmas.{name_of-named, named-again}
+use Rattle.panel_commands.proofs.PlannedLemmas.{next-held}
+use Rattle.panel_commands.proofs.answering.deliver_skip.Goals as goal
+
+pub answer_known_skip-requires-clause-known : goal.answer_known_skip-requires-clause-known
+answer_known_skip-requires-clause-known g c = named-again c.args.building.now c.args.name.now c.in-Some.panel.now (sym c.find_panel.ensures ∙ ap option_copied c.in-Some.is)
+
+pub returns-in-Some-clause-delivers : goal.returns-in-Some-clause-delivers
+returns-in-Some-clause-delivers g c = λ earlier honest held.
+    let b = c.args.building.now in
+    let panel = c.in-Some.panel.now in
+    let new = g.S.Store.standing c.answer_known_skip.new.store in
+    let name = name_of-named b c.args.name.now panel (sym c.find_panel.ensures ∙ ap option_copied c.in-Some.is) in
+    let before = c.answer_known_skip.ensures.goes.honest honest in
+    let next_is = next-held b earlier panel.name c.args.name.now c.in_ok-next.next _ (sym name) held (c.in_ok-next.ensures.value before) in
+    subst (λ p. Delivers b earlier (Skip p c.args.upto) c.answer_known_skip.result new) name
+    (c.answer_known_skip.ensures.delivers earlier next_is honest (c.in_ok-next.ensures.reads.kept before (λ e. cc) ∙ held))
+
+pub returns-in-None-clause-delivers : goal.returns-in-None-clause-delivers
+returns-in-None-clause-delivers g c = λ earlier honest held.
+    let b = c.args.building.now in
+    let d = Skip c.args.name.now c.args.upto in
+    let old = g.S.Store.standing c.args.store.now in
+    let new = g.S.Store.standing c.panel_next.new.self in
+    let unknown : panel_named b c.args.name.now ≡ None = sym c.find_panel.ensures ∙ ap option_copied c.in-None.is in
+    Delivers-read_only b earlier d _ old new c.in_ok-next.ensures.reads honest held (sym (reply-unknown b earlier d tt unknown)) (tables-unknown b earlier d tt unknown)

@@ -1,0 +1,45 @@
+use Rattle.std.proofs.Common.{◌∙◌, ap}
+use Rattle.deliveries.specs.Moved.{answered_rows, places_after_each}
+use Rattle.panel_commands.specs.Carried.{first_told}
+use Rattle.panel_commands.proofs.CarryLemmas.{Carries-committed, change-moved, first_told-answered}
+use Rattle.panel_commands.proofs.carrying_out.carry_out.Goals as goal
+
+pub returns : goal.returns
+returns g c =
+    let b = c.args.building.now in
+    let p = c.args.panel.now.name in
+    let plan = c.args.plan.now in
+    let first = g.S.Store.standing c.args.store.now in
+    let second = g.S.Store.standing c.act_on_each.new.store in
+    let third = g.S.Store.standing c.commit.new.self in
+    let acted = c.in_ok-acted.ensures in
+    let commits = c.in-Err.ensures.commits in
+    Carries-committed b p plan c.in_ok-change.change _ first second third (λ honest. tt) acted.reads commits
+    (λ honest.
+    let before = commits.goes.honest honest in
+    change-moved b p plan c.in_ok-acted.acted c.in_ok-change.change first.content.tables c.in_ok-change.ensures.change
+    (acted.rows before ∙ ap (λ entries. answered_rows b first.content.tables.places p entries) c.as_slice.ensures)
+    (acted.places before ∙ ap (λ entries. places_after_each b first.content.tables.places p entries) c.as_slice.ensures))
+
+pub returns-in-Ok : goal.returns-in-Ok
+returns-in-Ok g c =
+    let b = c.args.building.now in
+    let p = c.args.panel.now.name in
+    let plan = c.args.plan.now in
+    let first = g.S.Store.standing c.args.store.now in
+    let second = g.S.Store.standing c.act_on_each.new.store in
+    let third = g.S.Store.standing c.commit.new.self in
+    let acted = c.in_ok-acted.ensures in
+    let commits = c.in-Ok.ensures.commits in
+    Carries-committed b p plan c.in_ok-change.change _ first second third
+    (λ honest.
+    let before = commits.goes.honest honest in
+    c.first_answer-answer.ensures ∙ ap first_told (c.as_slice-2.ensures.value ∙ (acted.rows before
+    ∙ ap (λ entries. answered_rows b first.content.tables.places p entries) c.as_slice.ensures))
+    ∙ first_told-answered b first.content.tables.places p plan.apply)
+    acted.reads commits
+    (λ honest.
+    let before = commits.goes.honest honest in
+    change-moved b p plan c.in_ok-acted.acted c.in_ok-change.change first.content.tables c.in_ok-change.ensures.change
+    (acted.rows before ∙ ap (λ entries. answered_rows b first.content.tables.places p entries) c.as_slice.ensures)
+    (acted.places before ∙ ap (λ entries. places_after_each b first.content.tables.places p entries) c.as_slice.ensures))

@@ -1,0 +1,4 @@
+pub mod Carried
+pub mod Planned
+pub mod Views
+pub mod Written

@@ -1,0 +1,3 @@
+pub mod HoldLemmas
+pub mod StepLemmas
+pub mod ValueLemmas

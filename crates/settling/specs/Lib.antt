@@ -1,0 +1,3 @@
+pub mod Calendars
+pub mod Settled
+pub mod Turns

@@ -1,0 +1,237 @@
+//! What the schedules of a building write and show.
+ghost use Rattle.std.specs.Prelude.{◌≡◌, ◌++◌, ◌∷◌, [], IfOk, IsTrue, List, OnOk, None, Some};
+ghost use Rattle.std.specs.List.{All, flat_map, list_all};
+ghost use Rattle.std.specs.Result.{result_err};
+ghost use Rattle.schedule_tables.specs.declared.named_schedule.NamedSchedule.{NamedSchedule as a_schedule};
+ghost use Rattle.settling.specs.Calendars.{Tells, calendars_of, with_items};
+ghost use Rattle.settling.specs.Settled.{at_each_target, cleared_by, put_by, shown_by, told, when_leaving, written};
+ghost use Rattle.settling.specs.Turns.{Turns, now_at};
+ghost use Rattle.store.specs.Change.{IsPlace};
+ghost use Rattle.store.specs.Standing.{IsOpen, Reads};
+ghost use Rattle.store.specs.Tables.{Text};
+ghost use Rattle.toml_fields.specs.Priority.{is_write_priority};
+
+use crate::calendars_today::calendars_today;
+use building::Building;
+use local_times::LocalTime;
+use sched::Calendar;
+use schedule_tables::{NamedSchedule, OnLeave};
+use std::alloc::{AllocError, Global};
+use store::{ImportedEntry, PlaceValue, ShownValue, Store, StoreFault};
+
+/// What the schedules write, and what of them changes that is shown.
+#[derive(Debug, Drop)]
+pub struct Settlement {
+    /// The places that are written, in this order: of two values for one place the later counts.
+    pub places: Vec<PlaceValue>,
+    pub shown: Vec<ShownValue>,
+}
+
+// What schedules wrote so far: the places that leaving ones clear, those that due ones put, and what is shown.
+#[derive(Debug, Drop)]
+struct Written {
+    cleared: Vec<PlaceValue>,
+    put: Vec<PlaceValue>,
+    shown: Vec<ShownValue>,
+}
+
+// Puts a value in the place of each target of a schedule.
+fn push_at_each(
+    places: &mut Vec<PlaceValue>,
+    schedule: &NamedSchedule,
+    value: Option<i64>,
+) -> Result<(), AllocError>
+    requires priority { IsTrue (is_write_priority schedule.now.priority) }
+    requires placed { All IsPlace places.old.items }
+    ensures places { OnOk result (places.new.items ≡ places.old.items ++ at_each_target value schedule.now) }
+    ensures placed { OnOk result (All IsPlace places.new.items) }
+{
+    for target in schedule.targets.as_slice() {
+        places.push(PlaceValue {
+            point: *target,
+            priority: schedule.priority,
+            value,
+        })?;
+    }
+    Ok(())
+}
+
+// A due schedule puts its value, and shows it.
+fn put_due(
+    written: &mut Written,
+    schedule: &NamedSchedule,
+    value: Option<i64>,
+) -> Result<(), AllocError>
+    requires priority { IsTrue (is_write_priority schedule.now.priority) }
+    requires placed { All IsPlace written.old.put.items }
+    ensures put { OnOk result (written.new.put.items ≡ written.old.put.items ++ at_each_target value schedule.now) }
+    ensures shown { OnOk result (written.new.shown.items
+        ≡ written.old.shown.items ++ record { schedule = schedule.now.name; shown = Some value } ∷ []) }
+    ensures cleared { written.new.cleared ≡ written.old.cleared }
+    ensures placed { OnOk result (All IsPlace written.new.put.items) }
+{
+    push_at_each(&mut written.put, schedule, value)?;
+    written.shown.push(ShownValue {
+        schedule: schedule.name,
+        shown: Some(value),
+    })?;
+    Ok(())
+}
+
+// The places of a schedule that releases them are cleared.
+fn clear(written: &mut Written, schedule: &NamedSchedule) -> Result<(), AllocError>
+    requires priority { IsTrue (is_write_priority schedule.now.priority) }
+    requires placed { All IsPlace written.old.cleared.items }
+    ensures cleared { OnOk result (written.new.cleared.items ≡ written.old.cleared.items ++ when_leaving schedule.now) }
+    ensures put { written.new.put ≡ written.old.put }
+    ensures shown { written.new.shown ≡ written.old.shown }
+    ensures placed { OnOk result (All IsPlace written.new.cleared.items) }
+{
+    match schedule.on_leave {
+        OnLeave::Stay => Ok(()),
+        OnLeave::Release => push_at_each(&mut written.cleared, schedule, None),
+    }
+}
+
+// A schedule falls quiet: it shows nothing, and where it releases its places they are cleared.
+fn fall_quiet(written: &mut Written, schedule: &NamedSchedule) -> Result<(), AllocError>
+    requires priority { IsTrue (is_write_priority schedule.now.priority) }
+    requires placed { All IsPlace written.old.cleared.items }
+    ensures cleared { OnOk result (written.new.cleared.items ≡ written.old.cleared.items ++ when_leaving schedule.now) }
+    ensures shown { OnOk result (written.new.shown.items
+        ≡ written.old.shown.items ++ record { schedule = schedule.now.name; shown = None } ∷ []) }
+    ensures put { written.new.put ≡ written.old.put }
+    ensures placed { OnOk result (All IsPlace written.new.cleared.items) }
+{
+    clear(written, schedule)?;
+    written.shown.push(ShownValue {
+        schedule: schedule.name,
+        shown: None,
+    })?;
+    Ok(())
+}
+
+// What a schedule that shows this writes at a local time, after those before it.
+#[tactic(auto, unfolding(crate::specs::Settled::is_due, crate::specs::Settled::falls_quiet))]
+fn turn(
+    written: &mut Written,
+    schedule: &NamedSchedule,
+    shown: Option<Option<i64>>,
+    calendars: &[Calendar],
+    local: LocalTime,
+) -> Result<(), AllocError>
+    requires priority { IsTrue (is_write_priority schedule.now.priority) }
+    requires cleared { All IsPlace written.old.cleared.items }
+    requires put { All IsPlace written.old.put.items }
+    ensures turns { OnOk result (Turns (now_at calendars.now local) shown schedule.now written.old written.new) }
+    ensures cleared { OnOk result (All IsPlace written.new.cleared.items) }
+    ensures put { OnOk result (All IsPlace written.new.put.items) }
+{
+    if schedule.schedule.active(local.day) {
+        let value = schedule.schedule.value_now(calendars, local.day, local.time);
+        if shown == Some(value) {
+            return Ok(());
+        }
+        return put_due(written, schedule, value);
+    }
+    match shown {
+        Some(_) => fall_quiet(written, schedule),
+        None => Ok(()),
+    }
+}
+
+// What one schedule writes, after those before it.
+fn settle_one<S: Store>(
+    store: &mut S,
+    written: &mut Written,
+    schedule: &NamedSchedule,
+    calendars: &[Calendar],
+    local: LocalTime,
+) -> Result<(), StoreFault>
+    requires priority { IsTrue (is_write_priority schedule.now.priority) }
+    requires cleared { All IsPlace written.old.cleared.items }
+    requires put { All IsPlace written.old.put.items }
+    ensures reads { Reads (result_err result) (S.standing store.old) (S.standing store.new) }
+    ensures turns { (S.standing store.new).is_honest → OnOk result (Turns (now_at calendars.now local)
+        ((S.standing store.old).content.tables.shown schedule.now.name) schedule.now written.old written.new) }
+    ensures cleared { OnOk result (All IsPlace written.new.cleared.items) }
+    ensures put { OnOk result (All IsPlace written.new.put.items) }
+{
+    let shown = store.shown(&schedule.name)?;
+    turn(written, schedule, shown, calendars, local)?;
+    Ok(())
+}
+
+// What the schedules write, each after those before it.
+fn settle_each<S: Store>(
+    alloc: Global,
+    store: &mut S,
+    schedules: &[NamedSchedule],
+    calendars: &[Calendar],
+    local: LocalTime,
+) -> Result<Written, StoreFault>
+    requires open { IsOpen (S.standing store.old) }
+    requires priorities { IsTrue (list_all (λ (schedule : a_schedule). is_write_priority schedule.priority) schedules.now) }
+    ensures reads { Reads (result_err result) (S.standing store.old) (S.standing store.new) }
+    ensures cleared { (S.standing store.new).is_honest → IfOk result (λ all. all.cleared.items
+        ≡ flat_map (cleared_by (now_at calendars.now local) (S.standing store.old).content.tables.shown) schedules.now) }
+    ensures put { (S.standing store.new).is_honest → IfOk result (λ all. all.put.items
+        ≡ flat_map (put_by (now_at calendars.now local) (S.standing store.old).content.tables.shown) schedules.now) }
+    ensures shown { (S.standing store.new).is_honest → IfOk result (λ all. all.shown.items
+        ≡ flat_map (shown_by (now_at calendars.now local) (S.standing store.old).content.tables.shown) schedules.now) }
+    ensures placed { IfOk result (λ all. All IsPlace all.cleared.items × All IsPlace all.put.items) }
+{
+    let mut all = Written {
+        cleared: Vec::new(alloc),
+        put: Vec::new(alloc),
+        shown: Vec::new(alloc),
+    };
+    for schedule in schedules {
+        settle_one(store, &mut all, schedule, calendars, local)?;
+    }
+    Ok(all)
+}
+
+// All that was written: what was cleared, and then what was put.
+fn joined(all: Written) -> Result<Settlement, AllocError>
+    requires cleared { All IsPlace all.cleared.items }
+    requires put { All IsPlace all.put.items }
+    ensures places { IfOk result (λ settlement. settlement.places.items ≡ all.cleared.items ++ all.put.items) }
+    ensures shown { IfOk result (λ settlement. settlement.shown ≡ all.shown) }
+    ensures placed { IfOk result (λ settlement. All IsPlace settlement.places.items) }
+{
+    let mut places = all.cleared;
+    places.extend_from_slice(all.put.as_slice())?;
+    Ok(Settlement {
+        places,
+        shown: all.shown,
+    })
+}
+
+/// What the schedules of a building write and show at a local time, where these items are imported beside what
+/// the store holds. The store is only read.
+pub fn settle<S: Store>(
+    alloc: Global,
+    store: &mut S,
+    building: &Building,
+    items: &[ImportedEntry],
+    local: LocalTime,
+) -> Result<Settlement, StoreFault>
+    requires open { IsOpen (S.standing store.old) }
+    ensures reads { Reads (result_err result) (S.standing store.old) (S.standing store.new) }
+    ensures places { (S.standing store.new).is_honest → (imported : Text → List Text)
+        → Tells (S.standing store.old).content.tables.imported imported
+        → IfOk result (λ settlement. settlement.places.items
+        ≡ written (now_at (calendars_of building.now (with_items imported items.now)) local)
+        (S.standing store.old).content.tables.shown building.now.schedules) }
+    ensures shown { (S.standing store.new).is_honest → (imported : Text → List Text)
+        → Tells (S.standing store.old).content.tables.imported imported
+        → IfOk result (λ settlement. settlement.shown.items
+        ≡ told (now_at (calendars_of building.now (with_items imported items.now)) local)
+        (S.standing store.old).content.tables.shown building.now.schedules) }
+    ensures placed { IfOk result (λ settlement. All IsPlace settlement.places.items) }
+{
+    let today = calendars_today(alloc, store, building, items, local.day)?;
+    let all = settle_each(alloc, store, building.schedules(), today.as_slice(), local)?;
+    Ok(joined(all)?)
+}
