@@ -1,10 +1,8 @@
 -- The change of a tick or an import makes the tables of one delivery more.
-use Rattle.std.proofs.Common.{◌≡◌, ℕ, ◌+◌, ◌-◌, ◌++◌, Bool, true, false, not, List, [], ◌∷◌, Option, Some, None, ◌&&◌, length, nat_lt, ℤ}
-use Rattle.std.proofs.Common.{refl, sym, ap, ◌∙◌, subst, inl, inr}
-use Rattle.std.proofs.Math.Path.{fun_ext}
+use Rattle.std.proofs.Common.{◌≡◌, ℕ, ◌-◌, ◌++◌, Bool, true, false, not, List, [], ◌∷◌, Option, Some, None, ◌&&◌, ◌||◌, is_some, length, nat_lt, rules, ℤ}
+use Rattle.std.proofs.Common.{refl, sym, ap, ◌∙◌, subst}
 use Rattle.std.specs.List.{list_all, position_or_len}
-use Rattle.std.proofs.lemmas.Bool.{cases_Bool, false≢true}
-use Rattle.std.proofs.lemmas.List.{append-nil}
+use Rattle.std.proofs.lemmas.Bool.{false≢true}
 use Rattle.building.specs.Building.{Building}
 use Rattle.deliveries.specs.declared.delivery.Delivery.{Delivery}
 use Rattle.deliveries.specs.declared.delivery.Delivery.TheVariants.{Import, Tick}
@@ -12,10 +10,10 @@ use Rattle.deliveries.specs.declared.reply.Reply.TheVariants as answer_of
 use Rattle.deliveries.specs.Clocked.{Settles}
 use Rattle.deliveries.specs.Delivered.{Holds}
 use Rattle.deliveries.specs.Events.{has_calendar, is_later, is_moment, last_tick_of, machine}
-use Rattle.deliveries.specs.Machine.{added, local_of, writes_at}
+use Rattle.deliveries.specs.Machine.{added, local_of}
 use Rattle.deliveries.specs.Reply.{refused_record, reply}
 use Rattle.deliveries.specs.Tables.{tables}
-use Rattle.deliveries.proofs.ClockLemmas.{Tells-tables, reply-imported, reply-ticked, tables-imported, tables-shown, tables-ticked}
+use Rattle.deliveries.proofs.ClockLemmas.{Tells-tables, machine-last_tick, reply-imported, reply-ticked, tables-imported, tables-last_tick, tables-shown, tables-ticked, with_items-none}
 use Rattle.local_times.specs.declared.local_clock.LocalTime.{LocalTime}
 use Rattle.local_times.specs.LocalTimes.{local_at}
 use Rattle.sched.specs.declared.calendar.CalendarEntry.{CalendarEntry}
@@ -25,7 +23,7 @@ use Rattle.store.specs.declared.change.Change.{Change}
 use Rattle.store.specs.declared.change.ImportedEntry.{ImportedEntry}
 use Rattle.store.specs.Change.{with_change}
 use Rattle.store.specs.Standing.{Content, Standing}
-use Rattle.store.specs.Tables.{Tables, Text}
+use Rattle.store.specs.Tables.{Text}
 
 -- the tables of a list tell what its machine has imported
 pub Tells-held : (b : Building) (E : List Delivery) (old : Standing) → Holds b E old → Tells old.content.tables.imported (machine b E).imported
@@ -34,27 +32,57 @@ Tells-held b E old held = subst (λ (c : Content). Tells c.tables.imported (mach
 shown-held : (b : Building) (E : List Delivery) (old : Standing) → Holds b E old → old.content.tables.shown ≡ (machine b E).shown
 shown-held b E old held = ap (λ (c : Content). c.tables.shown) held ∙ tables-shown b E
 
-with_items-none : (imported : Text → List Text) → with_items imported [] ≡ imported
-with_items-none imported = fun_ext (λ calendar. append-nil (imported calendar))
+-- the last tick that is read is the last one of the list
+pub last-held : (b : Building) (E : List Delivery) (old : Standing) → Holds b E old → (last : Option ℤ) → last ≡ old.content.tables.last_tick
+    → last ≡ last_tick_of b E
+last-held b E old held last is = is ∙ (ap (λ (c : Content). c.tables.last_tick) held ∙ tables-last_tick b E)
+
+pub last_of-held : (b : Building) (E : List Delivery) (old : Standing) → Holds b E old → old.content.tables.last_tick ≡ (machine b E).last_tick
+last_of-held b E old held = ap (λ (c : Content). c.tables.last_tick) held ∙ (tables-last_tick b E ∙ sym (machine-last_tick b E))
 
 -- rows of which none is refused have their calendars
-all-from : (test : CalendarEntry → Bool) (rows : List CalendarEntry) → nat_lt (position_or_len (λ row. not (test row)) rows) (length rows) ≡ false
-    → list_all test rows ≡ true
-all-from test [] none = refl
-all-from test (row ∷ rows) none = elim (cases_Bool (test row)) [
-  | inl here ↦ ap (λ b. b && list_all test rows) here
-      ∙ all-from test rows (sym (rw here refl) ∙ none)
-  | inr apart ↦ absurd (false≢true (sym none ∙ rw apart refl))
-]
+refused-cons : (test : CalendarEntry → Bool) (row : CalendarEntry) (rows : List CalendarEntry)
+    → nat_lt (position_or_len (λ x. not (test x)) (row ∷ rows)) (length (row ∷ rows))
+    ≡ (not (test row) || nat_lt (position_or_len (λ x. not (test x)) rows) (length rows))
+refused-cons test row rows = by (test row) refl
+  where
+    by : (here : Bool) → test row ≡ here → nat_lt (position_or_len (λ x. not (test x)) (row ∷ rows)) (length (row ∷ rows))
+        ≡ (not (test row) || nat_lt (position_or_len (λ x. not (test x)) rows) (length rows))
+    by true e = rw e (search rules)
+    by false e = rw e (search rules)
 
-all-known : (b : Building) (rows : List CalendarEntry) → refused_record b rows ≡ None → list_all (has_calendar b) rows ≡ true
-all-known b rows none = elim (cases_Bool (nat_lt (position_or_len (λ row. not (has_calendar b row)) rows) (length rows))) [
-  | inl some ↦ let refused : Some (position_or_len (λ row. not (has_calendar b row)) rows + 2) ≡ None = rw some at none in absurd cc
-  | inr past ↦ all-from (has_calendar b) rows past
-]
+some-refused : (test : CalendarEntry → Bool) (rows : List CalendarEntry)
+    → nat_lt (position_or_len (λ x. not (test x)) rows) (length rows) ≡ not (list_all test rows)
+some-refused test [] = refl
+some-refused test (row ∷ rows) = refused-cons test row rows ∙ (ap (λ b. not (test row) || b) (some-refused test rows) ∙ turned (test row) (list_all test rows))
+  where
+    turned : (a b : Bool) → (not a || not b) ≡ not (a && b)
+    turned true b = refl
+    turned false b = refl
+
+refused-at : (b : Building) (rows : List CalendarEntry) → is_some (refused_record b rows) ≡ not (list_all (has_calendar b) rows)
+refused-at b rows = by (nat_lt (position_or_len (λ row. not (has_calendar b row)) rows) (length rows)) refl ∙ some-refused (has_calendar b) rows
+  where
+    by : (some : Bool) → nat_lt (position_or_len (λ row. not (has_calendar b row)) rows) (length rows) ≡ some
+        → is_some (refused_record b rows) ≡ nat_lt (position_or_len (λ row. not (has_calendar b row)) rows) (length rows)
+    by true e = rw e refl
+    by false e = rw e refl
+
+opposite : (a b c : Bool) → a ≡ not b → a ≡ c → b ≡ not c
+opposite true true c e f = absurd (false≢true (sym e))
+opposite true false c e f = ap not f
+opposite false true c e f = ap not f
+opposite false false c e f = absurd (false≢true e)
+
+pub all-known : (b : Building) (rows : List CalendarEntry) → refused_record b rows ≡ None → list_all (has_calendar b) rows ≡ true
+all-known b rows none = opposite _ _ false (refused-at b rows) (ap is_some none)
+
+pub not_all-known : (b : Building) (rows : List CalendarEntry) (record_at : ℕ) → refused_record b rows ≡ Some record_at
+    → list_all (has_calendar b) rows ≡ false
+not_all-known b rows record_at refused = opposite _ _ true (refused-at b rows) (ap is_some refused)
 
 -- a change that settles over what a store holds
-pub Settled-over : Building → Standing → List ImportedEntry → Option LocalTime → Option ℤ → Change → Type 0
+abbrev pub Settled-over : Building → Standing → List ImportedEntry → Option LocalTime → Option ℤ → Change → Type 0
 Settled-over b old items local last change = (imported : Text → List Text) → Tells old.content.tables.imported imported
     → Settles b (with_items imported items) old.content.tables.shown local items last change
 

@@ -1,13 +1,16 @@
 -- A calendar knows an entry by the file, by what the store keeps, or by items beside them.
-use Rattle.std.proofs.Common.{◌≡◌, Bool, true, false, ◌&&◌, ◌||◌, List, [], ◌∷◌, ◌++◌, map, refl, sym, ap, ap₂, ◌∙◌, inl, inr}
+use Rattle.std.proofs.Common.{◌≡◌, ◌↔◌, Bool, true, ◌&&◌, ◌||◌, List, [], ◌∷◌, map, Ok, Result, refl, sym, ap, ap₂, ◌∙◌, inl, inr}
 use Rattle.std.specs.Bool.{IsTrue}
 use Rattle.std.specs.Cmp.Lexicographic.{nat_list_eq_equiv}
 use Rattle.std.specs.List.{list_any}
 use Rattle.std.specs.Str.{bytes_eq}
 use Rattle.std.proofs.lemmas.Bool.{cases_Bool}
+use Rattle.std.proofs.lemmas.Slice.Eq.{bytes_eq-Decides}
 use Rattle.std.proofs.lemmas.List.Folds.{list_any-append}
 use Rattle.dates.specs.declared.entry.Entry.{Entry}
-use Rattle.dates.specs.Entry.{spelling}
+use Rattle.dates.specs.declared.entry_fault.EntryFault.{EntryFault}
+use Rattle.dates.specs.Entry.{IsEntry, reading, spelling}
+use Rattle.dates.proofs.SpelledReads.{reading-text}
 use Rattle.schedule_tables.specs.declared.named_calendar.NamedCalendar.{NamedCalendar}
 use Rattle.settling.specs.Calendars.{Tells, texts_for, with_items}
 use Rattle.settling.proofs.HoldLemmas.{any-contained, both_ways, contained-any}
@@ -15,6 +18,15 @@ use Rattle.store.specs.declared.change.ImportedEntry.{ImportedEntry}
 use Rattle.store.specs.Listed.{AreTexts}
 use Rattle.store.specs.Tables.{Text}
 use Rattle.deliveries.specs.Machine.{is_known}
+
+same-read : (a b : Entry) → ◌≡◌ {A = Result Entry EntryFault} (Ok a) (Ok b) → a ≡ b
+same-read a b e = cc
+
+-- entries are the same where they are written alike
+pub same-spelled : (test : Bool) (a b : Entry) → IsEntry a → IsEntry b → (test ≡ true) ↔ (a ≡ b) → test ≡ bytes_eq (spelling a) (spelling b)
+same-spelled test a b is_a is_b same = both_ways test (bytes_eq (spelling a) (spelling b))
+    (λ yes. (bytes_eq-Decides (spelling a) (spelling b)).1 (ap spelling (same.0 yes)))
+    (λ alike. same.1 (same-read a b (sym (reading-text a is_a) ∙ (ap reading ((bytes_eq-Decides (spelling a) (spelling b)).0 alike) ∙ reading-text b is_b))))
 
 -- the texts of entries
 kept-texts : (entry : Entry) (kept : List Entry)

@@ -1,10 +1,10 @@
 //! Imports.
-ghost use Rattle.std.specs.Prelude.{◌≡◌, ◌++◌, IfOk, List, None, OnOk};
+ghost use Rattle.std.specs.Prelude.{◌≡◌, ◌++◌, IfOk, List, None, OnOk, Some, option_map, slice_get};
 ghost use Rattle.std.specs.Result.{result_err};
 ghost use Rattle.deliveries.specs.declared.delivery.Delivery.{Delivery as a_delivery};
 ghost use Rattle.deliveries.specs.declared.delivery.Delivery.TheVariants as delivery_of;
 ghost use Rattle.deliveries.specs.Delivered.{Delivers, Holds};
-ghost use Rattle.deliveries.specs.Machine.{added, added_by, local_of};
+ghost use Rattle.deliveries.specs.Machine.{added, added_by, added_to, local_of};
 ghost use Rattle.deliveries.specs.Reply.{refused_record};
 ghost use Rattle.settling.specs.Calendars.{Tells, with_items};
 ghost use Rattle.store.specs.Standing.{Goes, IsOpen, Reads};
@@ -13,11 +13,41 @@ ghost use Rattle.store.specs.Tables.{Text};
 use crate::changing::settled_change;
 use crate::known::is_known;
 use building::Building;
+use dates::Entry;
 use deliveries::{Reply, refused_record};
 use local_times::{LocalTime, local_time};
 use sched::CalendarEntry;
+use schedule_tables::NamedCalendar;
 use std::alloc::Global;
 use store::{ImportedEntry, Store, StoreFault};
+
+fn calendar_at(building: &Building, place: usize) -> Option<&NamedCalendar>
+    ensures { option_map (λ calendar. calendar.now) result ≡ slice_get building.now.calendars place }
+{
+    building.calendars().get(place)
+}
+
+// Adds the item of an entry for a calendar that does not know it.
+fn add_to<S: Store>(
+    store: &mut S,
+    items: &mut Vec<ImportedEntry>,
+    calendar: &NamedCalendar,
+    entry: &Entry,
+) -> Result<(), StoreFault>
+    ensures reads { Reads (result_err result) (S.standing store.old) (S.standing store.new) }
+    ensures adds { (S.standing store.new).is_honest → (imported : Text → List Text)
+        → Tells (S.standing store.old).content.tables.imported imported
+        → OnOk result (items.new.items ≡ items.old.items ++ added_to (with_items imported items.old.items) entry.now (Some calendar.now)) }
+{
+    if is_known(store, calendar, items.as_slice(), entry)? {
+        return Ok(());
+    }
+    items.push(ImportedEntry {
+        calendar: calendar.name,
+        entry: *entry,
+    })?;
+    Ok(())
+}
 
 // Adds the item of a row, where its calendar does not know it.
 fn add_row<S: Store>(
@@ -32,16 +62,10 @@ fn add_row<S: Store>(
         → Tells (S.standing store.old).content.tables.imported imported
         → OnOk result (items.new.items ≡ items.old.items ++ added_by building.now (with_items imported items.old.items) row.now) }
 {
-    let Some(calendar) = building.calendars().get(row.calendar.place) else {
-        return Ok(());
-    };
-    if !is_known(store, calendar, items.as_slice(), &row.entry)? {
-        items.push(ImportedEntry {
-            calendar: calendar.name,
-            entry: row.entry,
-        })?;
+    match calendar_at(building, row.calendar.place) {
+        Some(calendar) => add_to(store, items, calendar, &row.entry),
+        None => Ok(()),
     }
-    Ok(())
 }
 
 // The items that rows add, each beside those before it.

@@ -1,5 +1,5 @@
 -- Schedules that have settled write and show nothing more.
-use Rattle.std.proofs.Common.{◌≡◌, Bool, true, false, ◌&&◌, ◌||◌, not, cond, List, [], ◌∷◌, ◌++◌, map, Option, Some, None, is_some, refl, sym, ◌∙◌}
+use Rattle.std.proofs.Common.{◌≡◌, Bool, true, false, ◌&&◌, ◌||◌, not, cond, List, [], ◌∷◌, ◌++◌, map, Option, Some, None, is_some, ℤ, refl, sym, ◌∙◌}
 use Rattle.std.specs.List.{flat_map}
 use Rattle.std.specs.Cmp.Lexicographic.{nat_list_eq_equiv, options_equiv}
 use Rattle.std.specs.Str.{bytes_eq}
@@ -47,11 +47,11 @@ shown-elsewhere now old table s q apart = by (is_due now old s) refl (falls_quie
     by false e true f = rw (e, f, apart) refl
     by false e false f = rw (e, f) refl
 
-or-parts : (a b : Bool) → (a || b) ≡ false → (a ≡ false) × (b ≡ false)
+pub or-parts : (a b : Bool) → (a || b) ≡ false → (a ≡ false) × (b ≡ false)
 or-parts true b e = absurd (false≢true (sym e))
 or-parts false b e = (refl, e)
 
-both-parts : (a b : Bool) → (a && b) ≡ true → (a ≡ true) × (b ≡ true)
+pub both-parts : (a b : Bool) → (a && b) ≡ true → (a ≡ true) × (b ≡ true)
 both-parts true b e = (refl, e)
 both-parts false b e = absurd (false≢true e)
 
@@ -60,7 +60,7 @@ not-true true e = absurd (false≢true e)
 not-true false e = refl
 
 -- a name that none of the schedules has
-shown-outside : (now : Now) (old table : Shown) (schedules : List NamedSchedule) (q : Text) → is_among q (names_of schedules) ≡ false
+pub shown-outside : (now : Now) (old table : Shown) (schedules : List NamedSchedule) (q : Text) → is_among q (names_of schedules) ≡ false
     → with_each with_shown (flat_map (shown_by now old) schedules) table q ≡ table q
 shown-outside now old table [] q outside = refl
 shown-outside now old table (s ∷ rest) q outside =
@@ -69,7 +69,7 @@ shown-outside now old table (s ∷ rest) q outside =
     (λ i. with_each-append with_shown (shown_by now old s) (flat_map (shown_by now old) rest) table i q)
     ∙ (shown-outside now old next rest q apart.1 ∙ shown-elsewhere now old table s q apart.0)
 
-Each : (NamedSchedule → Type 0) → List NamedSchedule → Type 0
+abbrev Each : (NamedSchedule → Type 0) → List NamedSchedule → Type 0
 Each holds [] = Unit {0}
 Each holds (s ∷ rest) = holds s × Each holds rest
 
@@ -143,7 +143,7 @@ none-told : (now : Now) (old final : Shown) (schedules : List NamedSchedule) →
 none-told now old final [] each = refl
 none-told now old final (s ∷ rest) each =
     let quiet = quiet-one now old final s each.0 in
-    rw quiet (none-told now old final rest each.1)
+    rw (quiet.0, quiet.1) (none-told now old final rest each.1)
 
 none-put : (now : Now) (old final : Shown) (schedules : List NamedSchedule) → Each (λ x. final x.name ≡ after now old x) schedules
     → flat_map (put_by now final) schedules ≡ []
@@ -159,6 +159,16 @@ none-cleared now old final (s ∷ rest) each =
     let quiet = quiet-one now old final s each.0 in
     rw quiet.1 (none-cleared now old final rest each.1)
 
+told-none : (now : Now) (old final : Shown) (schedules : List NamedSchedule) → Each (λ x. final x.name ≡ after now old x) schedules
+    → told now final schedules ≡ []
+unfolding told
+told-none now old final schedules each = none-told now old final schedules each
+
+written-none : (now : Now) (old final : Shown) (schedules : List NamedSchedule) → Each (λ x. final x.name ≡ after now old x) schedules
+    → written now final schedules ≡ []
+unfolding written
+written-none now old final schedules each = λ i. none-cleared now old final schedules each i ++ none-put now old final schedules each i
+
 module _ (now : Now) (shown : Shown) (schedules : List NamedSchedule) (distinct : are_distinct (names_of schedules) ≡ true) where
   each-final : Each (λ x. with_each with_shown (told now shown schedules) shown x.name ≡ after now shown x) schedules
   unfolding told
@@ -166,14 +176,7 @@ module _ (now : Now) (shown : Shown) (schedules : List NamedSchedule) (distinct 
 
   -- settled once, they write nothing more
   pub written-again : written now (with_each with_shown (told now shown schedules) shown) schedules ≡ []
-  unfolding written
-  written-again =
-      let final = with_each with_shown (told now shown schedules) shown in
-      (λ i. none-cleared now shown final schedules each-final i ++ none-put now shown final schedules each-final i)
+  written-again = written-none now shown (with_each with_shown (told now shown schedules) shown) schedules each-final
 
   pub told-again : told now (with_each with_shown (told now shown schedules) shown) schedules ≡ []
-  told-again = told-none (with_each with_shown (told now shown schedules) shown) each-final
-    where
-      told-none : (final : Shown) → Each (λ x. final x.name ≡ after now shown x) schedules → told now final schedules ≡ []
-      unfolding told
-      told-none final each = none-told now shown final schedules each
+  told-again = told-none now shown (with_each with_shown (told now shown schedules) shown) schedules each-final

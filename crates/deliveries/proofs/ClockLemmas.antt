@@ -1,6 +1,7 @@
 -- What ticks and imports do to the machine, the tables and the replies.
-use Rattle.std.proofs.Common.{◌≡◌, ℕ, ◌+◌, ◌-◌, Bool, true, false, ◌&&◌, ◌||◌, not, cond, List, [], ◌∷◌, ◌++◌, length, map, filter, fold, Option, Some, None, option_map, is_some}
-use Rattle.std.proofs.Common.{refl, sym, ap, ap₂, ◌∙◌, append_assoc, position, bytes_eq, ℤ, inl, inr}
+use Rattle.std.proofs.Common.{◌≡◌, ℕ, Bool, true, false, ◌&&◌, ◌||◌, cond, List, [], ◌∷◌, ◌++◌, Option, Some, None}
+use Rattle.std.proofs.Common.{refl, sym, ap, ap₂, ◌∙◌, append_assoc, bytes_eq, ℤ, inl, inr}
+use Rattle.std.proofs.Math.Path.{fun_ext}
 use Rattle.std.specs.Cmp.Lexicographic.{nat_list_eq_equiv}
 use Rattle.std.specs.List.{list_all, list_any}
 use Rattle.std.proofs.lemmas.Bool.{cases_Bool}
@@ -10,7 +11,6 @@ use Rattle.std.proofs.lemmas.List.Sums.{fold-append}
 use Rattle.building.specs.Building.{Building}
 use Rattle.dates.specs.Entry.{spelling}
 use Rattle.local_times.specs.declared.local_clock.LocalTime.{LocalTime}
-use Rattle.local_times.specs.LocalTimes.{local_at}
 use Rattle.sched.specs.declared.calendar.CalendarEntry.{CalendarEntry}
 use Rattle.settling.specs.Calendars.{Tells, texts_for, with_items}
 use Rattle.settling.specs.Settled.{Shown}
@@ -18,14 +18,16 @@ use Rattle.store.specs.declared.change.Change.{Change}
 use Rattle.store.specs.declared.change.ImportedEntry.{ImportedEntry}
 use Rattle.store.specs.Change.{with_change, with_each, with_imported, with_last_tick, with_next, with_place, with_row, with_shown, without_rows}
 use Rattle.store.specs.Tables.{Tables, Text}
+use Rattle.window.specs.declared.numbered_content.NumberedContent.{NumberedContent}
+use Rattle.window.specs.Applied.{applied}
 use Rattle.window.specs.Taken as asks
 use Rattle.deliveries.specs.declared.delivery.Delivery.{Delivery}
 use Rattle.deliveries.specs.declared.delivery.Delivery.TheVariants as delivery_of
 use Rattle.deliveries.specs.declared.reply.Reply.TheVariants as answer_of
 use Rattle.deliveries.specs.Accepted.{asked, panel_of, taken_by}
 use Rattle.deliveries.specs.Clocked.{Settles}
-use Rattle.deliveries.specs.Events.{acted_on, clock_event, commands_of, events_after, has_calendar, is_later, is_moment, last_tick_of, later_of, machine, moment_of}
-use Rattle.deliveries.specs.Machine.{Event, Machine, Tick, Import, added, local_of, opening_machine, run, settled, told_at, with_rows, writes_at, writes_of}
+use Rattle.deliveries.specs.Events.{acted_on, clock_event, events_after, has_calendar, is_later, is_moment, last_tick_of, later_of, machine, moment_of}
+use Rattle.deliveries.specs.Machine.{Machine, Tick, Import, added, local_of, opening_machine, run, settled, told_at, with_rows, writes_at, writes_of}
 use Rattle.deliveries.specs.Reply.{imported_reply, refused_record, reply}
 use Rattle.deliveries.specs.Tables.{tables}
 use Rattle.deliveries.proofs.EventLemmas.{machine-push, run-append, taken_by-push}
@@ -44,7 +46,7 @@ machine-clock : (b : Building) (E : List Delivery) (d : Delivery) → asked d �
     → machine b (E ++ d ∷ []) ≡ run b (machine b E) (clock_event b E d)
 machine-clock b E d none = machine-push b E d ∙ ap (run b (machine b E)) (acted_on-clock b E d none)
 
-tables-clock : (b : Building) (E : List Delivery) (d : Delivery) → asked d ≡ None
+pub tables-clock : (b : Building) (E : List Delivery) (d : Delivery) → asked d ≡ None
     → tables b (E ++ d ∷ []) ≡ tables-at (run b (machine b E) (clock_event b E d)) (λ q. taken_by b q E)
 tables-clock b E d none =
     tables-is b (E ++ d ∷ []) ∙ (λ i. tables-at (machine-clock b E d none i) (λ q. taken-unasked b q E d none i))
@@ -77,12 +79,15 @@ last_tick-import : (b : Building) (m : Machine) (rows : List CalendarEntry) (hap
 last_tick-import b m rows true = settled-last_tick b (with_rows b m rows) (local_of b m.last_tick)
 last_tick-import b m rows false = refl
 
+abbrev commanded-by : Building → List Delivery → Text → Delivery → List NumberedContent
+commanded-by b E panel d = applied (taken_by b panel E) (taken_by b panel (E ++ d ∷ []))
+
 last_tick-acted : (b : Building) (E : List Delivery) (d : Delivery) (m : Machine) → m.last_tick ≡ last_tick_of b E
     → (run b m (acted_on b E d)).last_tick ≡ later_of (last_tick_of b E) (moment_of b d)
 last_tick-acted b E (delivery_of.Command panel number content) m last =
-    ap (λ events. (run b m events).last_tick) (acted_on-sent b E (delivery_of.Command panel number content) tt) ∙ (last_tick-run b m panel _ ∙ last)
+    ap (λ events. (run b m events).last_tick) (acted_on-sent b E (delivery_of.Command panel number content) tt) ∙ (last_tick-run b m panel (commanded-by b E panel (delivery_of.Command panel number content)) ∙ last)
 last_tick-acted b E (delivery_of.Skip panel upto) m last =
-    ap (λ events. (run b m events).last_tick) (acted_on-sent b E (delivery_of.Skip panel upto) tt) ∙ (last_tick-run b m panel _ ∙ last)
+    ap (λ events. (run b m events).last_tick) (acted_on-sent b E (delivery_of.Skip panel upto) tt) ∙ (last_tick-run b m panel (commanded-by b E panel (delivery_of.Skip panel upto)) ∙ last)
 last_tick-acted b E (delivery_of.Tick moment) m last =
     ap (λ events. (run b m events).last_tick) (acted_on-clock b E (delivery_of.Tick moment) refl)
     ∙ (last_tick-event b m moment (is_moment b moment && is_later (last_tick_of b E) moment)
@@ -143,6 +148,9 @@ Tells-items table imported (item ∷ items) tells calendar text =
     ∙ ap (list_any (bytes_eq text)) (append_assoc (imported calendar) (texts_for calendar (item ∷ [])) (texts_for calendar items)
     ∙ ap (λ texts. imported calendar ++ texts) (texts_for-more calendar item items))
 
+pub with_items-none : (imported : Text → List Text) → with_items imported [] ≡ imported
+with_items-none imported = fun_ext (λ calendar. append-nil (imported calendar))
+
 pub Tells-tables : (b : Building) (E : List Delivery) → Tells (tables b E).imported (machine b E).imported
 unfolding tables
 Tells-tables b E calendar text = refl
@@ -195,7 +203,7 @@ pub tables-ticked : (b : Building) (E : List Delivery) (moment : ℤ) (change : 
     → is_later (last_tick_of b E) moment ≡ true
     → let m = machine b E in Settles b m.imported m.shown (local_of b (Some moment)) [] (Some moment) change
     → tables b (E ++ delivery_of.Tick moment ∷ []) ≡ with_change change (tables b E)
-unfolding tables settled
+unfolding tables settled tables-at
 tables-ticked b E moment change in_range later settles =
     let m = machine b E in
     tables-clock b E (delivery_of.Tick moment) refl
@@ -204,7 +212,7 @@ tables-ticked b E moment change in_range later settles =
 
 -- ---- imports
 
-import-happens : (b : Building) (E : List Delivery) (rows : List CalendarEntry) → list_all (has_calendar b) rows ≡ true
+pub import-happens : (b : Building) (E : List Delivery) (rows : List CalendarEntry) → list_all (has_calendar b) rows ≡ true
     → clock_event b E (delivery_of.Import rows) ≡ Import rows ∷ []
 import-happens b E rows all = rw all refl
 
@@ -218,10 +226,10 @@ imported-tables b E items = λ i calendar text. Tells-items (tables b E).importe
 
 pub tables-imported : (b : Building) (E : List Delivery) (rows : List CalendarEntry) (change : Change) → list_all (has_calendar b) rows ≡ true
     → let m = machine b E in
-      let items = added b m.imported rows in
-      Settles b (with_items m.imported items) m.shown (local_of b m.last_tick) items None change
+    let items = added b m.imported rows in
+    Settles b (with_items m.imported items) m.shown (local_of b m.last_tick) items None change
     → tables b (E ++ delivery_of.Import rows ∷ []) ≡ with_change change (tables b E)
-unfolding tables settled
+unfolding tables settled tables-at
 tables-imported b E rows change all settles =
     let m = machine b E in
     let items = added b m.imported rows in

@@ -5,9 +5,8 @@ use Rattle.store.specs.declared.change.Change.{Change}
 use Rattle.store.specs.declared.fault.StoreFault.{StoreFault}
 use Rattle.store.specs.declared.fault.StoreFault.TheVariants.{NoMemory, Failed, Shut, BadRow}
 use Rattle.store.specs.Change.{with_change}
-use Rattle.store.specs.Standing.{Commits, Content, IsOpen, Makes, Reads, Standing, sound}
-use Rattle.store.specs.Tables.{Tables}
-use Rattle.store.proofs.ReadLemmas.{Commits-then, stays_open, was_open}
+use Rattle.store.specs.Standing.{Commits, Content, Makes, Reads, Standing, sound}
+use Rattle.store.proofs.ReadLemmas.{Commits-then, was_open}
 use Rattle.building.specs.Building.{Building}
 use Rattle.deliveries.specs.declared.delivery.Delivery.{Delivery}
 use Rattle.deliveries.specs.declared.reply.Reply.{Reply}

@@ -4,6 +4,7 @@ pub mod DeliveredLemmas
 pub mod EventLemmas
 pub mod MachineLemmas
 pub mod MovedLemmas
+pub mod QuietLemmas
 pub mod RangeLemmas
 pub mod RowLemmas
 pub mod StepLemmas

@@ -32,7 +32,7 @@ use Rattle.deliveries.proofs.TakenLemmas.{take-unmoved}
 
 -- where nothing more is accepted of any panel, the tables stay
 
-pub tables-at : Machine → (Text → asks.Taken) → Tables
+unfoldable pub tables-at : Machine → (Text → asks.Taken) → Tables
 tables-at machine taken = record {
   places = machine.places;
   next = λ panel. asks.front (taken panel);
@@ -47,7 +47,7 @@ unfolding tables tables-at
 tables-is b E = refl
 
 -- a delivery that a panel sent
-pub IsSent : Delivery → Type 0
+abbrev pub IsSent : Delivery → Type 0
 IsSent (Command panel number content) = Unit {0}
 IsSent (Skip panel upto) = Unit {0}
 IsSent (Tick moment) = ⊥

@@ -2,6 +2,7 @@ pub mod Accepted
 pub mod Clocked
 pub mod Delivered
 pub mod Events
+pub mod Laws
 pub mod Machine
 pub mod Moved
 pub mod Reply

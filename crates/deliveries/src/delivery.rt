@@ -19,7 +19,11 @@ pub enum Delivery {
     },
     /// The schedules are to write what they say at a moment, in hundredths of a second since
     /// 1970-01-01T00:00:00Z.
-    Tick { at: i64 },
+    Tick {
+        at: i64,
+    },
     /// Entries for calendars of the building.
-    Import { rows: Listing<CalendarEntry> },
+    Import {
+        rows: Listing<CalendarEntry>,
+    },
 }

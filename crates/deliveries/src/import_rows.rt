@@ -16,6 +16,12 @@ fn has_calendar(building: &Building, row: &CalendarEntry) -> bool
 pub fn refused_record(building: &Building, rows: &[CalendarEntry]) -> Option<u64>
     ensures { result ≡ refused_record building.now rows.now }
 {
-    let place = rows.iter().position(|row| !has_calendar(building, row))?;
-    Some(place as u64 + 2)
+    let mut record = 2;
+    for row in rows {
+        if !has_calendar(building, row) {
+            return Some(record);
+        }
+        record += 1;
+    }
+    None
 }

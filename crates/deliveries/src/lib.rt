@@ -10,8 +10,10 @@
 
 pub use delivery::Delivery;
 pub use import_rows::refused_record;
+pub use laws::delivered_again_changes_nothing;
 pub use reply::Reply;
 
 mod delivery;
 mod import_rows;
+mod laws;
 mod reply;

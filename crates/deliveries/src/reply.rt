@@ -29,11 +29,7 @@ pub enum Reply {
     /// A moment before 1970-01-01T00:00:00Z, or outside the local years 1970 to 2154.
     BadMoment,
     /// An import: so many rows were added and so many known before, and the schedules wrote so many values.
-    Imported {
-        added: u64,
-        known: u64,
-        writes: u64,
-    },
+    Imported { added: u64, known: u64, writes: u64 },
     /// An import of which a row names no calendar of the building: the record of the first such row, where the
     /// header is record 1.
     ImportRefused { record: u64 },

@@ -3,7 +3,7 @@ use Rattle.std.proofs.Common.{◌≡◌, ℕ, ◌-◌, Bool, true, false, not, c
 use Rattle.std.proofs.Common.{◌∙◌, subst, inl, inr}
 use Rattle.std.specs.Bool.{IsTrue}
 use Rattle.std.specs.FinMap.{empty}
-use Rattle.std.specs.List.{flat_map}
+use Rattle.std.specs.List.{flat_map, list_all, list_any}
 use Rattle.std.specs.Option.{option_map_or}
 use Rattle.std.specs.Str.{bytes_eq}
 use Rattle.std.proofs.lemmas.Bool.{cases_Bool, false≢true}
@@ -27,13 +27,16 @@ use Rattle.building.specs.Building.{Building}
 use Rattle.deliveries.specs.declared.delivery.Delivery.{Delivery}
 use Rattle.deliveries.specs.Accepted.{asks_of, panel_named, panel_of, taken_by}
 use Rattle.deliveries.specs.Events.{events_after, machine}
-use Rattle.deliveries.specs.Machine.{Event, Machine, opening_machine, places_after, places_under, rule_for, run, step}
-use Rattle.deliveries.specs.Machine.Event.{Command}
+use Rattle.deliveries.specs.Machine.{Event, Machine, local_of, opening_machine, places_after, places_under, rule_for, run, settled, step, with_rows}
+use Rattle.deliveries.specs.Machine.Event.{Command, Import, Tick}
 use Rattle.deliveries.specs.Tables.{row_at, row_of, tables}
 use Rattle.deliveries.proofs.StepLemmas.{next-tables}
 use Rattle.deliveries.specs.Delivered.{Holds}
-use Rattle.desk.specs.Opening.{AreKnown, Opens, has_panel, has_point}
+use Rattle.local_times.specs.declared.local_clock.LocalTime.{LocalTime}
+use Rattle.schedule_tables.specs.ScheduleTable.{is_sound_schedule}
+use Rattle.desk.specs.Opening.{AreKnown, Opens, has_calendar, has_panel, has_point, has_schedule}
 use Rattle.panel_commands.proofs.DeliverLemmas.{none_of}
+use Rattle.desk.proofs.ClockNames.{imported-no_calendar, settled-no_point, settled-no_schedule}
 use Rattle.desk.proofs.OpeningLemmas.{is_some-find}
 
 -- ---- panels
@@ -67,6 +70,10 @@ module _ (b : Building) (p : Text) (unknown : panel_named b p ≡ None) where
       ap (λ (t : asks.Taken). row_at t number answer) (taken-nothing E)
       ∙ none_kept (nat_lt number (asks.front asks.opening - remembered)) (row_of (asks.front asks.opening) number answer)
 
+-- what a building that was read says of its schedules
+abbrev pub HasSoundSchedules : Building → Type 0
+HasSoundSchedules b = list_all (is_sound_schedule b.points b.calendars) b.schedules ≡ true
+
 no_panel : (b : Building) (E : List Delivery) (p : Text) → has_panel b p ≡ false → HasPanel (tables b E) p → ⊥
 no_panel b E p missing here =
     let unknown = none_of (panel_named b p) (is_some-find (λ panel. bytes_eq panel.name p) b.panels ∙ missing) in
@@ -99,7 +106,10 @@ names_a_point b panel content e = under (panel_named b panel) e
     under None e = absurd cc
     under (Some p) e = point_of-permitted b.points p content e
 
-module _ (b : Building) (q : Text) (unknown : point_named b.points q ≡ None) where
+module _ (b : Building) (sound : HasSoundSchedules b) (q : Text) (missing : has_point b q ≡ false) where
+  unknown : point_named b.points q ≡ None
+  unknown = none_of (point_named b.points q) (is_some-find (λ point. bytes_eq point.name q) b.points ∙ missing)
+
   after-nothing : (places : Text → Places) (p : Text) (content : Content) → places q ≡ empty → places_after b places p content q ≡ empty
   unfolding places_after
   after-nothing places p content none = under (rule_for b p content) refl
@@ -112,18 +122,57 @@ module _ (b : Building) (q : Text) (unknown : point_named b.points q ≡ None) w
         | inr other ↦ rw other none
       ]
 
+  step-nothing : (m : Machine) (event : Event) → m.places q ≡ empty → (step b m event).places q ≡ empty
+  step-nothing m (Command p number content) none = after-nothing m.places p content none
+  step-nothing m (Tick moment) none = settled-no_point b q missing m (local_of b (Some moment)) sound none
+  step-nothing m (Import rows) none =
+      settled-no_point b q missing (with_rows b m rows) (local_of b (with_rows b m rows).last_tick) sound none
+
   run-nothing : (events : List Event) (m : Machine) → m.places q ≡ empty → (run b m events).places q ≡ empty
   run-nothing [] m none = none
-  run-nothing (Command p number content ∷ events) m none =
-      run-nothing events (step b m (Command p number content)) (after-nothing m.places p content none)
+  run-nothing (event ∷ events) m none = run-nothing events (step b m event) (step-nothing m event none)
 
   places-nothing : (E : List Delivery) → (tables b E).places q ≡ empty
   unfolding tables machine
   places-nothing E = run-nothing (events_after b [] E) opening_machine refl
 
-no_point : (b : Building) (E : List Delivery) (q : Text) → has_point b q ≡ false → HasPoint (tables b E) q → ⊥
-no_point b E q missing here =
-    here (places-nothing b q (none_of (point_named b.points q) (is_some-find (λ point. bytes_eq point.name q) b.points ∙ missing)) E)
+no_point : (b : Building) → HasSoundSchedules b → (E : List Delivery) (q : Text) → has_point b q ≡ false → HasPoint (tables b E) q → ⊥
+no_point b sound E q missing here = here (places-nothing b sound q missing E)
+
+-- ---- schedules and calendars
+
+shown-nothing : (b : Building) (q : Text) → has_schedule b q ≡ false → (events : List Event) (m : Machine) → m.shown q ≡ None
+    → (run b m events).shown q ≡ None
+shown-nothing b q missing [] m none = none
+shown-nothing b q missing (Command p number content ∷ events) m none = shown-nothing b q missing events (step b m (Command p number content)) none
+shown-nothing b q missing (Tick moment ∷ events) m none =
+    shown-nothing b q missing events (step b m (Tick moment)) (settled-no_schedule b q missing m (local_of b (Some moment)) none)
+shown-nothing b q missing (Import rows ∷ events) m none =
+    shown-nothing b q missing events (step b m (Import rows))
+    (settled-no_schedule b q missing (with_rows b m rows) (local_of b (with_rows b m rows).last_tick) none)
+
+no_schedule : (b : Building) (E : List Delivery) (q : Text) → has_schedule b q ≡ false → (tables b E).shown q ≡ None
+unfolding tables machine
+no_schedule b E q missing = shown-nothing b q missing (events_after b [] E) opening_machine refl
+
+settled-imported : (b : Building) (m : Machine) (local : Option LocalTime) → (settled b m local).imported ≡ m.imported
+unfolding settled
+settled-imported b m local = refl
+
+imported-nothing : (b : Building) (q : Text) → has_calendar b q ≡ false → (events : List Event) (m : Machine) → m.imported q ≡ []
+    → (run b m events).imported q ≡ []
+imported-nothing b q missing [] m none = none
+imported-nothing b q missing (Command p number content ∷ events) m none = imported-nothing b q missing events (step b m (Command p number content)) none
+imported-nothing b q missing (Tick moment ∷ events) m none =
+    imported-nothing b q missing events (step b m (Tick moment)) ((λ i. settled-imported b m (local_of b (Some moment)) i q) ∙ none)
+imported-nothing b q missing (Import rows ∷ events) m none =
+    let now = with_rows b m rows in
+    imported-nothing b q missing events (step b m (Import rows))
+    ((λ i. settled-imported b now (local_of b now.last_tick) i q) ∙ imported-no_calendar b q missing m.imported rows none)
+
+no_calendar : (b : Building) (E : List Delivery) (q text : Text) → has_calendar b q ≡ false → (tables b E).imported q text ≡ false
+unfolding tables machine
+no_calendar b E q text missing = ap (list_any (bytes_eq text)) (imported-nothing b q missing (events_after b [] E) opening_machine refl)
 
 -- ---- all names
 
@@ -131,19 +180,18 @@ one_of : (test : Bool) → (test ≡ false → ⊥) → IsTrue test
 one_of true never = refl
 one_of false never = absurd (never refl)
 
-pub known-tables : (b : Building) (E : List Delivery) → AreKnown b (tables b E)
-unfolding tables
-known-tables b E = record {
+pub known-tables : (b : Building) → HasSoundSchedules b → (E : List Delivery) → AreKnown b (tables b E)
+known-tables b sound E = record {
   panels = λ p here. one_of (has_panel b p) (λ missing. no_panel b E p missing here);
-  points = λ q here. one_of (has_point b q) (λ missing. no_point b E q missing here);
-  schedules = λ schedule shown. absurd (false≢true shown);
-  calendars = λ calendar imported. absurd (false≢true imported.1);
+  points = λ q here. one_of (has_point b q) (λ missing. no_point b sound E q missing here);
+  schedules = λ q here. one_of (has_schedule b q) (λ missing. false≢true (sym (ap is_some (no_schedule b E q missing)) ∙ here));
+  calendars = λ q here. one_of (has_calendar b q) (λ missing. false≢true (sym (no_calendar b E q here.0 missing) ∙ here.1));
 }
 
 -- a store of such tables is not refused for what it holds
-pub Opens-own : (b : Building) (E : List Delivery) (fault : StoreFault) (old new : Standing) → Opens b (Some fault) old new → new.is_honest → Holds b E old
+pub Opens-own : (b : Building) → HasSoundSchedules b → (E : List Delivery) (fault : StoreFault) (old new : Standing) → Opens b (Some fault) old new → new.is_honest → Holds b E old
     → fault ≡ BadRow → ⊥
-Opens-own b E fault old new opens honest held is = elim (opens.bad_row honest (ap Some is)) [
-  | inl unknown ↦ unknown (subst (λ (c : a_holding). AreKnown b c.tables) (sym held) (known-tables b E))
+Opens-own b sound E fault old new opens honest held is = elim (opens.bad_row honest (ap Some is)) [
+  | inl unknown ↦ unknown (subst (λ (c : a_holding). AreKnown b c.tables) (sym held) (known-tables b sound E))
   | inr unsound ↦ false≢true (sym unsound ∙ ap (λ (c : a_holding). c.is_sound) held)
 ]

@@ -1,3 +1,4 @@
+pub mod ClockNames
 pub mod KnownLemmas
 pub mod OpeningLemmas
 pub mod RunLemmas

@@ -55,6 +55,8 @@ impl<S: Store + Drop> Desk<S> {
             → IfErr result (λ told. (S.standing told.1).is_honest → told.0 ≡ BadRow → ⊥) }
     {
         let mut store = store;
+        // what a building that was read says of its schedules
+        let _sound = building.schedules();
         match look_over(&mut store, &building) {
             Ok(()) => Ok(Desk {
                 alloc,

@@ -14,8 +14,8 @@ use Rattle.points.specs.declared.rule.Rule.TheVariants.{NoSuchPoint}
 use Rattle.store.specs.declared.fault.StoreFault.{StoreFault}
 use Rattle.store.specs.declared.fault.StoreFault.TheVariants.{NoMemory, Failed, Shut, BadRow}
 use Rattle.store.specs.Change.{IsNumber}
-use Rattle.store.specs.Standing.{Content, Goes, IsOpen, Reads, Standing, sound}
-use Rattle.store.proofs.ReadLemmas.{Goes-told, stays_open, was_open}
+use Rattle.store.specs.Standing.{Content, Goes, IsOpen, Standing, sound}
+use Rattle.store.proofs.ReadLemmas.{Goes-told, stays_open}
 use Rattle.window.specs.declared.numbered_content.NumberedContent.{NumberedContent}
 use Rattle.window.specs.declared.plan.Plan.{Plan}
 use Rattle.window.specs.declared.TheConstants.{LAST_NUMBER}

@@ -1,7 +1,8 @@
 -- A calendar holds by the entries of the file, by those that the store keeps, and by items beside them.
-use Rattle.std.proofs.Common.{◌≡◌, ◌↔◌, ℕ, zero, suc, ◌<◌, Bool, true, false, ◌&&◌, ◌||◌, List, [], ◌∷◌, ◌++◌, length, map, Option, Some, None, Ok, Err, Result, bytes_eq, refl, sym, ap, ap₂, ◌∙◌, subst, arith, inl, inr}
+use Rattle.std.proofs.Common.{◌≡◌, zero, suc, Bool, true, false, ◌&&◌, ◌||◌, List, [], ◌∷◌, ◌++◌}
+use Rattle.std.proofs.Common.{map, Option, Some, None, Result, bytes_eq, refl, sym, ap, ap₂, ◌∙◌, arith, inl, inr}
 use Rattle.std.specs.Bool.{IsTrue}
-use Rattle.std.specs.List.{All, Contains, list_any}
+use Rattle.std.specs.List.{All, Contains, cons_option, list_any}
 use Rattle.std.specs.Option.{option_map_or}
 use Rattle.std.specs.Result.{result_ok}
 use Rattle.std.proofs.lemmas.Bool.{cases_Bool, false≢true}
@@ -16,8 +17,8 @@ use Rattle.jiff_core.specs.declared.civil.date.Date.{Date}
 use Rattle.sched.specs.Calendar.{calendar_holds}
 use Rattle.schedule_tables.specs.declared.named_calendar.NamedCalendar.{NamedCalendar}
 use Rattle.store.specs.declared.change.ImportedEntry.{ImportedEntry}
-use Rattle.store.specs.Listed.{AreEntries, AreTexts}
-use Rattle.store.specs.Tables.{Tables, Text}
+use Rattle.store.specs.Listed.{AreTexts}
+use Rattle.store.specs.Tables.{Text}
 use Rattle.settling.specs.Calendars.{Tells, entries_of, texts_for, with_items, with_texts}
 
 -- ---- members of a list
@@ -80,16 +81,19 @@ abbrev read_holds : Date → Text → Bool
 read_holds day text = option_map_or (λ (entry : Entry). holds_on entry day) (result_ok (reading text)) false
 
 spelled_holds : (day : Date) (entry : Entry) → IsEntry entry → read_holds day (spelling entry) ≡ holds_on entry day
-spelled_holds day entry is = ap (λ (read : Result Entry EntryFault). option_map_or (λ (e : Entry). holds_on e day) (result_ok read) false) (reading-text entry is)
+spelled_holds day entry is =
+    ap (λ (read : Result Entry EntryFault). option_map_or (λ (e : Entry). holds_on e day) (result_ok read) false) (reading-text entry is)
+
+cons-any : (day : Date) (read : Option Entry) (entries : List Entry)
+    → list_any (λ (entry : Entry). holds_on entry day) (cons_option read entries)
+    ≡ (option_map_or (λ (entry : Entry). holds_on entry day) read false || list_any (λ (entry : Entry). holds_on entry day) entries)
+cons-any day None entries = refl
+cons-any day (Some entry) entries = refl
 
 entries_of-any : (day : Date) (texts : List Text) → list_any (λ entry. holds_on entry day) (entries_of texts) ≡ list_any (read_holds day) texts
 entries_of-any day [] = refl
-entries_of-any day (text ∷ texts) = by (result_ok (reading text)) refl
-  where
-    by : (read : Option Entry) → result_ok (reading text) ≡ read
-        → list_any (λ entry. holds_on entry day) (entries_of (text ∷ texts)) ≡ list_any (read_holds day) (text ∷ texts)
-    by None e = rw e (entries_of-any day texts)
-    by (Some entry) e = rw e (ap (λ b. holds_on entry day || b) (entries_of-any day texts))
+entries_of-any day (text ∷ texts) =
+    cons-any day (result_ok (reading text)) (entries_of texts) ∙ ap (λ b. read_holds day text || b) (entries_of-any day texts)
 
 kept-any : (day : Date) (kept : List Entry) → All IsEntry kept
     → list_any (λ entry. holds_on entry day) kept ≡ list_any (read_holds day) (map spelling kept)
@@ -110,12 +114,15 @@ items-hold : (calendar : Text) (day : Date) (items : List ImportedEntry) → All
     → list_any (λ item. bytes_eq item.calendar calendar && holds_on item.entry day) items ≡ list_any (read_holds day) (texts_for calendar items)
 items-hold calendar day [] all = refl
 items-hold calendar day (item ∷ items) all = elim (cases_Bool (bytes_eq item.calendar calendar)) [
-  | inl here ↦ rw here (ap₂ (λ a b. a || b) (sym (spelled_holds day item.entry (All-head has_entry item items all))) (items-hold calendar day items rest))
+  | inl here ↦ rw here (ap₂ (λ a b. a || b) (sym (spelled_holds day item.entry first)) (items-hold calendar day items rest))
   | inr apart ↦ rw apart (items-hold calendar day items rest)
 ]
   where
     has_entry : ImportedEntry → Type 0
     has_entry item = IsEntry item.entry
+
+    first : IsEntry item.entry
+    first = All-head has_entry item items all
 
     rest : All (λ (item : ImportedEntry). IsEntry item.entry) items
     rest = All-tail has_entry item items all
@@ -123,7 +130,8 @@ items-hold calendar day (item ∷ items) all = elim (cases_Bool (bytes_eq item.c
 -- a calendar holds by the file, by what is kept, or by items
 pub holds-parts : (table : Text → Text → Bool) (imported : Text → List Text) (calendar : NamedCalendar) (kept : List Entry)
     (items : List ImportedEntry) (day : Date)
-    → AreTexts (λ text. IsTrue (table calendar.name text)) (map spelling kept) → All IsEntry kept → All (λ (item : ImportedEntry). IsEntry item.entry) items
+    → AreTexts (λ text. IsTrue (table calendar.name text)) (map spelling kept) → All IsEntry kept
+    → All (λ (item : ImportedEntry). IsEntry item.entry) items
     → Tells table imported
     → (calendar_holds calendar.calendar day || (list_any (λ entry. holds_on entry day) kept
     || list_any (λ item. bytes_eq item.calendar calendar.name && holds_on item.entry day) items))

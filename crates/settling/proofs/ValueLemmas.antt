@@ -1,5 +1,6 @@
 -- What schedules say depends on calendars by whether they hold today alone.
-use Rattle.std.proofs.Common.{◌≡◌, ℕ, Bool, false, ◌&&◌, not, cond, List, [], ◌∷◌, ◌++◌, Option, Some, None, option_map, slice_get, is_some, option_and_then, ℤ, refl, sym, ap, ◌∙◌}
+use Rattle.std.proofs.Common.{◌≡◌, ℕ, false, ◌&&◌, not, cond, List, [], ◌∷◌, ◌++◌}
+use Rattle.std.proofs.Common.{Option, Some, None, option_map, slice_get, is_some, option_and_then, refl, sym, ap, ◌∙◌}
 use Rattle.std.proofs.Math.Path.{fun_ext}
 use Rattle.std.proofs.lemmas.Option.{slice_get-map}
 use Rattle.std.specs.List.{flat_map}
@@ -20,7 +21,8 @@ use Rattle.schedule_tables.specs.declared.named_schedule.NamedSchedule.{NamedSch
 use Rattle.store.specs.declared.change.PlaceValue.{PlaceValue}
 use Rattle.store.specs.declared.change.ShownValue.{ShownValue}
 use Rattle.settling.specs.Calendars.{hold_on}
-use Rattle.settling.specs.Settled.{Now, Shown, at_each_target, cleared_by, falls_quiet, is_active_now, is_due, put_by, shown_by, shows, told, value_of, written}
+use Rattle.settling.specs.Settled.{Shown, at_each_target, cleared_by, falls_quiet, is_active_now, is_due}
+use Rattle.settling.specs.Settled.{put_by, shown_by, shows, told, value_of, written}
 use Rattle.settling.specs.Turns.{now_at}
 
 holds-mapped : (day : Date) (calendar : Option Calendar)
@@ -29,7 +31,8 @@ holds-mapped day None = refl
 holds-mapped day (Some calendar) = refl
 
 holds_at : (day : Date) (calendars : List Calendar) (place : ℕ)
-    → option_map_or (λ c. calendar_holds c day) (slice_get calendars place) false ≡ option_map_or (λ b. b) (slice_get (hold_on day calendars) place) false
+    → option_map_or (λ c. calendar_holds c day) (slice_get calendars place) false
+    ≡ option_map_or (λ b. b) (slice_get (hold_on day calendars) place) false
 holds_at day calendars place =
     holds-mapped day (slice_get calendars place)
     ∙ ap (λ o. option_map_or (λ b. b) o false) (sym (slice_get-map (λ c. calendar_holds c day) calendars place))
@@ -40,7 +43,8 @@ in_period-same day cs ds same (period.Calendar id) =
     holds_at day cs id.place ∙ (ap (λ bs. option_map_or (λ b. b) (slice_get bs id.place) false) same ∙ sym (holds_at day ds id.place))
 
 speaks-same : (day : Date) (time : ℕ) (cs ds : List Calendar) → hold_on day cs ≡ hold_on day ds → speaks cs day time ≡ speaks ds day time
-speaks-same day time cs ds same = fun_ext (λ (x : Exception). ap (λ b. b && is_some (list_value x.times time)) (in_period-same day cs ds same x.period))
+speaks-same day time cs ds same = fun_ext (λ (x : Exception).
+    ap (λ b. b && is_some (list_value x.times time)) (in_period-same day cs ds same x.period))
 
 schedule_value-same : (day : Date) (time : ℕ) (cs ds : List Calendar) (s : Schedule) → hold_on day cs ≡ hold_on day ds
     → schedule_value s cs day time ≡ schedule_value s ds day time
@@ -68,7 +72,8 @@ shown_by-same cs ds local shown same = fun_ext (λ (s : NamedSchedule).
     (cond (not (is_active_now (now_at cs local) s) && is_some (shown s.name)) (record { schedule = s.name; shown = None } ∷ []) []))
     (value_of-same cs ds local same s))
 
-cleared_by-same : (cs ds : List Calendar) (local : LocalTime) (shown : Shown) → cleared_by (now_at cs local) shown ≡ cleared_by (now_at ds local) shown
+cleared_by-same : (cs ds : List Calendar) (local : LocalTime) (shown : Shown)
+    → cleared_by (now_at cs local) shown ≡ cleared_by (now_at ds local) shown
 unfolding falls_quiet
 cleared_by-same cs ds local shown = refl
 
@@ -84,8 +89,9 @@ unfolding told
 told-same cs ds local shown schedules same = λ i. flat_map (shown_by-same cs ds local shown same i) schedules
 
 -- what is cleared and then put, where other calendars hold on the same days
-pub settled-places : (cs ds : List Calendar) (local : LocalTime) (shown : Shown) (schedules : List NamedSchedule) (places cleared put : List PlaceValue)
-    → hold_on local.day cs ≡ hold_on local.day ds → places ≡ cleared ++ put → cleared ≡ flat_map (cleared_by (now_at cs local) shown) schedules
+pub settled-places : (cs ds : List Calendar) (local : LocalTime) (shown : Shown) (schedules : List NamedSchedule)
+    (places cleared put : List PlaceValue) → hold_on local.day cs ≡ hold_on local.day ds → places ≡ cleared ++ put
+    → cleared ≡ flat_map (cleared_by (now_at cs local) shown) schedules
     → put ≡ flat_map (put_by (now_at cs local) shown) schedules → places ≡ written (now_at ds local) shown schedules
 unfolding written
 settled-places cs ds local shown schedules places cleared put same joins clears puts =

@@ -21,30 +21,38 @@ use schedule_tables::NamedCalendar;
 use std::alloc::{AllocError, Global};
 use store::{ImportedEntry, Store, StoreFault};
 
-// Whether one of the entries holds on the day.
-fn any_holds(entries: &[Entry], day: Day) -> bool
-    ensures holds { result ≡ list_any (λ (entry : an_entry). holds_on entry day) entries.now }
-    ensures ranges { All IsEntry entries.now }
+// Each entry's numbers lie in their ranges: this holds of all entries, and nothing is done.
+fn lie_in_range(entries: &[Entry])
+    ensures { All IsEntry entries.now }
 {
-    let mut holds = false;
     for entry in entries {
         entry.lies_in_range();
-        holds = holds || entry.holds(day);
     }
-    holds
+}
+
+// The same of items.
+fn have_ranges(items: &[ImportedEntry])
+    ensures { All (λ (item : an_item). IsEntry item.entry) items.now }
+{
+    for item in items {
+        item.entry.lies_in_range();
+    }
+}
+
+// Whether one of the entries holds on the day.
+fn any_holds(entries: &[Entry], day: Day) -> bool
+    ensures { result ≡ list_any (λ (entry : an_entry). holds_on entry day) entries.now }
+{
+    entries.iter().any(|entry| entry.holds(day))
 }
 
 // Whether one of the items for a calendar holds on the day.
 fn any_item_holds(items: &[ImportedEntry], calendar: &Name, day: Day) -> bool
-    ensures holds { result ≡ list_any (λ (item : an_item). bytes_eq item.calendar calendar.now && holds_on item.entry day) items.now }
-    ensures ranges { All (λ (item : an_item). IsEntry item.entry) items.now }
+    ensures { result ≡ list_any (λ (item : an_item). bytes_eq item.calendar calendar.now && holds_on item.entry day) items.now }
 {
-    let mut holds = false;
-    for item in items {
-        item.entry.lies_in_range();
-        holds = holds || item.calendar == *calendar && item.entry.holds(day);
-    }
-    holds
+    items
+        .iter()
+        .any(|item| item.calendar == *calendar && item.entry.holds(day))
 }
 
 // Whether a calendar holds on the day: by the file, by what was imported, or by these items.
@@ -60,6 +68,8 @@ fn holds_today<S: Store>(
         → IfOk result (λ holds. holds ≡ calendar_holds (with_texts (with_items imported items.now) calendar.now) day) }
 {
     let kept = store.entries(&calendar.name)?;
+    lie_in_range(kept.as_slice());
+    have_ranges(items);
     let by_file = calendar.calendar.holds(day);
     let by_store = any_holds(kept.as_slice(), day);
     let by_items = any_item_holds(items, &calendar.name, day);

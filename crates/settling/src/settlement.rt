@@ -128,7 +128,9 @@ fn turn(
     ensures put { OnOk result (All IsPlace written.new.put.items) }
 {
     if schedule.schedule.active(local.day) {
-        let value = schedule.schedule.value_now(calendars, local.day, local.time);
+        let value = schedule
+            .schedule
+            .value_now(calendars, local.day, local.time);
         if shown == Some(value) {
             return Ok(());
         }
@@ -168,17 +170,17 @@ fn settle_each<S: Store>(
     store: &mut S,
     schedules: &[NamedSchedule],
     calendars: &[Calendar],
-    local: LocalTime,
+    local: &LocalTime,
 ) -> Result<Written, StoreFault>
     requires open { IsOpen (S.standing store.old) }
     requires priorities { IsTrue (list_all (λ (schedule : a_schedule). is_write_priority schedule.priority) schedules.now) }
     ensures reads { Reads (result_err result) (S.standing store.old) (S.standing store.new) }
     ensures cleared { (S.standing store.new).is_honest → IfOk result (λ all. all.cleared.items
-        ≡ flat_map (cleared_by (now_at calendars.now local) (S.standing store.old).content.tables.shown) schedules.now) }
+        ≡ flat_map (cleared_by (now_at calendars.now local.now) (S.standing store.old).content.tables.shown) schedules.now) }
     ensures put { (S.standing store.new).is_honest → IfOk result (λ all. all.put.items
-        ≡ flat_map (put_by (now_at calendars.now local) (S.standing store.old).content.tables.shown) schedules.now) }
+        ≡ flat_map (put_by (now_at calendars.now local.now) (S.standing store.old).content.tables.shown) schedules.now) }
     ensures shown { (S.standing store.new).is_honest → IfOk result (λ all. all.shown.items
-        ≡ flat_map (shown_by (now_at calendars.now local) (S.standing store.old).content.tables.shown) schedules.now) }
+        ≡ flat_map (shown_by (now_at calendars.now local.now) (S.standing store.old).content.tables.shown) schedules.now) }
     ensures placed { IfOk result (λ all. All IsPlace all.cleared.items × All IsPlace all.put.items) }
 {
     let mut all = Written {
@@ -187,7 +189,7 @@ fn settle_each<S: Store>(
         shown: Vec::new(alloc),
     };
     for schedule in schedules {
-        settle_one(store, &mut all, schedule, calendars, local)?;
+        settle_one(store, &mut all, schedule, calendars, *local)?;
     }
     Ok(all)
 }
@@ -232,6 +234,6 @@ pub fn settle<S: Store>(
     ensures placed { IfOk result (λ settlement. All IsPlace settlement.places.items) }
 {
     let today = calendars_today(alloc, store, building, items, local.day)?;
-    let all = settle_each(alloc, store, building.schedules(), today.as_slice(), local)?;
+    let all = settle_each(alloc, store, building.schedules(), today.as_slice(), &local)?;
     Ok(joined(all)?)
 }

@@ -19,8 +19,10 @@ returns-in-Some-clause-delivers g c = λ earlier honest held.
     let name = name_of-named b c.args.name.now panel (sym c.find_panel.ensures ∙ ap option_copied c.in-Some.is) in
     let before = c.answer_known_skip.ensures.goes.honest honest in
     let next_is = next-held b earlier panel.name c.args.name.now c.in_ok-next.next _ (sym name) held (c.in_ok-next.ensures.value before) in
+    let whole : to_z w64 (of_z w64 c.args.upto) ≡ c.args.upto = search rules in
     subst (λ p. Delivers b earlier (Skip p c.args.upto) c.answer_known_skip.result new) name
-    (c.answer_known_skip.ensures.delivers earlier next_is honest (c.in_ok-next.ensures.reads.kept before (λ e. cc) ∙ held))
+    (subst (λ z. Delivers b earlier (Skip panel.name z) c.answer_known_skip.result new) whole
+    (c.answer_known_skip.ensures.delivers earlier next_is honest (c.in_ok-next.ensures.reads.kept before (λ e. cc) ∙ held)))
 
 pub returns-in-None-clause-delivers : goal.returns-in-None-clause-delivers
 returns-in-None-clause-delivers g c = λ earlier honest held.

@@ -1,0 +1,50 @@
+-- What follows for whoever delivers again.
+use Rattle.std.specs.Prelude.{◌≡◌, ℤ, true, false, List, [], ◌∷◌, ◌++◌, map, Option}
+use Rattle.std.specs.Bool.{IsTrue}
+use Rattle.building.specs.Building.{Building}
+use Rattle.deliveries.specs.declared.delivery.Delivery.{Delivery}
+use Rattle.deliveries.specs.declared.delivery.Delivery.TheVariants.{Import, Tick}
+use Rattle.deliveries.specs.declared.reply.Reply.TheVariants.{Old}
+use Rattle.deliveries.specs.Events.{is_later, is_moment, last_tick_of, machine}
+use Rattle.deliveries.specs.Machine.{added, told_at, writes_at}
+use Rattle.deliveries.specs.Reply.{reply}
+use Rattle.deliveries.specs.Tables.{tables}
+use Rattle.local_times.specs.declared.local_clock.LocalTime.{LocalTime}
+use Rattle.rosters.specs.Roster.{are_distinct}
+use Rattle.sched.specs.declared.calendar.CalendarEntry.{CalendarEntry}
+use Rattle.schedule_tables.specs.declared.named_schedule.NamedSchedule.{NamedSchedule}
+use Rattle.settling.specs.Settled.{Shown}
+use Rattle.store.specs.Change.{with_each, with_shown}
+use Rattle.store.specs.Tables.{Text}
+
+-- no two schedules have one name, as in each building that was read
+abbrev pub HasDistinctSchedules : Building → Type 0
+HasDistinctSchedules b = IsTrue (are_distinct (map (λ (schedule : NamedSchedule). schedule.name) b.schedules))
+
+-- what the schedules show once they have settled
+abbrev pub shown_after : Building → (Text → List Text) → Shown → Option LocalTime → Shown
+shown_after b imported shown local = with_each with_shown (told_at b imported shown local) shown
+
+-- settled again at the same local time, they write nothing and show nothing else
+pub record WritesNothingMore (b : Building) (imported : Text → List Text) (shown : Shown) (local : Option LocalTime) : Type 0 where
+  pub writes : writes_at b imported (shown_after b imported shown local) local ≡ []
+  pub tells : told_at b imported (shown_after b imported shown local) local ≡ []
+
+abbrev pub SettledOnceIsSettled : Type 0
+SettledOnceIsSettled = (b : Building) (imported : Text → List Text) (shown : Shown) (local : Option LocalTime)
+    → HasDistinctSchedules b → WritesNothingMore b imported shown local
+
+-- a tick that is not later than one before it changes nothing
+abbrev pub LateTickChangesNothing : Type 0
+LateTickChangesNothing = (b : Building) (E : List Delivery) (moment : ℤ) → is_later (last_tick_of b E) moment ≡ false
+    → tables b (E ++ Tick moment ∷ []) ≡ tables b E
+
+-- and is told so, where it is in range
+abbrev pub LateTickIsOld : Type 0
+LateTickIsOld = (b : Building) (E : List Delivery) (moment : ℤ) → is_moment b moment ≡ true → is_later (last_tick_of b E) moment ≡ false
+    → reply b E (Tick moment) ≡ Old
+
+-- an import that adds nothing changes nothing
+abbrev pub KnownImportChangesNothing : Type 0
+KnownImportChangesNothing = (b : Building) (E : List Delivery) (rows : List CalendarEntry) → HasDistinctSchedules b
+    → added b (machine b E).imported rows ≡ [] → tables b (E ++ Import rows ∷ []) ≡ tables b E
