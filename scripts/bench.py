@@ -1,11 +1,14 @@
 """Measures the desk: lines a second of `desk replay`, its peak memory, how both grow, and how long a building is read.
 
 Writes a building of 20 panels, one of the largest size with calendars and schedules, and lists of deliveries to
-them into build/bench, runs each five times and takes the fastest run. A list is of commands in order, or it came
+them into build/bench, runs each five times and takes the fastest run. A list is of commands in order; or it came
 over a lossy network: with repeats, numbers out of order, gaps that are filled late, skips, other contents and far
-numbers.
+numbers; or it is of ticks, one each quarter of an hour; or it is mixed: what a lossy network brings, with a tick and
+an old one each hundred lines, and an import each thousand.
 Where valgrind is installed it counts instructions too, which come out the same however busy the machine is.
 """
+import itertools
+import json
 import os
 import pathlib
 import random
@@ -19,6 +22,11 @@ from dataclasses import dataclass
 
 SIZES = (50_000, 100_000, 200_000)
 COUNTED = (10_000, 20_000, 40_000)
+# A quarter of an hour, in hundredths of a second; the quarters of a year; 2025-01-01T00:00:00Z.
+QUARTER = 15 * 60 * 100
+QUARTERS = 365 * 24 * 4
+NEW_YEAR = 173_568_960_000
+TICKS_COUNTED = 4 * 24 * 4
 RUNS = 5
 ROOT = pathlib.Path(__file__).resolve().parent.parent
 FOLDER = ROOT / "build" / "bench"
@@ -97,16 +105,45 @@ class Building:
             return lines + [f'{{"panel":"PANEL-{panel + 1}","skip":{first + 10}}}\n']
         return lines + [self.command(panel, lost)] if lost is not None else lines
 
+    def lossy(self, rng):
+        """The lines of a lossy network, without end."""
+        for first in itertools.count(1, 10):
+            for panel in range(self.panels):
+                yield from self.lossy_lines(rng, panel, first)
+
     def write_lossy(self, path, count):
-        rng, written = random.Random(count), 0
         with open(path, "w") as out:
-            for first in range(1, 10**9, 10):
-                for panel in range(self.panels):
-                    lines = self.lossy_lines(rng, panel, first)
-                    out.writelines(lines[: count - written])
-                    written += len(lines)
-                    if written >= count:
-                        return
+            out.writelines(itertools.islice(self.lossy(random.Random(count)), count))
+
+    def write_ticks(self, path, count):
+        """A tick each quarter of an hour, from the beginning of 2025 on."""
+        with open(path, "w") as out:
+            out.writelines(tick_line(NEW_YEAR + place * QUARTER) for place in range(count))
+
+    def import_line(self, place):
+        """The line of an import of three rows for one calendar, of which the last is that of the import before."""
+        rows = [f"CALENDAR-{place % self.calendars + 1},2026-{day % 12 + 1:02}-{day % 28 + 1:02}" for day in (place, place + 1)]
+        rows.append(f"CALENDAR-{(place - 1) % self.calendars + 1},2026-{place % 12 + 1:02}-{place % 28 + 1:02}")
+        return json.dumps({"import": "\n".join(["calendar,entry", *rows]) + "\n"}) + "\n"
+
+    def mixed(self, count):
+        """Lines of a lossy network, with a tick and an old one each hundred lines and an import each thousand."""
+        commands = self.lossy(random.Random(count))
+        for place in range(count):
+            if place % 1000 == 50:
+                yield self.import_line(place // 1000 + 1)
+            elif place % 100 in (25, 75):
+                yield tick_line(NEW_YEAR + (place // 100 - (place % 100 == 75)) * QUARTER)
+            else:
+                yield next(commands)
+
+    def write_mixed(self, path, count):
+        with open(path, "w") as out:
+            out.writelines(self.mixed(count))
+
+
+def tick_line(at):
+    return f'{{"tick":{at}}}\n'
 
 
 USUAL = Building(panels=20, points=40, granted=40)
@@ -134,21 +171,27 @@ def run_desk(*words):
     return float(seconds), int(peak)
 
 
-def written(building, size, lossy):
+# Each load: how it is told, and how its list is written.
+LOADS = {
+    "in order": ("", Building.write_commands),
+    "lossy": (", over a lossy network", Building.write_lossy),
+    "ticks": (", a tick each quarter of an hour", Building.write_ticks),
+    "mixed": (", a lossy network with ticks and imports", Building.write_mixed),
+}
+
+
+def written(building, size, load="in order"):
     """The paths of the building and of a list of so many deliveries to it."""
     file = FOLDER / f"{building.points}-points.toml"
-    deliveries = FOLDER / f"{building.points}-points-{size}{'-lossy' * lossy}.jsonl"
+    deliveries = FOLDER / f"{building.points}-points-{size}-{load.replace(' ', '-')}.jsonl"
     building.write(file)
-    if lossy:
-        building.write_lossy(deliveries, size)
-    else:
-        building.write_commands(deliveries, size)
+    LOADS[load][1](building, deliveries, size)
     return str(file), str(deliveries)
 
 
-def measure(building, size, lossy=False):
+def measure(building, size, load="in order"):
     """The fastest of some runs of a list of so many deliveries: its seconds and peak kilobytes."""
-    file, deliveries = written(building, size, lossy)
+    file, deliveries = written(building, size, load)
     return min(run_desk("replay", file, deliveries) for _ in range(RUNS))
 
 
@@ -164,9 +207,9 @@ def counted(*words):
     return int(re.search(r"Collected : (\d+)", run.stderr).group(1))
 
 
-def instructions(building, size, lossy=False):
+def instructions(building, size, load="in order"):
     """The instructions of a list of so many deliveries, without those of reading the building."""
-    file, deliveries = written(building, size, lossy)
+    file, deliveries = written(building, size, load)
     return counted("replay", file, deliveries) - counted("check", file)
 
 
@@ -178,15 +221,16 @@ def show_seconds():
         print(f"{size} lines: {size / seconds:,.0f} lines a second, {peak / 1024:.0f} MB at most{growth}")
         earlier = seconds
     to_largest = f"to {LARGEST.panels} panels and {LARGEST.points} points"
-    for size, lossy in ((SIZES[-1], False), (SIZES[0], True), (SIZES[1], True), (SIZES[2], True)):
-        seconds, peak = measure(LARGEST, size, lossy)
+    lossy = [(size, "lossy") for size in SIZES]
+    for size, load in [(SIZES[-1], "in order"), *lossy, (QUARTERS, "ticks"), (SIZES[0], "mixed"), (SIZES[2], "mixed")]:
+        seconds, peak = measure(LARGEST, size, load)
         told = f"{size / seconds:,.0f} lines a second, {peak / 1024:.0f} MB at most"
-        print(f"{size} lines {to_largest}{', over a lossy network' * lossy}: {told}")
+        print(f"{size} lines {to_largest}{LOADS[load][0]}: {told}")
 
 
 def show_reading():
     for building in (USUAL, LARGEST):
-        file, _ = written(building, 0, False)
+        file, _ = written(building, 0)
         seconds, peak = min(run_desk("check", file) for _ in range(RUNS))
         size = pathlib.Path(file).stat().st_size
         print(f"a building file of {size:,} bytes: read in {seconds * 1000:.0f} ms, {peak / 1024:.0f} MB at most")
@@ -206,9 +250,11 @@ def show_instructions():
         print(f"{size} lines: {count / size:,.0f} instructions a line{growth}")
         earlier = count
     to_largest = f"to {LARGEST.panels} panels and {LARGEST.points} points"
-    for size, lossy in ((COUNTED[0], False), (COUNTED[2], False), (COUNTED[0], True), (COUNTED[1], True)):
-        count = instructions(LARGEST, size, lossy)
-        print(f"{size} lines {to_largest}{', over a lossy network' * lossy}: {count / size:,.0f} instructions a line")
+    in_order = [(size, "in order") for size in (COUNTED[0], COUNTED[2])]
+    others = [(size, load) for load in ("lossy", "mixed") for size in COUNTED[:2]]
+    for size, load in [*in_order, *others, (TICKS_COUNTED, "ticks")]:
+        count = instructions(LARGEST, size, load)
+        print(f"{size} lines {to_largest}{LOADS[load][0]}: {count / size:,.0f} instructions a line")
 
 
 def main():

@@ -23,7 +23,10 @@ NAMES = ["R101-SET", "LIGHT", "MODE", "fan_2.a"]
 PRIORITIES = [1, 2, 5, 8, 9, 10, 15, 16]
 ZONES = ["CET-1CEST,M3.5.0,M10.5.0/3", "CET-1CEST,M3.5.0,M10.5.0/3", "UTC0", "EST5"]
 ENTRIES = ["*-*-*", "*-03-30", "*-10-26", "*-*-*/sun", "wnd:*:6:*", "2025-03-01..2025-10-25", "*-odd-*", "*-*-last"]
-PERIODS = ["*..*", "*..*", "*..*", "2025-03-30..2025-10-25", "2025-10-26..*", "2026-01-01..2025-01-01"]
+PERIODS = [
+    "*..*", "*..*", "*..*", "2025-03-30..2025-10-25", "2025-03-29..2025-03-30", "*..2025-03-29",
+    "2025-10-26..*", "2025-10-25..2025-10-25", "2026-01-01..2025-01-01",
+]
 # Midnight UTC before the two days of 2025 on which the clock is set.
 ODD_DAYS = [174_329_280_000_00 // 100, 176_143_680_000_00 // 100]
 HOUR = HUNDREDTHS_A_DAY // 24
@@ -42,24 +45,26 @@ def some_building(rng):
         Panel(
             f"P{place}",
             tuple(rng.sample(names, rng.randint(0, len(names)))),
-            tuple(rng.sample(PRIORITIES, rng.randint(0, 4))),
+            tuple(rng.sample(PRIORITIES, rng.randint(0, 6))),
         )
         for place in range(1, rng.randint(1, 3) + 1)
     )
     calendars = tuple(
-        Calendar(f"C{place}", tuple(rng.sample(ENTRIES, rng.randint(0, 2)))) for place in range(rng.randint(0, 2))
+        Calendar(f"C{place}", tuple(rng.sample(ENTRIES, rng.choice([0, 0, 1, 2])))) for place in range(rng.randint(0, 2))
     )
     schedules = tuple(some_schedule(rng, place, points, calendars) for place in range(rng.randint(0, 3)))
     return Building(points, panels, rng.choice(ZONES), calendars, schedules)
 
 
-def some_times(rng, values):
-    return tuple((rng.choice([0, 1, 2, 3, 12, 23]) * HOUR, rng.choice(values)) for _ in range(rng.randint(0, 3)))
+def some_times(rng, values, least=0):
+    """Time values, many of them in the hours that the clock leaves out or goes through twice."""
+    quarters = [0, 4, 8, 9, 10, 11, 12, 48, 92]
+    return tuple((rng.choice(quarters) * HOUR // 4, rng.choice(values)) for _ in range(rng.randint(least, 3)))
 
 
 def some_exception(rng, values, calendars):
     named = rng.choice(calendars).name if calendars and rng.random() < 0.7 else None
-    return Exception_(rng.randint(1, 3), None if named else rng.choice(ENTRIES), named, some_times(rng, values))
+    return Exception_(rng.randint(1, 3), None if named else rng.choice(ENTRIES), named, some_times(rng, values, 1))
 
 
 def some_schedule(rng, place, points, calendars):
@@ -68,14 +73,20 @@ def some_schedule(rng, place, points, calendars):
     low, high = max(point.low for point in targets), min(point.high for point in targets)
     values = [None] + [value for value in (low, low + 1, high) if low <= value <= high]
     weekly = tuple(some_times(rng, values) for _ in range(7))
-    exceptions = tuple(some_exception(rng, values, calendars) for _ in range(rng.randint(0, 2)))
+    exceptions = tuple(some_exception(rng, values, calendars) for _ in range(rng.randint(0, 3)))
     names = tuple(point.name for point in targets)
     return Schedule(
         f"S{place}", rng.choice(PERIODS), rng.choice([15, 16]), names, rng.choice(values), weekly, exceptions, rng.random() < 0.5
     )
 
 
-def some_content(rng):
+def some_content(rng, building):
+    """A content that a panel of the building may write, or one that a rule is against."""
+    able = [panel for panel in building.panels if panel.points and panel.priorities]
+    if able and rng.random() < 0.6:
+        panel = rng.choice(able)
+        point = building.point(rng.choice(panel.points))
+        return Content(point.name, rng.choice(panel.priorities), rng.choice([None, point.low, point.high]))
     priority = rng.choice(PRIORITIES + [0, 6, 17, -1])
     value = rng.choice([None, 0, 1, 2, 3, -5, 12])
     return Content(rng.choice(NAMES), priority, value)
@@ -93,13 +104,13 @@ def some_delivery(rng, panel, next_number, contents):
 
 def some_deliveries(rng, building, longest=LONGEST):
     """A list of few numbers and contents, so that repeats, other contents, gaps and skips are common."""
-    contents = [some_content(rng) for _ in range(4)]
+    contents = [some_content(rng, building) for _ in range(4)]
     panels = [panel.name for panel in building.panels] + ["P9"]
     deliveries, nexts = [], dict.fromkeys(panels, 1)
-    moment = rng.choice(ODD_DAYS)
+    moment = rng.choice(ODD_DAYS) - rng.choice([0, 2, 26]) * HOUR
     for _ in range(rng.randint(0, longest)):
         if rng.random() < 0.4:
-            moment += rng.choice([0, 0, HOUR, HOUR, 3 * HOUR, 20 * HOUR, -HOUR, 1])
+            moment += rng.choice([0, 0, HOUR // 4, HOUR // 2, HOUR, HOUR, 3 * HOUR, 20 * HOUR, -HOUR, 1])
             deliveries.append(some_clock_delivery(rng, building, moment))
             continue
         panel = rng.choice(panels)
@@ -113,13 +124,15 @@ def some_clock_delivery(rng, building, moment):
     """A tick about a moment or out of range, or an import, also of a calendar that the building lacks."""
     if rng.random() < 0.75:
         return Tick(rng.choice([moment] * 8 + [-1, 9223372036854775807]))
-    names = [each.name for each in building.calendars] * 4 + ["NONE"]
-    return Import(tuple((rng.choice(names), rng.choice(ENTRIES)) for _ in range(rng.randint(0, 3))))
+    named = [exception.calendar for schedule in building.schedules for exception in schedule.exceptions if exception.calendar]
+    names = ([each.name for each in building.calendars] + named) * 4 + ["NONE"]
+    entries = ENTRIES + ["*-*-*", "2025-*-*", "2025-10-26", "2025-03-30/sun"]
+    return Import(tuple((rng.choice(names), rng.choice(entries)) for _ in range(rng.randint(0, 3))))
 
 
 def long_deliveries(rng, building):
     """A list that passes 1,000 numbers of one panel, mostly in order, and then asks for old ones."""
-    contents, panel = [some_content(rng) for _ in range(4)], building.panels[0].name
+    contents, panel = [some_content(rng, building) for _ in range(4)], building.panels[0].name
     deliveries = [Command(panel, number, rng.choice(contents)) for number in range(1, REMEMBERED + rng.randint(0, 90))]
     for _ in range(60):
         place = rng.randrange(len(deliveries) - 30)

@@ -30,6 +30,22 @@ LINES_REFUSED = [
     b'{"panel":"P1","skip":4,"x":1}',
     b'{"number":1,"panel":"P1","skip":4}',
     b'{"number":2,"panel":"P1","point":"LIGHT","value":1}{}',
+    b'{"tick":"1"}',
+    b'{"tick":1.0}',
+    b'{"tick":null}',
+    b'{"tick":9223372036854775808}',
+    b'{"tick":1,"x":1}',
+    b'{"at":1}',
+    b'{"panel":"P1","tick":1}',
+    b'{"skip":4,"tick":1}',
+    b'{"number":2,"panel":"P1","point":"LIGHT","tick":1,"value":1}',
+    b'{"import":1}',
+    b'{"import":null}',
+    b'{"import":["calendar,entry"]}',
+    b'{"import":"calendar,entry\\n","x":1}',
+    b'{"import":"calendar,entry\\n","tick":1}',
+    b'{"import":"calendar,entry\\n","panel":"P1"}',
+    b'{"import":"calendar,entry\\n","panel":"P1","skip":4}',
 ]
 
 # Words that ask nothing: status 2, and a part of the text that is told.

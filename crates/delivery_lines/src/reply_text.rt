@@ -45,7 +45,11 @@ impl fmt::Display for ReplyText {
             Reply::Ticked { writes } => write!(f, "{{\"answer\":\"tick\",\"writes\":{writes}}}"),
             Reply::Old => f.write_str("{\"answer\":\"old\",\"writes\":0}"),
             Reply::BadMoment => f.write_str("{\"answer\":\"bad_moment\"}"),
-            Reply::Imported { added, known, writes } => write!(
+            Reply::Imported {
+                added,
+                known,
+                writes,
+            } => write!(
                 f,
                 "{{\"added\":{added},\"answer\":\"import\",\"known\":{known},\"writes\":{writes}}}"
             ),

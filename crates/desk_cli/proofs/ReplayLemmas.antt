@@ -1,6 +1,6 @@
 -- Printing one line after another.
 use Rattle.std.proofs.Common.{◌≡◌, ℕ, suc, ◌+◌, ◌-◌, ◌<◌, ◌==◌, ◌&&◌, ◌++◌, Bool, true, false, List, [], ◌∷◌}
-use Rattle.std.proofs.Common.{length, take, drop, get_or, Ok, Option, Some, None, IfSome, option_map, option_and_then}
+use Rattle.std.proofs.Common.{length, take, get_or, Ok, Option, Some, None, IfSome, option_map, option_and_then}
 use Rattle.std.proofs.Common.{cond, lt-ltb, refl, sym, ap, ap₂, subst, ◌∙◌, append_assoc, arith}
 use Rattle.std.proofs.lemmas.Grind.{flat_map-append}
 use Rattle.std.proofs.lemmas.List.{append-nil, take_more}
@@ -10,50 +10,68 @@ use Rattle.std.specs.Io.KnownBytes.{Appends, IsAtEnd, Keeps}
 use Rattle.std.specs.Io.BufRead.{DropsThrough, drop_through, strip_last, take_through}
 use Rattle.building.specs.Building.{Building, contents_of}
 use Rattle.building.specs.BuildingFile.{building_of}
-use Rattle.deliveries.specs.declared.Delivery.{Delivery}
-use Rattle.deliveries.specs.Reply.{replies, reply}
+use Rattle.deliveries.specs.declared.delivery.Delivery.{Delivery}
+use Rattle.deliveries.specs.Reply.{reply}
 use Rattle.deliveries.specs.Tables.{tables}
 use Rattle.store.specs.Standing.{Content, sound}
 use Rattle.store.specs.Tables.{Tables}
 use Rattle.points.specs.declared.Point.{Point}
 use Rattle.points.specs.Rights.{point_named}
 use Rattle.desk.specs.PointState.{state_of}
-use Rattle.delivery_lines.specs.DeliveryLine.{delivery_of}
+use Rattle.delivery_lines.specs.declared.told.Told.{Told}
+use Rattle.delivery_lines.specs.declared.told.Told.TheVariants as of
+use Rattle.delivery_lines.specs.DeliveryLine.{told_of}
 use Rattle.desk_console.proofs.PrintedLemmas.{Appends-Appends, Appends-Keeps, Appends-nothing}
-use Rattle.desk_cli.specs.Replay.{Prints, Replays, is_empty_line, line_of_point, lines_of, point_lines, reply_lines, state_line, told_by, with_first}
-use Rattle.delivery_lines.specs.ReplyText.{reply_line}
+use Rattle.desk_cli.specs.Replay.{Prints, Replays, answers_to, deliveries_in, is_empty_line, line_of_point}
+use Rattle.desk_cli.specs.Replay.{lines_of, point_lines, state_line, told_by, with_first}
+use Rattle.delivery_lines.specs.ReplyText.{refusal_line, reply_line}
 
--- ---- replies and lines, one part after another
+-- ---- answers and lines, one part after another
 
-pub replies-append : (b : Building) (E ds es : List Delivery) → replies b E (ds ++ es) ≡ replies b E ds ++ replies b (E ++ ds) es
-replies-append b E [] es = ap (λ F. replies b F es) (sym (append-nil E))
-replies-append b E (d ∷ ds) es = ap (λ t. reply b E d ∷ t) (replies-append b (E ++ d ∷ []) ds es
-    ∙ ap (λ F. replies b (E ++ d ∷ []) ds ++ replies b F es) (append_assoc E (d ∷ []) ds))
+pub deliveries_in-append : (ts us : List Told) → deliveries_in (ts ++ us) ≡ deliveries_in ts ++ deliveries_in us
+deliveries_in-append [] us = refl
+deliveries_in-append (of.Delivery d ∷ ts) us = ap (λ ds. d ∷ ds) (deliveries_in-append ts us)
+deliveries_in-append (of.RefusedImport refused ∷ ts) us = deliveries_in-append ts us
 
-pub told_by-append : (ls ms : List (List ℕ)) (ds es : List Delivery) → told_by ls ≡ Some ds → told_by ms ≡ Some es → told_by (ls ++ ms) ≡ Some (ds ++ es)
-told_by-append [] ms ds es p q = q ∙ ap (λ (ts : List Delivery). Some (ts ++ es)) (same_Some _ _ p)
-told_by-append (l ∷ ls) ms ds es p q = step (is_empty_line l) (delivery_of l) (told_by ls) (told_by (ls ++ ms)) p (λ ts e. told_by-append ls ms ts es e q)
+pub answers_to-append : (b : Building) (E : List Delivery) (ts us : List Told)
+    → answers_to b E (ts ++ us) ≡ answers_to b E ts ++ answers_to b (E ++ deliveries_in ts) us
+answers_to-append b E [] us = ap (λ F. answers_to b F us) (sym (append-nil E))
+answers_to-append b E (of.Delivery d ∷ ts) us =
+    let one : List ℕ = reply_line (reply b E d) in
+    let F : List Delivery = E ++ d ∷ [] in
+    ap (λ text. one ++ text) (answers_to-append b F ts us)
+    ∙ ap (λ G. one ++ (answers_to b F ts ++ answers_to b G us)) (append_assoc E (d ∷ []) (deliveries_in ts))
+    ∙ sym (append_assoc one (answers_to b F ts) (answers_to b (E ++ d ∷ deliveries_in ts) us))
+answers_to-append b E (of.RefusedImport refused ∷ ts) us =
+    let one : List ℕ = refusal_line refused in
+    ap (λ text. one ++ text) (answers_to-append b E ts us)
+    ∙ sym (append_assoc one (answers_to b E ts) (answers_to b (E ++ deliveries_in ts) us))
+
+pub told_by-append : (b : Building) (ls ms : List (List ℕ)) (ds es : List Told) → told_by b ls ≡ Some ds → told_by b ms ≡ Some es
+    → told_by b (ls ++ ms) ≡ Some (ds ++ es)
+told_by-append b [] ms ds es p q = q ∙ ap (λ (ts : List Told). Some (ts ++ es)) (same_Some _ _ p)
+told_by-append b (l ∷ ls) ms ds es p q = step (is_empty_line l) (told_of b l) (told_by b ls) (told_by b (ls ++ ms)) p (λ ts e. told_by-append b ls ms ts es e q)
   where
-    step : (empty : Bool) (one : Option Delivery) (rest all : Option (List Delivery))
+    step : (empty : Bool) (one : Option Told) (rest all : Option (List Told))
         → cond empty rest (option_and_then (λ d. option_map (λ ts. d ∷ ts) rest) one) ≡ Some ds
-        → ((ts : List Delivery) → rest ≡ Some ts → all ≡ Some (ts ++ es))
+        → ((ts : List Told) → rest ≡ Some ts → all ≡ Some (ts ++ es))
         → cond empty all (option_and_then (λ d. option_map (λ ts. d ∷ ts) all) one) ≡ Some (ds ++ es)
     step true one rest all e ih = ih ds e
     step false None rest all e ih = cc
     step false (Some d) None all e ih = cc
-    step false (Some d) (Some ts) all e ih = rw (ih ts refl) (ap (λ (xs : List Delivery). Some (xs ++ es)) (same_Some _ _ e))
+    step false (Some d) (Some ts) all e ih = rw (ih ts refl) (ap (λ (xs : List Told). Some (xs ++ es)) (same_Some _ _ e))
 
 -- what was printed of some lines, and then of more
 pub Prints-Prints : (b : Building) (E : List Delivery) (ls ms : List (List ℕ)) (w x y : Option (List ℕ)) (t u : Content)
-    → (first : Prints b E ls w x t) → Prints b (E ++ first.told) ms x y u → Prints b E (ls ++ ms) w y u
+    → (first : Prints b E ls w x t) → Prints b (E ++ deliveries_in first.told) ms x y u → Prints b E (ls ++ ms) w y u
 Prints-Prints b E ls ms w x y t u first more = record {
   told = first.told ++ more.told;
-  told_is = told_by-append ls ms first.told more.told first.told_is more.told_is;
+  told_is = told_by-append b ls ms first.told more.told first.told_is more.told_is;
   printed = subst (λ text. Appends w y text)
-      (sym (flat_map-append reply_line (replies b E first.told) (replies b (E ++ first.told) more.told))
-      ∙ ap reply_lines (sym (replies-append b E first.told more.told)))
+      (sym (answers_to-append b E first.told more.told))
       (Appends-Appends w x y _ _ first.printed more.printed);
-  holds = more.holds ∙ ap (λ list. sound (tables b list)) (append_assoc E first.told more.told);
+  holds = more.holds ∙ ap (λ list. sound (tables b list)) (append_assoc E (deliveries_in first.told) (deliveries_in more.told)
+      ∙ ap (λ ds. E ++ ds) (sym (deliveries_in-append first.told more.told)));
 }
 
 -- ---- the next line
@@ -146,7 +164,8 @@ Progress-line b E bytes line left after old mid new now then p reads drops some 
       rest = drop_through 10 p.rest;
       left_is = after_is;
       lines_are = p.lines_are ∙ ap (λ ls. p.passed ++ ls) next ∙ sym (append_assoc p.passed (strip_last 10 line ∷ []) (lines_of (drop_through 10 p.rest)));
-      prints = Prints-Prints b E p.passed (strip_last 10 line ∷ []) old mid new now then p.prints (prints (E ++ p.prints.told) p.prints.holds);
+      prints = Prints-Prints b E p.passed (strip_last 10 line ∷ []) old mid new now then p.prints
+          (prints (E ++ deliveries_in p.prints.told) p.prints.holds);
     }
 
 -- what is printed stays printed

@@ -1,25 +1,25 @@
 -- What a run has printed at most, wherever it stops.
-use Rattle.std.proofs.Common.{◌≡◌, ℕ, ◌<◌, ◌++◌, false, Ok, Vec, List, [], ◌∷◌, drop, length, take, Option, None}
+use Rattle.std.proofs.Common.{◌≡◌, ℕ, ◌<◌, ◌++◌, false, Ok, Vec, List, [], ◌∷◌, length, Option, None}
 use Rattle.std.proofs.Common.{Some, IfSome, refl, sym, ap, subst, ◌∙◌, inl, inr, ⊎_elim, append_assoc}
-use Rattle.std.proofs.lemmas.Grind.{flat_map-append}
 use Rattle.std.proofs.lemmas.List.{append-nil}
-use Rattle.std.specs.List.{flat_map}
 use Rattle.std.specs.declared.alloc.Global.{Global}
 use Rattle.std.specs.Io.BufRead.{DropsThrough, drop_through, strip_last, take_through}
 use Rattle.std.specs.Io.KnownBytes.{Appends, Keeps}
 use Rattle.building.specs.Building.{Building, contents_of}
 use Rattle.building.specs.BuildingFile.{building_of}
-use Rattle.deliveries.specs.declared.Delivery.{Delivery}
-use Rattle.deliveries.specs.Reply.{replies, reply}
+use Rattle.deliveries.specs.declared.delivery.Delivery.{Delivery}
+use Rattle.deliveries.specs.Reply.{reply}
 use Rattle.deliveries.specs.Tables.{tables}
 use Rattle.store.specs.Standing.{Content, Standing, sound}
-use Rattle.delivery_lines.specs.DeliveryLine.{delivery_of}
-use Rattle.delivery_lines.specs.LineAnswer.{AnswersLine}
+use Rattle.answered_lines.specs.LineAnswer.{AnswersLine}
+use Rattle.delivery_lines.specs.declared.told.Told.{Told}
+use Rattle.delivery_lines.specs.declared.told.Told.TheVariants as of
+use Rattle.delivery_lines.specs.DeliveryLine.{told_of}
 use Rattle.desk_console.specs.Printed.{AppendsStart}
 use Rattle.desk_console.proofs.PrintedLemmas.{start-Keeps, start-after, start-longer, start-nothing, start-whole}
-use Rattle.desk_cli.specs.Replay.{Prints, PrintsNoMore, PrintsStart, is_empty_line, lines_of, point_lines, reply_lines}
-use Rattle.delivery_lines.specs.ReplyText.{reply_line}
-use Rattle.desk_cli.proofs.ReplayLemmas.{Progress, lines_of-left, replies-append, told_by-append}
+use Rattle.desk_cli.specs.Replay.{Prints, PrintsNoMore, PrintsStart, deliveries_in, is_empty_line, lines_of, point_lines}
+use Rattle.delivery_lines.specs.ReplyText.{refusal_line, reply_line}
+use Rattle.desk_cli.proofs.ReplayLemmas.{Progress, answers_to-append, lines_of-left, told_by-append}
 
 -- ---- the first lines
 
@@ -56,39 +56,71 @@ first-of_more b E lines more old new part = record {
 
 -- some lines, and the first of others
 pub first-after : (b : Building) (E : List Delivery) (lines more : List (List ℕ)) (old mid new : Option (List ℕ)) (now : Content)
-    → (prints : Prints b E lines old mid now) → PrintsStart b (E ++ prints.told) more mid new → PrintsStart b E (lines ++ more) old new
+    → (prints : Prints b E lines old mid now) → PrintsStart b (E ++ deliveries_in prints.told) more mid new → PrintsStart b E (lines ++ more) old new
 first-after b E lines more old mid new now prints part = record {
   first = lines ++ part.first;
   others = part.others;
   told = prints.told ++ part.told;
   cut = ap (λ ls. lines ++ ls) part.cut ∙ sym (append_assoc lines part.first part.others);
-  told_is = told_by-append lines part.first prints.told part.told prints.told_is part.told_is;
+  told_is = told_by-append b lines part.first prints.told part.told prints.told_is part.told_is;
   printed = subst (λ text. AppendsStart old new text)
-      (sym (flat_map-append reply_line (replies b E prints.told) (replies b (E ++ prints.told) part.told))
-      ∙ ap reply_lines (sym (replies-append b E prints.told part.told)))
+      (sym (answers_to-append b E prints.told part.told))
       (start-after old mid new _ _ prints.printed part.printed);
 }
 
--- the reply to a line, or a beginning of it
+-- what a line is answered
+answered_whole : (b : Building) (E : List Delivery) (line text : List ℕ) (answered : Vec ℕ Global) (old new : Option (List ℕ)) (now : Standing)
+    (told : Option Told)
+    → is_empty_line line ≡ false → told_of b line ≡ told → AnswersLine b E told (Ok answered) now → text ≡ answered.items
+    → Appends old new text → Prints b E (line ∷ []) old new now.content
+answered_whole b E line text answered old new now None some one answers is printed = absurd answers
+answered_whole b E line text answered old new now (Some (of.Delivery d)) some one answers is printed = record {
+  told = of.Delivery d ∷ [];
+  told_is = rw (some, one) refl;
+  printed = subst (λ t. Appends old new t) (is ∙ answers.0 ∙ sym (append-nil (reply_line (reply b E d)))) printed;
+  holds = answers.1;
+}
+answered_whole b E line text answered old new now (Some (of.RefusedImport refused)) some one answers is printed = record {
+  told = of.RefusedImport refused ∷ [];
+  told_is = rw (some, one) refl;
+  printed = subst (λ t. Appends old new t) (is ∙ answers.0 ∙ sym (append-nil (refusal_line refused))) printed;
+  holds = answers.1 ∙ ap (λ list. sound (tables b list)) (sym (append-nil E));
+}
+
+pub Prints-answered : (b : Building) (E : List Delivery) (line text : List ℕ) (answered : Vec ℕ Global) (old new : Option (List ℕ)) (now : Standing)
+    → is_empty_line line ≡ false → AnswersLine b E (told_of b line) (Ok answered) now → text ≡ answered.items → Appends old new text
+    → Prints b E (line ∷ []) old new now.content
+Prints-answered b E line text answered old new now some answers is printed = answered_whole b E line text answered old new now
+    (told_of b line) some refl answers is printed
+
+-- what a line is answered, or a beginning of it
 replied : (b : Building) (E : List Delivery) (line text : List ℕ) (answered : Vec ℕ Global) (old new : Option (List ℕ)) (now : Standing)
-    (told : Option Delivery)
-    → is_empty_line line ≡ false → delivery_of line ≡ told → AnswersLine b E told (Ok answered) now → text ≡ answered.items
+    (told : Option Told)
+    → is_empty_line line ≡ false → told_of b line ≡ told → AnswersLine b E told (Ok answered) now → text ≡ answered.items
     → AppendsStart old new text → PrintsStart b E (line ∷ []) old new
 replied b E line text answered old new now None some none answers is start = absurd answers
-replied b E line text answered old new now (Some d) some one answers is start = record {
+replied b E line text answered old new now (Some (of.Delivery d)) some one answers is start = record {
   first = line ∷ [];
   others = [];
-  told = d ∷ [];
+  told = of.Delivery d ∷ [];
   cut = refl;
   told_is = rw (some, one) refl;
   printed = start-longer old new (reply_line (reply b E d)) [] (subst (λ t. AppendsStart old new t) (is ∙ answers.0) start);
 }
+replied b E line text answered old new now (Some (of.RefusedImport refused)) some one answers is start = record {
+  first = line ∷ [];
+  others = [];
+  told = of.RefusedImport refused ∷ [];
+  cut = refl;
+  told_is = rw (some, one) refl;
+  printed = start-longer old new (refusal_line refused) [] (subst (λ t. AppendsStart old new t) (is ∙ answers.0) start);
+}
 
 pub first-replied : (b : Building) (E : List Delivery) (line text : List ℕ) (answered : Vec ℕ Global) (old new : Option (List ℕ)) (now : Standing)
-    → is_empty_line line ≡ false → AnswersLine b E (delivery_of line) (Ok answered) now → text ≡ answered.items → AppendsStart old new text
+    → is_empty_line line ≡ false → AnswersLine b E (told_of b line) (Ok answered) now → text ≡ answered.items → AppendsStart old new text
     → PrintsStart b E (line ∷ []) old new
 first-replied b E line text answered old new now some answers is start = replied b E line text answered old new now
-    (delivery_of line) some refl answers is start
+    (told_of b line) some refl answers is start
 
 -- ---- where the reading stops
 
@@ -109,7 +141,8 @@ Progress-stops-at b E bytes line left after old mid new now p reads drops some s
     subst (λ ls. PrintsStart b E ls old new)
     (sym (p.lines_are ∙ ap (λ ls. p.passed ++ ls) next))
     (first-after b E p.passed (strip_last 10 line ∷ lines_of (drop_through 10 p.rest)) old mid new now p.prints
-    (first-of_more b (E ++ p.prints.told) (strip_last 10 line ∷ []) (lines_of (drop_through 10 p.rest)) mid new (stops (E ++ p.prints.told) p.prints.holds)))
+    (first-of_more b (E ++ deliveries_in p.prints.told) (strip_last 10 line ∷ []) (lines_of (drop_through 10 p.rest)) mid new
+    (stops (E ++ deliveries_in p.prints.told) p.prints.holds)))
 
 -- ---- the whole run
 

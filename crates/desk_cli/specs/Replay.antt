@@ -1,4 +1,4 @@
--- What a replay prints: the replies to the deliveries that the lines tell, and then the points.
+-- What a replay prints: what the lines are answered, and then the points.
 use Rattle.std.specs.Prelude.{◌≡◌, ◌⊎◌, ℕ, Bool, ◌||◌, ◌==◌, List, [], ◌∷◌, ◌++◌, Option, Some, None}
 use Rattle.std.specs.Prelude.{Ok, if◌then◌else◌, option_map}
 use Rattle.std.specs.List.{flat_map}
@@ -8,18 +8,19 @@ use Rattle.points.specs.declared.Point.{Point}
 use Rattle.points.specs.Rights.{point_named}
 use Rattle.building.specs.Building.{Building, contents_of}
 use Rattle.building.specs.BuildingFile.{building_of}
-use Rattle.deliveries.specs.declared.Delivery.{Delivery}
+use Rattle.deliveries.specs.declared.delivery.Delivery.{Delivery}
 use Rattle.desk.specs.declared.PointState.{PointState}
-use Rattle.deliveries.specs.declared.Reply.{Reply}
 use Rattle.desk.specs.PointState.{state_of}
-use Rattle.deliveries.specs.Reply.{replies}
+use Rattle.deliveries.specs.Reply.{reply}
 use Rattle.deliveries.specs.Tables.{tables}
 use Rattle.store.specs.Standing.{Content, sound}
 use Rattle.store.specs.Tables.{Tables}
-use Rattle.delivery_lines.specs.DeliveryLine.{delivery_of}
+use Rattle.delivery_lines.specs.declared.told.Told.{Told}
+use Rattle.delivery_lines.specs.declared.told.Told.TheVariants as of
+use Rattle.delivery_lines.specs.DeliveryLine.{told_of}
 use Rattle.desk_console.specs.Printed.{AppendsStart}
 use Rattle.desk_cli.specs.PointLine.{point_line}
-use Rattle.delivery_lines.specs.ReplyText.{reply_line}
+use Rattle.delivery_lines.specs.ReplyText.{refusal_line, reply_line}
 use Rattle.texts.specs.Steps.{◌>>=◌}
 
 -- ---- lines
@@ -37,16 +38,26 @@ lines_of (x ∷ xs) = if x == 10 then [] ∷ lines_of xs else with_first x (line
 abbrev pub is_empty_line : List ℕ → Bool
 is_empty_line line = bytes_eq line [] || bytes_eq line (13 ∷ [])
 
--- the deliveries that the lines tell, without the empty ones, where each of the others tells one
-abbrev pub told_by : List (List ℕ) → Option (List Delivery)
-told_by [] = Some []
-told_by (line ∷ lines) = if is_empty_line line then told_by lines
-    else (delivery_of line >>= (λ d. option_map (λ ds. d ∷ ds) (told_by lines)))
+-- what the lines tell, without the empty ones, where each of the others tells something
+abbrev pub told_by : Building → List (List ℕ) → Option (List Told)
+told_by b [] = Some []
+told_by b (line ∷ lines) = if is_empty_line line then told_by b lines
+    else (told_of b line >>= (λ one. option_map (λ others. one ∷ others) (told_by b lines)))
+
+-- the deliveries among it: an import whose holiday list is at fault is none
+abbrev pub deliveries_in : List Told → List Delivery
+deliveries_in [] = []
+deliveries_in (of.Delivery d ∷ told) = d ∷ deliveries_in told
+deliveries_in (of.RefusedImport refused ∷ told) = deliveries_in told
 
 -- ---- what is printed
 
-abbrev pub reply_lines : List Reply → List ℕ
-reply_lines told = flat_map reply_line told
+-- what is answered after the list E: each delivery its reply, after those before it, and each list at fault its
+-- refusal
+abbrev pub answers_to : Building → List Delivery → List Told → List ℕ
+answers_to b E [] = []
+answers_to b E (of.Delivery d ∷ told) = reply_line (reply b E d) ++ answers_to b (E ++ d ∷ []) told
+answers_to b E (of.RefusedImport refused ∷ told) = refusal_line refused ++ answers_to b E told
 
 -- the line of a point that the building has
 abbrev pub state_line : List ℕ → Option PointState → List ℕ
@@ -60,43 +71,42 @@ line_of_point b now point =
 abbrev pub point_lines : Building → Tables → List ℕ
 point_lines b now = flat_map (line_of_point b now) b.points
 
--- after the list E the lines tell deliveries, their replies were printed, and the tables are those
--- of E and these deliveries
+-- after the list E what the lines tell was answered, and the tables are those of E and the deliveries among it
 pub record Prints (b : Building) (E : List Delivery) (lines : List (List ℕ)) (old new : Option (List ℕ)) (now : Content) : Type 0 where
-  pub told : List Delivery
-  pub told_is : told_by lines ≡ Some told
-  pub printed : Appends old new (reply_lines (replies b E told))
-  pub holds : now ≡ sound (tables b (E ++ told))
+  pub told : List Told
+  pub told_is : told_by b lines ≡ Some told
+  pub printed : Appends old new (answers_to b E told)
+  pub holds : now ≡ sound (tables b (E ++ deliveries_in told))
 
--- the file is a building, the list tells deliveries, and what was printed is the replies to them
--- and then the points as they leave them
+-- the file is a building, each line of the list tells something, and what was printed is what they are answered
+-- and then the points as their deliveries leave them
 pub record Replays (file list : List ℕ) (old new : Option (List ℕ)) : Type 0 where
   pub building : Building
-  pub told : List Delivery
+  pub told : List Told
   pub building_is : building_of file ≡ Ok (contents_of building)
-  pub told_is : told_by (lines_of list) ≡ Some told
+  pub told_is : told_by building (lines_of list) ≡ Some told
   pub printed : Appends old new
-      (reply_lines (replies building [] told) ++ point_lines building (tables building told))
+      (answers_to building [] told ++ point_lines building (tables building (deliveries_in told)))
 
 -- ---- what is printed at most, whatever the end
 
--- after the list E the first lines tell deliveries, and a beginning of the replies to them was printed
+-- after the list E a beginning of what the first lines are answered was printed
 pub record PrintsStart (b : Building) (E : List Delivery) (lines : List (List ℕ)) (old new : Option (List ℕ)) : Type 0 where
   pub first : List (List ℕ)
   pub others : List (List ℕ)
-  pub told : List Delivery
+  pub told : List Told
   pub cut : lines ≡ first ++ others
-  pub told_is : told_by first ≡ Some told
-  pub printed : AppendsStart old new (reply_lines (replies b E told))
+  pub told_is : told_by b first ≡ Some told
+  pub printed : AppendsStart old new (answers_to b E told)
 
--- the list tells deliveries, and a beginning of the replies to them and the points was printed
+-- each line tells something, and a beginning of what they are answered and the points was printed
 pub record PrintsAllLines (b : Building) (lines : List (List ℕ)) (old new : Option (List ℕ)) : Type 0 where
-  pub told : List Delivery
-  pub told_is : told_by lines ≡ Some told
-  pub printed : AppendsStart old new (reply_lines (replies b [] told) ++ point_lines b (tables b told))
+  pub told : List Told
+  pub told_is : told_by b lines ≡ Some told
+  pub printed : AppendsStart old new (answers_to b [] told ++ point_lines b (tables b (deliveries_in told)))
 
--- nothing was printed; or the file is a building, and a beginning of the replies to the first lines was
--- printed, or of the replies to all of them and the points
+-- nothing was printed; or the file is a building, and a beginning of what the first lines are answered was
+-- printed, or of what all of them are and the points
 abbrev pub PrintsNoMore : List ℕ → List ℕ → Option (List ℕ) → Option (List ℕ) → Type 0
 PrintsNoMore file list old new =
     Keeps old new

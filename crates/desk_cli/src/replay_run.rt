@@ -7,14 +7,15 @@ ghost use Rattle.std.specs.Io.KnownBytes.{Appends, Keeps};
 ghost use Rattle.points.specs.Rights.{point_named};
 ghost use Rattle.desk.specs.PointState.{state_of};
 ghost use Rattle.deliveries.specs.Delivered.{Holds};
-ghost use Rattle.deliveries.specs.declared.Delivery.{Delivery as a_delivery};
+ghost use Rattle.deliveries.specs.declared.delivery.Delivery.{Delivery as a_delivery};
 ghost use Rattle.desk_console.specs.Input.{bytes_of};
 ghost use Rattle.desk_console.specs.Printed.{AppendsStart};
 ghost use Rattle.desk_cli.specs.Replay.{Opens, Prints, PrintsNoMore, PrintsStart, Replays};
 ghost use Rattle.desk_cli.specs.Replay.{is_empty_line, lines_of, point_lines, state_line};
 
 use crate::point_line::point_line;
-use delivery_lines::{LineFault, answer_line};
+use answered_lines::answer_line;
+use delivery_lines::LineFault;
 use desk::Desk;
 use desk_console::{Input, Listed, RunFault, Status, flush, print_text, read_building};
 use points::Name;
@@ -27,8 +28,9 @@ use store::{MemStore, Store};
 ///
 /// The building is read, and refused, before the list is opened. A fault is told on `fault` as one line,
 /// in one write, and ends the run: the replies before it stand, and no POINT line follows a line that
-/// tells no delivery. Whatever the end, nothing else is printed: a beginning of the replies to the first
-/// lines, or of all replies and the points. `out` is flushed where no further line is at hand, and at the
+/// tells no delivery. A line of an import whose holiday list is at fault is answered with its refusal, and
+/// nothing is delivered. Whatever the end, nothing else is printed: a beginning of what the first lines are
+/// answered, or of all answers and the points. `out` is flushed where no further line is at hand, and at the
 /// end of the run, whatever it was; if that loses output, this is the fault that is told.
 pub fn replay<B: Read + Drop, D: Read + Drop, O, W: Write, F: Write>(
     alloc: Global,

@@ -1,6 +1,6 @@
 use Rattle.std.proofs.Common.{◌≡◌, ℕ, List, Some}
 use Rattle.std.specs.Io.Buffered.{reader_remaining}
-use Rattle.deliveries.specs.declared.Delivery.{Delivery}
+use Rattle.deliveries.specs.declared.delivery.Delivery.{Delivery}
 use Rattle.deliveries.specs.Delivered.{Holds}
 use Rattle.desk_cli.proofs.ReplayLemmas.{Progress}
 use Rattle.desk_cli.proofs.replay_run.print_replies.Given as goal
