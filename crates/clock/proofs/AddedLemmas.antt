@@ -10,7 +10,7 @@ use Rattle.std.proofs.Common.{bytes_eq, inl, inr}
 use Rattle.store.specs.declared.change.ImportedEntry.{ImportedEntry}
 use Rattle.store.specs.Tables.{Text}
 
-texts_for-append : (calendar : Text) (xs ys : List ImportedEntry) → texts_for calendar (xs ++ ys) ≡ texts_for calendar xs ++ texts_for calendar ys
+pub texts_for-append : (calendar : Text) (xs ys : List ImportedEntry) → texts_for calendar (xs ++ ys) ≡ texts_for calendar xs ++ texts_for calendar ys
 texts_for-append calendar [] ys = refl
 texts_for-append calendar (x ∷ xs) ys = elim (cases_Bool (bytes_eq x.calendar calendar)) [
   | inl here ↦ let more = texts_for-append calendar xs ys in rw (here, more) refl

@@ -14,13 +14,13 @@ use Rattle.schedule_tables.specs.declared.named_schedule.NamedSchedule.{NamedSch
 use Rattle.schedule_tables.specs.ScheduleTable.{is_sound_schedule}
 use Rattle.settling.specs.Calendars.{texts_for, with_items}
 use Rattle.settling.specs.Settled.{Now, Shown, cleared_by, falls_quiet, is_due, put_by, releases, told, value_of, written}
-use Rattle.store.specs.declared.change.ImportedEntry.{ImportedEntry}
 use Rattle.store.specs.declared.change.PlaceValue.{PlaceValue}
 use Rattle.store.specs.Change.{with_each, with_place, with_shown}
 use Rattle.store.specs.Tables.{Text}
 use Rattle.building.specs.Building.{Building}
 use Rattle.dates.specs.declared.entry.Entry.{Entry}
 use Rattle.local_times.specs.declared.local_clock.LocalTime.{LocalTime}
+use Rattle.clock.proofs.AddedLemmas.{texts_for-append}
 use Rattle.deliveries.specs.Machine.{Machine, added, added_by, added_to, is_known, now_of, settled, writes_at}
 use Rattle.deliveries.proofs.AgainLemmas.{both-parts, or-parts, shown-outside}
 use Rattle.desk.specs.Opening.{has_calendar, has_point, has_schedule}
@@ -140,18 +140,11 @@ module _ (b : Building) (q : Text) (missing : has_calendar b q ≡ false) where
       by (Some calendar) e = ap (λ calendar. texts_for q (added_to imported row.entry calendar)) e ∙ added_to-outside imported row.entry calendar
           (got-apart (λ (c : NamedCalendar). bytes_eq c.name q) b.calendars row.calendar.place calendar missing e)
 
-  texts_for-append : (xs ys : List ImportedEntry) → texts_for q (xs ++ ys) ≡ texts_for q xs ++ texts_for q ys
-  texts_for-append [] ys = refl
-  texts_for-append (x ∷ xs) ys = elim (cases_Bool (bytes_eq x.calendar q)) [
-    | inl here ↦ let more = texts_for-append xs ys in rw (here, more) refl
-    | inr apart ↦ let more = texts_for-append xs ys in rw (apart, more) refl
-  ]
-
   added-outside : (imported : Text → List Text) (rows : List CalendarEntry) → texts_for q (added b imported rows) ≡ []
   added-outside imported [] = refl
   added-outside imported (row ∷ rows) =
       let items = added_by b imported row in
-      texts_for-append items (added b (with_items imported items) rows)
+      texts_for-append q items (added b (with_items imported items) rows)
       ∙ ((λ i. added_by-outside imported row i ++ texts_for q (added b (with_items imported items) rows))
       ∙ added-outside (with_items imported items) rows)
 
