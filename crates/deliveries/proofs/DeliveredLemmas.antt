@@ -25,9 +25,9 @@ Delivers-read b E d BadRow old new reads honest held =
     absurd (false≢true (sym (reads.bad_row honest refl) ∙ ap (λ (c : Content). c.is_sound) held))
 
 -- a delivery that changes nothing
-pub Delivers-read_only : (b : Building) (E : List Delivery) (d : Delivery) (told : Reply) (old new : Standing) → Reads None old new → new.is_honest
-    → Holds b E old → told ≡ reply b E d → tables b (E ++ d ∷ []) ≡ tables b E → Delivers b E d (Ok told) new
-Delivers-read_only b E d told old new reads honest held said same = (said, reads.kept honest (λ e. cc) ∙ (held ∙ sym (ap sound same)))
+pub Delivers-read_only : (b : Building) (E : List Delivery) (d : Delivery) (given : Reply) (old new : Standing) → Reads None old new → new.is_honest
+    → Holds b E old → given ≡ reply b E d → tables b (E ++ d ∷ []) ≡ tables b E → Delivers b E d (Ok given) new
+Delivers-read_only b E d given old new reads honest held said same = (said, reads.kept honest (λ e. cc) ∙ (held ∙ sym (ap sound same)))
 
 module _ (b : Building) (E : List Delivery) (d : Delivery) (change : Change) (first second third : Standing) (reads : Reads None first second)
     (honest : third.is_honest) (held : Holds b E first) (makes : tables b (E ++ d ∷ []) ≡ with_change change (tables b E)) where
@@ -38,8 +38,8 @@ module _ (b : Building) (E : List Delivery) (d : Delivery) (change : Change) (fi
       λ i. record { tables = goal i; is_sound = all i }
 
   -- a commit behind reads that makes its change
-  pub Delivers-made : (told : Reply) → Commits change None second third → told ≡ reply b E d → Delivers b E d (Ok told) third
-  Delivers-made told commits said =
+  pub Delivers-made : (given : Reply) → Commits change None second third → given ≡ reply b E d → Delivers b E d (Ok given) third
+  Delivers-made given commits said =
       let whole = Commits-then change None first second third reads commits in
       (said, made-after first.content third.content held (whole.made honest refl))
 
@@ -50,7 +50,7 @@ module _ (b : Building) (E : List Delivery) (d : Delivery) (change : Change) (fi
       was : first.is_shut ≡ false
       was = was_open None first second reads.goes (λ e. cc)
 
-      by : (told : StoreFault) → Commits change (Some told) first third → Delivers b E d (Err told) third
+      by : (given : StoreFault) → Commits change (Some given) first third → Delivers b E d (Err given) third
       by NoMemory whole = whole.unchanged honest (whole.goes.goes_on (λ e. cc) ∙ was) NoMemory refl ∙ held
       by Failed whole = λ content left. either content (whole.left honest was content left)
         where

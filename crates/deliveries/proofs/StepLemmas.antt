@@ -62,11 +62,11 @@ clock_event-sent b E (Import rows) sent = absurd sent
 pub acted_on-sent : (b : Building) (E : List Delivery) (d : Delivery) → IsSent d → acted_on b E d ≡ commands_of b E d
 acted_on-sent b E d sent = ap (λ events. commands_of b E d ++ events) (clock_event-sent b E d sent) ∙ append-nil (commands_of b E d)
 
-reply-sent : (b : Building) (E : List Delivery) (d : Delivery) (told : Reply) → IsSent d → reply_by_clock b E d told ≡ told
-reply-sent b E (Command panel number content) told sent = refl
-reply-sent b E (Skip panel upto) told sent = refl
-reply-sent b E (Tick moment) told sent = absurd sent
-reply-sent b E (Import rows) told sent = absurd sent
+reply-sent : (b : Building) (E : List Delivery) (d : Delivery) (given : Reply) → IsSent d → reply_by_clock b E d given ≡ given
+reply-sent b E (Command panel number content) given sent = refl
+reply-sent b E (Skip panel upto) given sent = refl
+reply-sent b E (Tick moment) given sent = absurd sent
+reply-sent b E (Import rows) given sent = absurd sent
 
 -- no commands, where nothing more is accepted
 pub commands_of-same : (b : Building) (E : List Delivery) (d : Delivery) → taken_by b (panel_of d) (E ++ d ∷ []) ≡ taken_by b (panel_of d) E

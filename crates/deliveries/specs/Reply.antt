@@ -90,10 +90,10 @@ reply_to_import building earlier rows =
 
 -- the reply to a tick or an import; else that of the panel
 abbrev pub reply_by_clock : Building → List Delivery → Delivery → Reply → Reply
-reply_by_clock building earlier (Command panel number content) of_panel = of_panel
-reply_by_clock building earlier (Skip panel upto) of_panel = of_panel
-reply_by_clock building earlier (Tick moment) of_panel = reply_to_tick building earlier moment
-reply_by_clock building earlier (Import rows) of_panel = reply_to_import building earlier rows
+reply_by_clock building earlier (Command panel number content) otherwise = otherwise
+reply_by_clock building earlier (Skip panel upto) otherwise = otherwise
+reply_by_clock building earlier (Tick moment) otherwise = reply_to_tick building earlier moment
+reply_by_clock building earlier (Import rows) otherwise = reply_to_import building earlier rows
 
 unfoldable pub reply : Building → List Delivery → Delivery → Reply
 reply building earlier delivery = reply_by_clock building earlier delivery
