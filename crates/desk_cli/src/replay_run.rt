@@ -13,7 +13,7 @@ ghost use Rattle.desk_console.specs.Printed.{AppendsStart};
 ghost use Rattle.desk_cli.specs.Replay.{Opens, Prints, PrintsNoMore, PrintsStart, Replays};
 ghost use Rattle.desk_cli.specs.Replay.{is_empty_line, lines_of, point_lines, state_line};
 
-use crate::point_line::point_line;
+use day_reports::point_line;
 use answered_lines::answer_line;
 use delivery_lines::LineFault;
 use desk::Desk;

@@ -5,7 +5,8 @@
 //! Calendars have the entries of the file and those that were imported (`specs/Calendars.antt`).
 #![tactic(auto)]
 
+pub use today::calendars_today;
 pub use settlement::{Settlement, settle};
 
-mod calendars_today;
 mod settlement;
+mod today;

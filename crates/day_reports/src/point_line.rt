@@ -1,7 +1,7 @@
 //! The line that tells how a point is.
 
 ghost use Rattle.std.specs.Prelude.{◌≡◌, ◌++◌, IfOk, OnOk, replicate, string_bytes};
-ghost use Rattle.desk_cli.specs.PointLine.{left_in, point_line, right_in};
+ghost use Rattle.day_reports.specs.PointLine.{left_in, point_line, right_in};
 
 use points::Name;
 use std::alloc::{AllocError, Global};
@@ -14,7 +14,7 @@ const VALUE_WIDTH: usize = 12;
 const PRIORITY_WIDTH: usize = 2;
 
 /// The POINT line of a point, with its line end (LF).
-pub(crate) fn point_line(
+pub fn point_line(
     alloc: Global,
     name: &Name,
     present: i64,
@@ -40,7 +40,7 @@ fn push_left(line: &mut String, text: &str, width: usize) -> Result<(), AllocErr
     push_spaces(line, width.saturating_sub(text.len()))
 }
 
-fn push_right(line: &mut String, text: &str, width: usize) -> Result<(), AllocError>
+pub(crate) fn push_right(line: &mut String, text: &str, width: usize) -> Result<(), AllocError>
     ensures { OnOk result (string_bytes line.new ≡ string_bytes line.old ++ right_in width text.now) }
 {
     push_spaces(line, width.saturating_sub(text.len()))?;

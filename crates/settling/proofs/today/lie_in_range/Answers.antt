@@ -3,7 +3,7 @@ use Rattle.std.specs.List.{All}
 use Rattle.std.proofs.lemmas.List.{take_all}
 use Rattle.std.proofs.lemmas.List.Elements.{All-more}
 use Rattle.dates.specs.Entry.{IsEntry}
-use Rattle.settling.proofs.calendars_today.lie_in_range.Goals as goal
+use Rattle.settling.proofs.today.lie_in_range.Goals as goal
 
 pub loop-entry-preserved : goal.loop-entry-preserved
 loop-entry-preserved c =

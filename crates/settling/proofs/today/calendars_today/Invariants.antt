@@ -2,7 +2,7 @@ use Rattle.std.proofs.Common.{◌≡◌, ◌++◌, None, List, drop, map}
 use Rattle.settling.specs.Calendars.{Tells, calendars_of, hold_on, with_items, with_texts}
 use Rattle.store.specs.Standing.{Reads}
 use Rattle.store.specs.Tables.{Text}
-use Rattle.settling.proofs.calendars_today.calendars_today.Given as goal
+use Rattle.settling.proofs.today.calendars_today.Given as goal
 
 -- the calendars so far, and those of the rest
 abbrev pub invariant-loop-calendar : goal.invariant-loop-calendar

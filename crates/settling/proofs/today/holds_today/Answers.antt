@@ -3,7 +3,7 @@ use Rattle.std.specs.List.{All, list_any}
 use Rattle.dates.specs.declared.entry.Entry.{Entry}
 use Rattle.dates.specs.Entry.{IsEntry, holds_on}
 use Rattle.settling.proofs.HoldLemmas.{holds-parts}
-use Rattle.settling.proofs.calendars_today.holds_today.Goals as goal
+use Rattle.settling.proofs.today.holds_today.Goals as goal
 
 pub returns-clause-holds : goal.returns-clause-holds
 returns-clause-holds g c = λ honest imported tells.

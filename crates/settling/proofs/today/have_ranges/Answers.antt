@@ -4,7 +4,7 @@ use Rattle.std.proofs.lemmas.List.{take_all}
 use Rattle.std.proofs.lemmas.List.Elements.{All-more}
 use Rattle.dates.specs.Entry.{IsEntry}
 use Rattle.store.specs.declared.change.ImportedEntry.{ImportedEntry}
-use Rattle.settling.proofs.calendars_today.have_ranges.Goals as goal
+use Rattle.settling.proofs.today.have_ranges.Goals as goal
 
 abbrev HasRange : ImportedEntry → Type 0
 HasRange item = IsEntry item.entry

@@ -1,0 +1,16 @@
+use Rattle.std.proofs.Common.{◌≡◌, ◌++◌, None, drop, string_bytes}
+use Rattle.std.specs.List.{flat_map}
+use Rattle.store.specs.Standing.{Reads}
+use Rattle.day_reports.specs.DayReport.{line_of_point}
+use Rattle.day_reports.proofs.day_report.push_points.Given as goal
+
+-- what was written, and what the rest of the points get
+abbrev pub invariant-loop-point : goal.invariant-loop-point
+invariant-loop-point g l =
+    let first = g.S.Store.standing l.initial.store in
+    let lines = line_of_point first.content.tables.places in
+    record {
+      reads : Reads None first (g.S.Store.standing l.store);
+      lines : (g.S.Store.standing l.store).is_honest
+          → string_bytes l.text ++ flat_map lines (drop l.point-index l.points) ≡ string_bytes l.initial.text ++ flat_map lines l.points;
+    }

@@ -1,0 +1,2 @@
+pub mod DayReport
+pub mod PointLine
