@@ -52,3 +52,8 @@ entry_of (Err fault) = None
 abbrev pub entry_in : Value → Option Entry
 entry_in (Text t) = entry_of (reading t)
 entry_in _ = None
+
+-- the cell of a number, or of NULL
+abbrev pub cell_of : Option ℤ → Value
+cell_of None = Null
+cell_of (Some n) = Int n

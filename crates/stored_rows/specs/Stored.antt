@@ -1,7 +1,7 @@
 -- What a database of the six tables holds.
-use Rattle.std.specs.Prelude.{ℕ, ◌&&◌, Bool, true, false, not, List, [], ◌∷◌, Option, Some, None, is_some, unwrap_or, option_and_then, ℤ, slice_get}
+use Rattle.std.specs.Prelude.{◌≡◌, ℕ, ◌&&◌, Bool, true, false, not, List, [], ◌∷◌, ◌++◌, Option, Some, None, is_some, unwrap_or, option_and_then, ℤ, slice_get}
 use Rattle.std.specs.FinMap.{empty}
-use Rattle.std.specs.List.{list_all, list_any, filter_map}
+use Rattle.std.specs.List.{list_all, list_any, filter, filter_map}
 use Rattle.sqlite_value.specs.Order.{Row}
 use Rattle.store.specs.Change.{with_each, with_next, with_row, with_place, with_shown, with_imported}
 use Rattle.store.specs.Standing.{Content}
@@ -55,3 +55,14 @@ is_sound_in kept =
 
 abbrev pub content_in : Kept → Content
 content_in kept = record { tables = tables_in kept; is_sound = is_sound_in kept }
+
+-- the rows without those of a key, with a new row somewhere
+pub record HasPut (row : Row) (gone : Row → Bool) (old now : List Row) : Type 0 where
+  pub before : List Row
+  pub after : List Row
+  pub left : filter (λ r. not (gone r)) old ≡ before ++ after
+  pub is : now ≡ before ++ row ∷ after
+
+-- only rows of a key are gone
+abbrev pub HasLost : (Row → Bool) → List Row → List Row → Type 0
+HasLost gone old now = now ≡ filter (λ r. not (gone r)) old

@@ -1,0 +1,51 @@
+-- The statements on the imported entries.
+use Rattle.std.proofs.Common.{◌≡◌, ◌≢◌, ℕ, ℤ, Option, Result, OnOk, pos, Bool, true, false, ◌&&◌, List, [], ◌∷◌, codes, refl, ap}
+use Rattle.sqlite_value.specs.declared.value.Value.TheVariants.{Int, Null, Text}
+use Rattle.sqlite_value.specs.Order.{Row, column}
+use Rattle.sqlite_schema.specs.declared.schema.Constraint.TheVariants.{Datatype, NotNull}
+use Rattle.sqlite_schema.specs.declared.schema.Kind.TheVariants as kind
+use Rattle.sqlite_rules.specs.Lists.{Has}
+use Rattle.sqlite_rules.proofs.ListLemmas.{all_has}
+use Rattle.sqlite_sql.specs.declared.ops.CompareOp.TheVariants.{Lt}
+use Rattle.sqlite_sql.specs.Term.{lit, col}
+use Rattle.sqlite.specs.declared.error.Error.{Error}
+use Rattle.sqlite.specs.Effect.{Database}
+use Rattle.sqlite.specs.State.{ExecutesInside, State}
+use Rattle.sql_schema.specs.Schema.{column_of, imported_table, imported_tree}
+use Rattle.sql_rows.specs.Meanings.{cell_of, compared_with, given, passes}
+use Rattle.sql_rows.specs.Ours.{Changes, Gains, IsInside, IsOurs, Loses}
+use Rattle.sql_rows.specs.Slot.{On, imported_slot}
+use Rattle.sql_rows.proofs.CellLemmas.{and_true, below_count, cast_cell, cast_int, cast_null, equal_count, equal_text}
+use Rattle.sql_rows.proofs.SlotLemmas.{gains, is_imported, loses}
+use Rattle.sql_rows.proofs.TypeLemmas.{IsFilled, first_filled, ruled, second_filled}
+use Rattle.sql_rows.proofs.ImportedTexts.{add_is, add_plain, add_text, clear_is, clear_plain, clear_text}
+use Rattle.stored_rows.specs.Cells.{is_below, is_count, is_text}
+use Rattle.stored_rows.specs.Rows.{of_entry}
+
+imported_cells : (db : Database) → IsOurs db → (row : Row) → Has (db.trees imported_tree) row → IsFilled kind.Text (column row 1) × IsFilled kind.Text (column row 2)
+imported_cells db ours row h =
+    let typed = all_has _ (db.trees imported_tree) row (ruled Datatype db ours).1.1.1.1.1.0 h in
+    let present = all_has _ (db.trees imported_tree) row (ruled NotNull db ours).1.1.1.1.1.0 h in
+    let col1 = column_of (codes "calendar") kind.Text true in
+    let col2 = column_of (codes "entry") kind.Text true in
+    (first_filled imported_table (codes "calendar") kind.Text (col2 ∷ []) refl refl db.trees row typed present,
+    second_filled imported_table col1 (codes "entry") kind.Text ([]) refl refl db.trees row typed present)
+
+pub passes_imported : (db : Database) → IsOurs db → (calendar : List ℕ) (entry : List ℕ) → (row : Row) → Has (db.trees imported_tree) row → passes (given 1 0 ∷ given 2 1 ∷ []) (Text calendar ∷ Text entry ∷ []) row ≡ of_entry calendar entry row
+passes_imported db ours calendar entry row h =
+    let cells = imported_cells db ours row h in
+    rw (equal_text calendar (column row 1) cells.0.of cells.0.filled, equal_text entry (column row 2) cells.1.of cells.1.filled, and_true) refl
+
+pub clears : (calendar : List ℕ) (entry : List ℕ) → (old new : State) (result : Result ℕ Error) → IsInside old → ExecutesInside 0 clear_text (Text calendar ∷ Text entry ∷ []) old new result
+    → OnOk result (Changes (On imported_slot (Loses (of_entry calendar entry))) old new)
+clears calendar entry old new result inside h =
+    loses imported_slot is_imported clear_text clear_plain (given 1 0 ∷ given 2 1 ∷ []) (of_entry calendar entry) clear_is
+    (λ a b same. ap (λ l. is_text calendar (column l 0) && is_text entry (column l 1)) same) old new (Text calendar ∷ Text entry ∷ []) result
+    (λ row h. passes_imported old.now inside.ours calendar entry row h) inside h
+
+pub adds : (calendar : List ℕ) (entry : List ℕ) → (old new : State) (result : Result ℕ Error) → IsInside old → ExecutesInside 0 add_text (Text calendar ∷ Text entry ∷ []) old new result
+    → OnOk result (Changes (On imported_slot (Gains (Text calendar ∷ Text entry ∷ []))) old new)
+adds calendar entry old new result inside h =
+    gains imported_slot is_imported add_text add_plain (codes "imported") imported_table.columns imported_table.checks (lit Null ∷ col 0 0 ∷ col 0 1 ∷ []) 3 imported_tree refl add_is
+    old new (Text calendar ∷ Text entry ∷ []) (Text calendar ∷ Text entry ∷ []) result
+    (rw (cast_null) refl) inside h

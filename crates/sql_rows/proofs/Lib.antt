@@ -1,0 +1,17 @@
+pub mod AnswerLemmas
+pub mod CellLemmas
+pub mod CommandLemmas
+pub mod CommandTexts
+pub mod ImportedLemmas
+pub mod ImportedTexts
+pub mod PanelLemmas
+pub mod PanelTexts
+pub mod PlaceLemmas
+pub mod PlaceTexts
+pub mod RowLemmas
+pub mod RunLemmas
+pub mod ShownLemmas
+pub mod ShownTexts
+pub mod SlotLemmas
+pub mod TypeLemmas
+pub mod WriteLemmas

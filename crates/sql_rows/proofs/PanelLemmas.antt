@@ -1,0 +1,49 @@
+-- The statements on the next numbers.
+use Rattle.std.proofs.Common.{◌≡◌, ◌≢◌, ℕ, ℤ, Option, Result, OnOk, pos, Bool, true, false, ◌&&◌, List, [], ◌∷◌, codes, refl, ap}
+use Rattle.sqlite_value.specs.declared.value.Value.TheVariants.{Int, Null, Text}
+use Rattle.sqlite_value.specs.Order.{Row, column}
+use Rattle.sqlite_schema.specs.declared.schema.Constraint.TheVariants.{Datatype, NotNull}
+use Rattle.sqlite_schema.specs.declared.schema.Kind.TheVariants as kind
+use Rattle.sqlite_rules.specs.Lists.{Has}
+use Rattle.sqlite_rules.proofs.ListLemmas.{all_has}
+use Rattle.sqlite_sql.specs.declared.ops.CompareOp.TheVariants.{Lt}
+use Rattle.sqlite_sql.specs.Term.{lit, col}
+use Rattle.sqlite.specs.declared.error.Error.{Error}
+use Rattle.sqlite.specs.Effect.{Database}
+use Rattle.sqlite.specs.State.{ExecutesInside, State}
+use Rattle.sql_schema.specs.Schema.{column_of, panel_table, panel_tree}
+use Rattle.sql_rows.specs.Meanings.{cell_of, compared_with, given, passes}
+use Rattle.sql_rows.specs.Ours.{Changes, Gains, IsInside, IsOurs, Loses}
+use Rattle.sql_rows.specs.Slot.{On, panel_slot}
+use Rattle.sql_rows.proofs.CellLemmas.{and_true, below_count, cast_cell, cast_int, cast_null, equal_count, equal_text}
+use Rattle.sql_rows.proofs.SlotLemmas.{gains, is_panel, loses}
+use Rattle.sql_rows.proofs.TypeLemmas.{IsFilled, first_filled, ruled, second_filled}
+use Rattle.sql_rows.proofs.PanelTexts.{add_is, add_plain, add_text, clear_is, clear_plain, clear_text}
+use Rattle.stored_rows.specs.Cells.{is_below, is_count, is_text}
+use Rattle.stored_rows.specs.Rows.{of_panel}
+
+panel_cells : (db : Database) → IsOurs db → (row : Row) → Has (db.trees panel_tree) row → IsFilled kind.Text (column row 1)
+panel_cells db ours row h =
+    let typed = all_has _ (db.trees panel_tree) row (ruled Datatype db ours).1.0 h in
+    let present = all_has _ (db.trees panel_tree) row (ruled NotNull db ours).1.0 h in
+    let col2 = column_of (codes "next") kind.Integer true in
+    first_filled panel_table (codes "name") kind.Text (col2 ∷ []) refl refl db.trees row typed present
+
+pub passes_panel : (db : Database) → IsOurs db → (panel : List ℕ) → (row : Row) → Has (db.trees panel_tree) row → passes (given 1 0 ∷ []) (Text panel ∷ []) row ≡ of_panel panel row
+passes_panel db ours panel row h =
+    let cell = panel_cells db ours row h in
+    rw (equal_text panel (column row 1) cell.of cell.filled, and_true) refl
+
+pub clears : (panel : List ℕ) → (old new : State) (result : Result ℕ Error) → IsInside old → ExecutesInside 0 clear_text (Text panel ∷ []) old new result
+    → OnOk result (Changes (On panel_slot (Loses (of_panel panel))) old new)
+clears panel old new result inside h =
+    loses panel_slot is_panel clear_text clear_plain (given 1 0 ∷ []) (of_panel panel) clear_is
+    (λ a b same. ap (λ l. is_text panel (column l 0)) same) old new (Text panel ∷ []) result
+    (λ row h. passes_panel old.now inside.ours panel row h) inside h
+
+pub adds : (panel : List ℕ) (next : ℕ) → (old new : State) (result : Result ℕ Error) → IsInside old → ExecutesInside 0 add_text (Text panel ∷ Int (pos next) ∷ []) old new result
+    → OnOk result (Changes (On panel_slot (Gains (Text panel ∷ Int (pos next) ∷ []))) old new)
+adds panel next old new result inside h =
+    gains panel_slot is_panel add_text add_plain (codes "panel") panel_table.columns panel_table.checks (lit Null ∷ col 0 0 ∷ col 0 1 ∷ []) 3 panel_tree refl add_is
+    old new (Text panel ∷ Int (pos next) ∷ []) (Text panel ∷ Int (pos next) ∷ []) result
+    (rw (cast_null, cast_int (pos next)) refl) inside h

@@ -1,0 +1,49 @@
+-- The statements on the shown values.
+use Rattle.std.proofs.Common.{◌≡◌, ◌≢◌, ℕ, ℤ, Option, Result, OnOk, pos, Bool, true, false, ◌&&◌, List, [], ◌∷◌, codes, refl, ap}
+use Rattle.sqlite_value.specs.declared.value.Value.TheVariants.{Int, Null, Text}
+use Rattle.sqlite_value.specs.Order.{Row, column}
+use Rattle.sqlite_schema.specs.declared.schema.Constraint.TheVariants.{Datatype, NotNull}
+use Rattle.sqlite_schema.specs.declared.schema.Kind.TheVariants as kind
+use Rattle.sqlite_rules.specs.Lists.{Has}
+use Rattle.sqlite_rules.proofs.ListLemmas.{all_has}
+use Rattle.sqlite_sql.specs.declared.ops.CompareOp.TheVariants.{Lt}
+use Rattle.sqlite_sql.specs.Term.{lit, col}
+use Rattle.sqlite.specs.declared.error.Error.{Error}
+use Rattle.sqlite.specs.Effect.{Database}
+use Rattle.sqlite.specs.State.{ExecutesInside, State}
+use Rattle.sql_schema.specs.Schema.{column_of, shown_table, shown_tree}
+use Rattle.sql_rows.specs.Meanings.{cell_of, compared_with, given, passes}
+use Rattle.sql_rows.specs.Ours.{Changes, Gains, IsInside, IsOurs, Loses}
+use Rattle.sql_rows.specs.Slot.{On, shown_slot}
+use Rattle.sql_rows.proofs.CellLemmas.{and_true, below_count, cast_cell, cast_int, cast_null, equal_count, equal_text}
+use Rattle.sql_rows.proofs.SlotLemmas.{gains, is_shown, loses}
+use Rattle.sql_rows.proofs.TypeLemmas.{IsFilled, first_filled, ruled, second_filled}
+use Rattle.sql_rows.proofs.ShownTexts.{add_is, add_plain, add_text, clear_is, clear_plain, clear_text}
+use Rattle.stored_rows.specs.Cells.{is_below, is_count, is_text}
+use Rattle.stored_rows.specs.Rows.{of_schedule}
+
+shown_cells : (db : Database) → IsOurs db → (row : Row) → Has (db.trees shown_tree) row → IsFilled kind.Text (column row 1)
+shown_cells db ours row h =
+    let typed = all_has _ (db.trees shown_tree) row (ruled Datatype db ours).1.1.1.1.0 h in
+    let present = all_has _ (db.trees shown_tree) row (ruled NotNull db ours).1.1.1.1.0 h in
+    let col2 = column_of (codes "value") kind.Integer false in
+    first_filled shown_table (codes "schedule") kind.Text (col2 ∷ []) refl refl db.trees row typed present
+
+pub passes_shown : (db : Database) → IsOurs db → (schedule : List ℕ) → (row : Row) → Has (db.trees shown_tree) row → passes (given 1 0 ∷ []) (Text schedule ∷ []) row ≡ of_schedule schedule row
+passes_shown db ours schedule row h =
+    let cell = shown_cells db ours row h in
+    rw (equal_text schedule (column row 1) cell.of cell.filled, and_true) refl
+
+pub clears : (schedule : List ℕ) → (old new : State) (result : Result ℕ Error) → IsInside old → ExecutesInside 0 clear_text (Text schedule ∷ []) old new result
+    → OnOk result (Changes (On shown_slot (Loses (of_schedule schedule))) old new)
+clears schedule old new result inside h =
+    loses shown_slot is_shown clear_text clear_plain (given 1 0 ∷ []) (of_schedule schedule) clear_is
+    (λ a b same. ap (λ l. is_text schedule (column l 0)) same) old new (Text schedule ∷ []) result
+    (λ row h. passes_shown old.now inside.ours schedule row h) inside h
+
+pub adds : (schedule : List ℕ) (value : Option ℤ) → (old new : State) (result : Result ℕ Error) → IsInside old → ExecutesInside 0 add_text (Text schedule ∷ cell_of value ∷ []) old new result
+    → OnOk result (Changes (On shown_slot (Gains (Text schedule ∷ cell_of value ∷ []))) old new)
+adds schedule value old new result inside h =
+    gains shown_slot is_shown add_text add_plain (codes "shown") shown_table.columns shown_table.checks (lit Null ∷ col 0 0 ∷ col 0 1 ∷ []) 3 shown_tree refl add_is
+    old new (Text schedule ∷ cell_of value ∷ []) (Text schedule ∷ cell_of value ∷ []) result
+    (rw (cast_null, cast_cell value) refl) inside h

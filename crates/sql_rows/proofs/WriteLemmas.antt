@@ -1,0 +1,91 @@
+-- What a statement that removes rows of a table, or adds one, makes of the trees.
+use Rattle.std.proofs.Common.{◌≡◌, ◌≢◌, ◌⊎◌, inl, inr, ℕ, ℤ, Bool, true, false, List, length, ◌/◌, [], ◌∷◌, ◌++◌, map, filter, slice_get, Option, Some, None, Ok, Err, Result, refl, sym, ap, subst, ◌∙◌}
+use Rattle.std.specs.List.{AllByRecursion}
+use Rattle.std.specs.List.Sorted.{IsPermutation}
+use Rattle.sqlite_value.specs.Order.{Row}
+use Rattle.sqlite_trees.specs.Tree.{Trees, rowid}
+use Rattle.sqlite_schema.specs.declared.schema.Column.{Column}
+use Rattle.sqlite_schema.specs.declared.schema.Table.{Table}
+use Rattle.sqlite_schema.specs.declared.schema.Keys.TheVariants.{Enforced}
+use Rattle.sqlite_schema.specs.declared.command.Command.TheVariants.{Insert, Delete}
+use Rattle.sqlite_schema.specs.declared.command.Source.TheVariants.{Values}
+use Rattle.sqlite_sql.specs.Term.{Term, col}
+use Rattle.sqlite_rules.specs.declared.error.Rowids.TheVariants.{Chosen, Given}
+use Rattle.sqlite_rules.specs.Action.{works}
+use Rattle.sqlite_rules.specs.Calls.{ids_of}
+use Rattle.sqlite_rules.specs.Edit.{Applies, Edit, edit_of, edited, taken_by, without_all}
+use Rattle.sqlite.specs.declared.error.Error.{Error}
+use Rattle.sqlite.specs.Does.{AtPlace, Does, OnRows, Tally}
+use Rattle.sqlite.specs.Effect.{Database, IsDatabase, value_rows}
+use Rattle.sqlite.specs.Given.{IsPlain}
+use Rattle.sqlite.specs.Listing.{understood}
+use Rattle.sqlite.specs.Rows.{Outcome, Part, Task, Written}
+use Rattle.sqlite.specs.State.{State, mode_of, Writes, Executes}
+use Rattle.sqlite.proofs.Callers.{command_of, one_step, runs_as, statement_of}
+use Rattle.sql_schema.specs.Schema.{desk_schema, keyed_table}
+use Rattle.sql_rows.specs.Meanings.{deletion, passes, plain_query, shows}
+use Rattle.sql_rows.proofs.AnswerLemmas.{plain_program}
+
+-- a part that gave a value did not stop on the way
+went : {B E R : Type 0} {b : B} {Stops : E → Type 0} → ((stop : E) × Stops stop × (Ok b ≡ Err stop)) ⊎ R → R
+went (inl stopped) = absurd (let e = stopped.2 in cc)
+went (inr on) = on
+
+same_value : {B E : Type 0} {a b : B} → ◌≡◌ {A = Result B E} (Ok a) (Ok b) → a ≡ b
+same_value e = cc
+
+at_place : {X A : Type 0} (P : X → Part A) (place : Option X) (x : X) (out : Outcome A) → place ≡ Some x → AtPlace P place out → P x out
+at_place P place x out is h = rw is at h
+
+-- a statement in this text was run
+pub record Ran (old new : State) (edit : Edit) : Type 0 where
+  pub schema : new.now.schema ≡ desk_schema
+  pub sound : IsDatabase new.now
+  pub applies : Applies desk_schema Enforced old.now.trees edit new.now.trees
+
+module _ (sql : List ℕ) (at : ℕ) (table : Table) (found : slice_get desk_schema.tables at ≡ Some table) (plain : IsPlain (understood desk_schema sql)) where
+  pub removes : (tree : ℕ) (terms : List Term) → command_of (understood desk_schema sql) ≡ deletion at tree terms
+      → (old new : State) (params : Row) (count : ℕ) → old.now.schema ≡ desk_schema → Executes sql params old new (Ok count)
+      → (rows : List Row) × IsPermutation (map (λ r. rowid r ∷ []) (filter (passes terms params) (old.now.trees tree))) rows × Ran old new (edit_of old.now.trees table (ids_of rows) Given 0 [])
+  removes tree terms is old new params count has h =
+      let db = old.now.trees in
+      let text = statement_of sql (understood desk_schema sql) in
+      let w = runs_as sql params old new desk_schema has (deletion at tree terms) is plain count h in
+      let on = subst (λ s. Does old.step_limit (mode_of old) params (record old.now { schema = s }) text None (deletion at tree terms) (Ok (w.tally, new.now))) has w.changed in
+      let task : Task = record { limit = old.step_limit; keys = Enforced; schema = desk_schema; table = table; params = params } in
+      let done = went (at_place (λ (t : Table). OnRows (record task { table = t }) (mode_of old) None (deletion at tree terms) db) (slice_get desk_schema.tables at) table (Ok (w.tally, new.now)) found on) in
+      let deleted = went done.1 in
+      let written = went deleted.2 in
+      let concluded = went (went done.2).2 in
+      let now = ap (λ (p : Tally × Database). p.1) (same_value concluded.2) in
+      let left : written.0 ≡ new.now.trees = ap (λ (it : Written). it.trees) (sym (same_value written.2)) ∙ sym (ap (λ (d : Database). d.trees) now) in
+      let edit = edit_of db table (ids_of deleted.0) Given 0 [] in
+      (deleted.0,
+      plain_program tree terms (col 1 0 ∷ []) db params deleted.0 deleted.1.answer,
+      record { schema = ap (λ (d : Database). d.schema) now; sound = w.sound; applies = subst (Applies desk_schema Enforced db edit) left (one_step desk_schema Enforced db written.0 edit refl written.1) })
+
+module _ (sql : List ℕ) (at : ℕ) (name : List ℕ) (tree : ℕ) (columns : List Column) (key : List ℕ) (checks : List Term)
+    (found : slice_get desk_schema.tables at ≡ Some (keyed_table name tree columns key checks)) (plain : IsPlain (understood desk_schema sql)) where
+  -- the row that an INSERT puts into the table, with the rowid that it chose
+  pub adds : (terms : List Term) (width : ℕ) → command_of (understood desk_schema sql) ≡ Insert at (Values terms width)
+      → (old new : State) (params : Row) (count : ℕ) → old.now.schema ≡ desk_schema → Executes sql params old new (Ok count)
+      → Ran old new (edit_of old.now.trees (keyed_table name tree columns key checks) [] Chosen 0 (value_rows (params ++ []) width (length terms / width) terms))
+  adds terms width is old new params count has h =
+      let db = old.now.trees in
+      let table = keyed_table name tree columns key checks in
+      let command = Insert at (Values terms width) in
+      let text = statement_of sql (understood desk_schema sql) in
+      let w = runs_as sql params old new desk_schema has command is plain count h in
+      let on = subst (λ s. Does old.step_limit (mode_of old) params (record old.now { schema = s }) text None command (Ok (w.tally, new.now))) has w.changed in
+      let task : Task = record { limit = old.step_limit; keys = Enforced; schema = desk_schema; table = table; params = params } in
+      let done = went (at_place (λ (t : Table). OnRows (record task { table = t }) (mode_of old) None command db) (slice_get desk_schema.tables at) table (Ok (w.tally, new.now)) found on) in
+      let given = went done.1 in
+      let counted = went given.2 in
+      let written = went counted.2 in
+      let uncounted = went written.2 in
+      let now = ap (λ (p : Tally × Database). p.1) (same_value (went (went done.2).2).2) in
+      let trees : done.0.trees ≡ written.0 = ap (λ (it : Written). it.trees) (same_value uncounted.2) ∙ same_value uncounted.1 in
+      let left : written.0 ≡ new.now.trees = sym trees ∙ sym (ap (λ (d : Database). d.trees) now) in
+      let edit = edit_of db table [] Chosen 0 given.0 in
+      let applied = subst (Applies desk_schema Enforced db edit) left (one_step desk_schema Enforced db written.0 edit refl written.1) in
+      record { schema = ap (λ (d : Database). d.schema) now; sound = w.sound; applies = subst (λ rows. Applies desk_schema Enforced db (edit_of db table [] Chosen 0 rows) new.now.trees) given.1.1 applied }

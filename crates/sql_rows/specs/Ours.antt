@@ -1,0 +1,76 @@
+-- A database of the six tables.
+use Rattle.std.specs.Prelude.{◌≡◌, ℕ, Bool, true, not, filter, IsTrue, List, [], ◌∷◌, ◌++◌, map}
+use Rattle.sqlite_value.specs.declared.value.Value.{Value}
+use Rattle.sqlite_rules.specs.Lists.{Has}
+use Rattle.sqlite_trees.specs.Tree.{Trees, rowid}
+use Rattle.sqlite_trees.specs.View.{is_int}
+use Rattle.sqlite_value.specs.Order.{Row, column}
+use Rattle.sqlite.specs.Effect.{Database, IsDatabase}
+use Rattle.sqlite.specs.State.{Shows, State}
+use Rattle.sql_schema.specs.Schema.{command_tree, desk_schema, desk_tree, imported_tree, panel_tree, place_tree, shown_tree}
+use Rattle.store.specs.Standing.{Content}
+use Rattle.store.specs.Tables.{Tables}
+use Rattle.stored_rows.specs.Stored.{Kept, content_in, is_sound_in, tables_in}
+
+-- the rows of the six tables
+abbrev pub kept_in : Trees → Kept
+kept_in db = record { desk = db desk_tree; panel = db panel_tree; command = db command_tree; place = db place_tree; shown = db shown_tree; imported = db imported_tree }
+
+abbrev pub content_of : Trees → Content
+content_of db = content_in (kept_in db)
+
+-- the rows are numbered, and two that share a number share these columns
+pub record AreOwn (key : List ℕ) (rows : List Row) : Type 0 where
+  pub numbered : (row : Row) → Has rows row → IsTrue (is_int (rowid row))
+  pub apart : (a b : Row) → Has rows a → Has rows b → rowid a ≡ rowid b → map (column a) key ≡ map (column b) key
+
+-- there is one row
+abbrev pub IsOne : List Row → Type 0
+IsOne rows = (row : Row) × (rows ≡ row ∷ [])
+
+-- the rows of the six tables, as a store writes them
+pub record AreOurs (kept : Kept) : Type 0 where
+  pub desk : IsOne kept.desk
+  pub panel : AreOwn (1 ∷ []) kept.panel
+  pub command : AreOwn (1 ∷ 2 ∷ []) kept.command
+  pub place : AreOwn (1 ∷ 2 ∷ []) kept.place
+  pub shown : AreOwn (1 ∷ []) kept.shown
+  pub imported : AreOwn (1 ∷ 2 ∷ []) kept.imported
+
+-- a database with the schema of the six tables, which obeys it
+pub record IsOurs (db : Database) : Type 0 where
+  pub schema_is : db.schema ≡ desk_schema
+  pub sound : IsDatabase db
+  pub rows : AreOurs (kept_in db.trees)
+
+-- in a transaction over the six tables
+pub record IsInside (s : State) : Type 0 where
+  pub in_transaction : IsTrue s.in_transaction
+  pub ours : IsOurs s.now
+
+-- The rows of the six tables were changed in the transaction, and are ours as before.
+pub record Changes (Change : Kept → Kept → Type 0) (old new : State) : Type 0 where
+  pub seen : Shows old new new.now old.committed true
+  pub ours : IsOurs new.now
+  pub change : Change (kept_in old.now.trees) (kept_in new.now.trees)
+
+-- the tables are another function of themselves, and stay sound
+pub record Makes (f : Tables → Tables) (old new : Kept) : Type 0 where
+  pub tables : tables_in new ≡ f (tables_in old)
+  pub is_sound : is_sound_in old ≡ true → is_sound_in new ≡ true
+
+-- there is one more row
+pub record HasOneMore (row : Row) (old now : List Row) : Type 0 where
+  pub before : List Row
+  pub after : List Row
+  pub was : old ≡ before ++ after
+  pub is : now ≡ before ++ row ∷ after
+
+-- the rows that pass are gone
+abbrev pub Loses : (Row → Bool) → List Row → List Row → Type 0
+Loses gone old now = now ≡ filter (λ row. not (gone row)) old
+
+-- there is one more row, with these cells
+pub record Gains (cells : Row) (old now : List Row) : Type 0 where
+  pub id : Value
+  pub more : HasOneMore (id ∷ cells) old now
