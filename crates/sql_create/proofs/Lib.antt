@@ -1,0 +1,3 @@
+pub mod CreateLemmas
+pub mod Indexes
+pub mod Items

@@ -1,4 +1,11 @@
-//! Are the desk's tables in the file, and how are they made there?
+//! Are the desk's six tables in a file, and how are they made there?
+//!
+//! `has_desk_schema` and `has_no_schema` compare the schema that a connection shows with what is written out,
+//! and `make_tables` makes the six tables with their first row in one transaction.
 #![tactic(auto)]
 
-pub mod recognise;
+mod creating;
+mod recognise;
+
+pub use creating::{VERSION, make_tables};
+pub use recognise::{has_desk_schema, has_no_schema};

@@ -1,6 +1,6 @@
 -- What a cell says to a comparison.
 use Rattle.std.proofs.Common.{◌≡◌, ℕ, ℤ, pos, negsuc, Bool, true, false, cond, not, ◌==◌, nat_lt, ◌&&◌, Option, None, Some, List, bytes_eq, refl, sym, ap, ◌∙◌, true≢false}
-use Rattle.std.specs.Ordering.{int_cmp, is_eq, is_lt, nat_cmp}
+use Rattle.std.specs.Ordering.{int_cmp, is_eq, is_ge, is_gt, is_lt, nat_cmp}
 use Rattle.std.specs.declared.cmp.Ordering.TheVariants.{Less, Equal, Greater}
 use Rattle.std.proofs.lemmas.Bool.Decides.{Decides-eqb, Decides-int_eq}
 use Rattle.std.proofs.lemmas.Slice.Eq.{bytes_eq-Decides}
@@ -12,7 +12,7 @@ use Rattle.sqlite_value.specs.declared.value.Value.TheVariants.{Null, Int, Real,
 use Rattle.sqlite_value.specs.Order.{Row, value_cmp}
 use Rattle.sqlite_value.proofs.OrderLemmas.{value_cmp-Int, value_cmp-Text}
 use Rattle.sqlite_sql.specs.declared.ops.BinaryOp.TheVariants.{Compare}
-use Rattle.sqlite_sql.specs.declared.ops.CompareOp.TheVariants.{Eq, Lt}
+use Rattle.sqlite_sql.specs.declared.ops.CompareOp.TheVariants.{Eq, Ge, Gt, Lt}
 use Rattle.sqlite_sql.specs.Ops.{binary, from_truth, is_null, is_true}
 use Rattle.sqlite_schema.specs.declared.schema.Kind.TheVariants as kind
 use Rattle.sqlite_schema.specs.Rules.{is_of}
@@ -20,6 +20,7 @@ use Rattle.sqlite_rules.specs.Cast.{cast}
 use Rattle.sqlite_schema.specs.declared.schema.Kind.TheVariants.{Integer}
 use Rattle.sqlite_sql.specs.Ops.{unary}
 use Rattle.sqlite.specs.Values.{bound_value}
+use Rattle.sql_rows.specs.Looking.{is_after, is_from}
 use Rattle.sql_rows.specs.Meanings.{cell_of}
 use Rattle.stored_rows.specs.Cells.{is_below, is_count, is_text}
 
@@ -95,3 +96,29 @@ and_true false = refl
 pub bound_cell : (n : Option ℤ) → bound_value (cell_of n) ≡ cell_of n
 bound_cell None = refl
 bound_cell (Some n) = refl
+
+is_gt_cond : (b : Bool) → is_gt (cond b Less Equal) ≡ false
+is_gt_cond true = refl
+is_gt_cond false = refl
+
+is_ge_cond : (a b : Bool) → is_ge (cond a Less (cond b Greater Equal)) ≡ not a
+is_ge_cond true b = refl
+is_ge_cond false true = refl
+is_ge_cond false false = refl
+
+pub after_text : (t : List ℕ) (cell : Value) → is_of kind.Text cell ≡ true → is_null cell ≡ false → is_true (binary (Compare Gt Binary) cell (Text t)) ≡ is_after t cell
+unfolding binary
+after_text t Null kind filled = absurd (true≢false filled)
+after_text t (Int n) kind filled = absurd (true≢false (sym kind))
+after_text t (Real x) kind filled = absurd (true≢false (sym kind))
+after_text t (Text s) kind filled = truth_of _ ∙ ap is_gt (value_cmp-Text s t)
+after_text t (Blob b) kind filled = absurd (true≢false (sym kind))
+
+pub from_count : (n : ℕ) (cell : Value) → is_of kind.Integer cell ≡ true → is_null cell ≡ false → is_true (binary (Compare Ge Binary) cell (Int (pos n))) ≡ is_from n cell
+unfolding binary
+from_count n Null kind filled = absurd (true≢false filled)
+from_count n (Int (pos m)) kind filled = truth_of _ ∙ ap is_ge (value_cmp-Int (pos m) (pos n)) ∙ is_ge_cond (nat_lt m n) (nat_lt n m)
+from_count n (Int (negsuc m)) kind filled = truth_of _ ∙ ap is_ge (value_cmp-Int (negsuc m) (pos n))
+from_count n (Real x) kind filled = absurd (true≢false (sym kind))
+from_count n (Text s) kind filled = absurd (true≢false (sym kind))
+from_count n (Blob b) kind filled = absurd (true≢false (sym kind))

@@ -1,24 +1,26 @@
 -- The statements on the commands.
-use Rattle.std.proofs.Common.{◌≡◌, ◌≢◌, ℕ, ℤ, Option, Result, OnOk, pos, Bool, true, false, ◌&&◌, List, [], ◌∷◌, codes, refl, ap}
+use Rattle.std.proofs.Common.{◌≡◌, ◌≢◌, ℕ, ℤ, Option, Result, IfOk, Ok, Err, OnOk, pos, Bool, true, false, ◌&&◌, List, [], ◌∷◌, codes, refl, ap}
 use Rattle.sqlite_value.specs.declared.value.Value.TheVariants.{Int, Null, Text}
 use Rattle.sqlite_value.specs.Order.{Row, column}
 use Rattle.sqlite_schema.specs.declared.schema.Constraint.TheVariants.{Datatype, NotNull}
 use Rattle.sqlite_schema.specs.declared.schema.Kind.TheVariants as kind
 use Rattle.sqlite_rules.specs.Lists.{Has}
 use Rattle.sqlite_rules.proofs.ListLemmas.{all_has}
-use Rattle.sqlite_sql.specs.declared.ops.CompareOp.TheVariants.{Lt}
+use Rattle.sqlite_sql.specs.declared.ops.CompareOp.TheVariants.{Ge, Gt, Lt}
 use Rattle.sqlite_sql.specs.Term.{lit, col}
 use Rattle.sqlite.specs.declared.error.Error.{Error}
 use Rattle.sqlite.specs.Effect.{Database}
-use Rattle.sqlite.specs.State.{ExecutesInside, State}
+use Rattle.sqlite.specs.State.{ExecutesInside, Shown, State}
 use Rattle.sql_schema.specs.Schema.{column_of, command_table, command_tree}
 use Rattle.sql_rows.specs.Meanings.{cell_of, compared_with, given, passes}
 use Rattle.sql_rows.specs.Ours.{Changes, Gains, IsInside, IsOurs, Loses}
 use Rattle.sql_rows.specs.Slot.{On, command_slot}
-use Rattle.sql_rows.proofs.CellLemmas.{and_true, below_count, cast_cell, cast_int, cast_null, equal_count, equal_text}
+use Rattle.sql_rows.proofs.CellLemmas.{after_text, and_true, below_count, cast_cell, cast_int, cast_null, equal_count, equal_text, from_count}
+use Rattle.sql_rows.proofs.RestLemmas.{finds, finds_least, finds_same, least_same}
+use Rattle.sql_rows.specs.Looking.{Finds, FindsLeast, is_after, is_from}
 use Rattle.sql_rows.proofs.SlotLemmas.{gains, is_command, loses}
 use Rattle.sql_rows.proofs.TypeLemmas.{IsFilled, first_filled, ruled, second_filled}
-use Rattle.sql_rows.proofs.CommandTexts.{add_is, add_plain, add_text, clear_is, clear_plain, clear_text, drop_is, drop_plain, drop_text}
+use Rattle.sql_rows.proofs.CommandTexts.{add_is, add_plain, add_text, clear_is, clear_plain, clear_text, drop_is, drop_plain, drop_text, find_is, find_plain, find_text, find_unlisted, next_number_is, next_number_plain, next_number_text, next_number_unlisted, next_panel_is, next_panel_plain, next_panel_text, next_panel_unlisted}
 use Rattle.stored_rows.specs.Cells.{is_below, is_count, is_text}
 use Rattle.stored_rows.specs.Rows.{of_command, of_lower_command}
 
@@ -68,3 +70,36 @@ drops panel number old new result inside h =
     loses command_slot is_command drop_text drop_plain (given 1 0 ∷ compared_with Lt 2 1 ∷ []) (of_lower_command panel number) drop_is
     (λ a b same. ap (λ l. is_text panel (column l 0) && is_below number (column l 1)) same) old new (Text panel ∷ Int (pos number) ∷ []) result
     (λ row h. passes_lower old.now inside.ours panel number row h) inside h
+
+-- the queries
+
+pub find_shown : {V : Type 0} (items : V → List Row) (panel : List ℕ) (number : ℕ) (old new : State) (r : Result V Error) → IsOurs old.now
+    → IfOk r (λ v. Shown find_text (Text panel ∷ Int (pos number) ∷ []) old new (items v)) → IfOk r (λ v. Finds (of_command panel number) (λ row. column row 3 ∷ column row 4 ∷ column row 5 ∷ column row 6 ∷ column row 7 ∷ column row 8 ∷ []) (old.now.trees command_tree) (items v))
+find_shown items panel number old new (Err e) ours shown = tt
+find_shown items panel number old new (Ok v) ours shown =
+    finds_same (passes (given 1 0 ∷ given 2 1 ∷ []) (Text panel ∷ Int (pos number) ∷ [])) (of_command panel number) (λ row. column row 3 ∷ column row 4 ∷ column row 5 ∷ column row 6 ∷ column row 7 ∷ column row 8 ∷ []) (old.now.trees command_tree) (items v) (λ row h. passes_command old.now ours panel number row h)
+    (finds find_text find_plain find_unlisted command_tree (given 1 0 ∷ given 2 1 ∷ []) (col 1 3 ∷ col 1 4 ∷ col 1 5 ∷ col 1 6 ∷ col 1 7 ∷ col 1 8 ∷ []) (codes "point" ∷ codes "priority" ∷ codes "value" ∷ codes "state" ∷ codes "a" ∷ codes "b" ∷ []) find_is old new (Text panel ∷ Int (pos number) ∷ []) (items v) ours.schema_is shown)
+
+passes_next_panel : (db : Database) → IsOurs db → (after : List ℕ) → (row : Row) → Has (db.trees command_tree) row → passes (compared_with Gt 1 0 ∷ []) (Text after ∷ []) row ≡ (is_after after (column row 1))
+passes_next_panel db ours after row h =
+    let cells = command_cells db ours row h in
+    rw (after_text after (column row 1) cells.0.of cells.0.filled, and_true) refl
+
+pub next_panel_shown : {V : Type 0} (items : V → List Row) (after : List ℕ) (old new : State) (r : Result V Error) → IsOurs old.now
+    → IfOk r (λ v. Shown next_panel_text (Text after ∷ []) old new (items v)) → IfOk r (λ v. FindsLeast (λ row. is_after after (column row 1)) 1 (old.now.trees command_tree) (items v))
+next_panel_shown items after old new (Err e) ours shown = tt
+next_panel_shown items after old new (Ok v) ours shown =
+    least_same (passes (compared_with Gt 1 0 ∷ []) (Text after ∷ [])) (λ row. is_after after (column row 1)) 1 (old.now.trees command_tree) (items v) (λ row h. passes_next_panel old.now ours after row h)
+    (finds_least next_panel_text next_panel_plain next_panel_unlisted command_tree (compared_with Gt 1 0 ∷ []) 1 (codes "panel" ∷ []) next_panel_is old new (Text after ∷ []) (items v) ours.schema_is shown)
+
+passes_next_number : (db : Database) → IsOurs db → (panel : List ℕ) (from : ℕ) → (row : Row) → Has (db.trees command_tree) row → passes (given 1 0 ∷ compared_with Ge 2 1 ∷ []) (Text panel ∷ Int (pos from) ∷ []) row ≡ (is_text panel (column row 1) && is_from from (column row 2))
+passes_next_number db ours panel from row h =
+    let cells = command_cells db ours row h in
+    rw (equal_text panel (column row 1) cells.0.of cells.0.filled, from_count from (column row 2) cells.1.of cells.1.filled, and_true) refl
+
+pub next_number_shown : {V : Type 0} (items : V → List Row) (panel : List ℕ) (from : ℕ) (old new : State) (r : Result V Error) → IsOurs old.now
+    → IfOk r (λ v. Shown next_number_text (Text panel ∷ Int (pos from) ∷ []) old new (items v)) → IfOk r (λ v. FindsLeast (λ row. is_text panel (column row 1) && is_from from (column row 2)) 2 (old.now.trees command_tree) (items v))
+next_number_shown items panel from old new (Err e) ours shown = tt
+next_number_shown items panel from old new (Ok v) ours shown =
+    least_same (passes (given 1 0 ∷ compared_with Ge 2 1 ∷ []) (Text panel ∷ Int (pos from) ∷ [])) (λ row. is_text panel (column row 1) && is_from from (column row 2)) 2 (old.now.trees command_tree) (items v) (λ row h. passes_next_number old.now ours panel from row h)
+    (finds_least next_number_text next_number_plain next_number_unlisted command_tree (given 1 0 ∷ compared_with Ge 2 1 ∷ []) 2 (codes "number" ∷ []) next_number_is old new (Text panel ∷ Int (pos from) ∷ []) (items v) ours.schema_is shown)

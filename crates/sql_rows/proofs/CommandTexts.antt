@@ -1,16 +1,16 @@
 -- What the statements on the commands mean.
-use Rattle.std.proofs.Common.{◌≡◌, ℕ, List, [], ◌∷◌, codes, refl}
+use Rattle.std.proofs.Common.{◌≡◌, ℕ, false, List, [], ◌∷◌, codes, refl}
 use Rattle.sqlite_value.specs.declared.value.Value.TheVariants.{Null}
 use Rattle.sqlite_schema.specs.declared.command.Command.TheVariants.{Insert}
 use Rattle.sqlite_schema.specs.declared.command.Source.TheVariants.{Values}
-use Rattle.sqlite_sql.specs.declared.ops.CompareOp.TheVariants.{Lt}
+use Rattle.sqlite_sql.specs.declared.ops.CompareOp.TheVariants.{Ge, Gt, Lt}
 use Rattle.sqlite_sql.specs.Term.{lit, col}
 use Rattle.sqlite.specs.Given.{IsPlain}
-use Rattle.sqlite.specs.Listing.{understood}
+use Rattle.sqlite.specs.Listing.{reads_listing, understood}
 use Rattle.sqlite.proofs.Callers.{command_of}
 use Rattle.sqlite_tied.specs.Compute.{everything}
 use Rattle.sql_schema.specs.Schema.{desk_schema, command_tree}
-use Rattle.sql_rows.specs.Meanings.{compared_with, deletion, given}
+use Rattle.sql_rows.specs.Meanings.{compared_with, deletion, given, least, selection}
 
 abbrev pub clear_text : List ℕ
 clear_text = codes "DELETE FROM command WHERE panel = ?1 AND number = ?2"
@@ -44,3 +44,50 @@ drop_is = refl
 pub drop_plain : IsPlain (understood desk_schema drop_text)
 unfolding understood everything
 drop_plain = (refl, refl)
+
+-- the queries
+
+abbrev pub find_text : List ℕ
+find_text = codes "SELECT point, priority, value, state, a, b FROM command WHERE panel = ?1 AND number = ?2"
+
+pub find_is : command_of (understood desk_schema find_text) ≡ selection command_tree (given 1 0 ∷ given 2 1 ∷ []) (col 1 3 ∷ col 1 4 ∷ col 1 5 ∷ col 1 6 ∷ col 1 7 ∷ col 1 8 ∷ []) (codes "point" ∷ codes "priority" ∷ codes "value" ∷ codes "state" ∷ codes "a" ∷ codes "b" ∷ [])
+unfolding understood everything
+find_is = refl
+
+pub find_plain : IsPlain (understood desk_schema find_text)
+unfolding understood everything
+find_plain = (refl, refl)
+
+pub find_unlisted : reads_listing desk_schema find_text ≡ false
+unfolding everything
+find_unlisted = refl
+
+abbrev pub next_panel_text : List ℕ
+next_panel_text = codes "SELECT panel FROM command WHERE panel > ?1 ORDER BY panel LIMIT 1"
+
+pub next_panel_is : command_of (understood desk_schema next_panel_text) ≡ least command_tree (compared_with Gt 1 0 ∷ []) 1 (codes "panel" ∷ [])
+unfolding understood everything
+next_panel_is = refl
+
+pub next_panel_plain : IsPlain (understood desk_schema next_panel_text)
+unfolding understood everything
+next_panel_plain = (refl, refl)
+
+pub next_panel_unlisted : reads_listing desk_schema next_panel_text ≡ false
+unfolding everything
+next_panel_unlisted = refl
+
+abbrev pub next_number_text : List ℕ
+next_number_text = codes "SELECT number FROM command WHERE panel = ?1 AND number >= ?2 ORDER BY number LIMIT 1"
+
+pub next_number_is : command_of (understood desk_schema next_number_text) ≡ least command_tree (given 1 0 ∷ compared_with Ge 2 1 ∷ []) 2 (codes "number" ∷ [])
+unfolding understood everything
+next_number_is = refl
+
+pub next_number_plain : IsPlain (understood desk_schema next_number_text)
+unfolding understood everything
+next_number_plain = (refl, refl)
+
+pub next_number_unlisted : reads_listing desk_schema next_number_text ≡ false
+unfolding everything
+next_number_unlisted = refl

@@ -1,24 +1,26 @@
 -- The statements on the imported entries.
-use Rattle.std.proofs.Common.{◌≡◌, ◌≢◌, ℕ, ℤ, Option, Result, OnOk, pos, Bool, true, false, ◌&&◌, List, [], ◌∷◌, codes, refl, ap}
+use Rattle.std.proofs.Common.{◌≡◌, ◌≢◌, ℕ, ℤ, Option, Result, IfOk, Ok, Err, OnOk, pos, Bool, true, false, ◌&&◌, List, [], ◌∷◌, codes, refl, ap}
 use Rattle.sqlite_value.specs.declared.value.Value.TheVariants.{Int, Null, Text}
 use Rattle.sqlite_value.specs.Order.{Row, column}
 use Rattle.sqlite_schema.specs.declared.schema.Constraint.TheVariants.{Datatype, NotNull}
 use Rattle.sqlite_schema.specs.declared.schema.Kind.TheVariants as kind
 use Rattle.sqlite_rules.specs.Lists.{Has}
 use Rattle.sqlite_rules.proofs.ListLemmas.{all_has}
-use Rattle.sqlite_sql.specs.declared.ops.CompareOp.TheVariants.{Lt}
+use Rattle.sqlite_sql.specs.declared.ops.CompareOp.TheVariants.{Ge, Gt, Lt}
 use Rattle.sqlite_sql.specs.Term.{lit, col}
 use Rattle.sqlite.specs.declared.error.Error.{Error}
 use Rattle.sqlite.specs.Effect.{Database}
-use Rattle.sqlite.specs.State.{ExecutesInside, State}
+use Rattle.sqlite.specs.State.{ExecutesInside, Shown, State}
 use Rattle.sql_schema.specs.Schema.{column_of, imported_table, imported_tree}
 use Rattle.sql_rows.specs.Meanings.{cell_of, compared_with, given, passes}
 use Rattle.sql_rows.specs.Ours.{Changes, Gains, IsInside, IsOurs, Loses}
 use Rattle.sql_rows.specs.Slot.{On, imported_slot}
-use Rattle.sql_rows.proofs.CellLemmas.{and_true, below_count, cast_cell, cast_int, cast_null, equal_count, equal_text}
+use Rattle.sql_rows.proofs.CellLemmas.{after_text, and_true, below_count, cast_cell, cast_int, cast_null, equal_count, equal_text, from_count}
+use Rattle.sql_rows.proofs.RestLemmas.{finds, finds_least, finds_same, least_same}
+use Rattle.sql_rows.specs.Looking.{Finds, FindsLeast, is_after, is_from}
 use Rattle.sql_rows.proofs.SlotLemmas.{gains, is_imported, loses}
 use Rattle.sql_rows.proofs.TypeLemmas.{IsFilled, first_filled, ruled, second_filled}
-use Rattle.sql_rows.proofs.ImportedTexts.{add_is, add_plain, add_text, clear_is, clear_plain, clear_text}
+use Rattle.sql_rows.proofs.ImportedTexts.{add_is, add_plain, add_text, clear_is, clear_plain, clear_text, next_entry_is, next_entry_plain, next_entry_text, next_entry_unlisted, next_name_is, next_name_plain, next_name_text, next_name_unlisted}
 use Rattle.stored_rows.specs.Cells.{is_below, is_count, is_text}
 use Rattle.stored_rows.specs.Rows.{of_entry}
 
@@ -49,3 +51,29 @@ adds calendar entry old new result inside h =
     gains imported_slot is_imported add_text add_plain (codes "imported") imported_table.columns imported_table.checks (lit Null ∷ col 0 0 ∷ col 0 1 ∷ []) 3 imported_tree refl add_is
     old new (Text calendar ∷ Text entry ∷ []) (Text calendar ∷ Text entry ∷ []) result
     (rw (cast_null) refl) inside h
+
+-- the queries
+
+passes_next_name : (db : Database) → IsOurs db → (after : List ℕ) → (row : Row) → Has (db.trees imported_tree) row → passes (compared_with Gt 1 0 ∷ []) (Text after ∷ []) row ≡ (is_after after (column row 1))
+passes_next_name db ours after row h =
+    let cells = imported_cells db ours row h in
+    rw (after_text after (column row 1) cells.0.of cells.0.filled, and_true) refl
+
+pub next_name_shown : {V : Type 0} (items : V → List Row) (after : List ℕ) (old new : State) (r : Result V Error) → IsOurs old.now
+    → IfOk r (λ v. Shown next_name_text (Text after ∷ []) old new (items v)) → IfOk r (λ v. FindsLeast (λ row. is_after after (column row 1)) 1 (old.now.trees imported_tree) (items v))
+next_name_shown items after old new (Err e) ours shown = tt
+next_name_shown items after old new (Ok v) ours shown =
+    least_same (passes (compared_with Gt 1 0 ∷ []) (Text after ∷ [])) (λ row. is_after after (column row 1)) 1 (old.now.trees imported_tree) (items v) (λ row h. passes_next_name old.now ours after row h)
+    (finds_least next_name_text next_name_plain next_name_unlisted imported_tree (compared_with Gt 1 0 ∷ []) 1 (codes "calendar" ∷ []) next_name_is old new (Text after ∷ []) (items v) ours.schema_is shown)
+
+passes_next_entry : (db : Database) → IsOurs db → (calendar : List ℕ) (after : List ℕ) → (row : Row) → Has (db.trees imported_tree) row → passes (given 1 0 ∷ compared_with Gt 2 1 ∷ []) (Text calendar ∷ Text after ∷ []) row ≡ (is_text calendar (column row 1) && is_after after (column row 2))
+passes_next_entry db ours calendar after row h =
+    let cells = imported_cells db ours row h in
+    rw (equal_text calendar (column row 1) cells.0.of cells.0.filled, after_text after (column row 2) cells.1.of cells.1.filled, and_true) refl
+
+pub next_entry_shown : {V : Type 0} (items : V → List Row) (calendar : List ℕ) (after : List ℕ) (old new : State) (r : Result V Error) → IsOurs old.now
+    → IfOk r (λ v. Shown next_entry_text (Text calendar ∷ Text after ∷ []) old new (items v)) → IfOk r (λ v. FindsLeast (λ row. is_text calendar (column row 1) && is_after after (column row 2)) 2 (old.now.trees imported_tree) (items v))
+next_entry_shown items calendar after old new (Err e) ours shown = tt
+next_entry_shown items calendar after old new (Ok v) ours shown =
+    least_same (passes (given 1 0 ∷ compared_with Gt 2 1 ∷ []) (Text calendar ∷ Text after ∷ [])) (λ row. is_text calendar (column row 1) && is_after after (column row 2)) 2 (old.now.trees imported_tree) (items v) (λ row h. passes_next_entry old.now ours calendar after row h)
+    (finds_least next_entry_text next_entry_plain next_entry_unlisted imported_tree (given 1 0 ∷ compared_with Gt 2 1 ∷ []) 2 (codes "entry" ∷ []) next_entry_is old new (Text calendar ∷ Text after ∷ []) (items v) ours.schema_is shown)

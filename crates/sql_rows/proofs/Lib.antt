@@ -2,12 +2,15 @@ pub mod AnswerLemmas
 pub mod CellLemmas
 pub mod CommandLemmas
 pub mod CommandTexts
+pub mod DeskTexts
 pub mod ImportedLemmas
 pub mod ImportedTexts
+pub mod LeastLemmas
 pub mod PanelLemmas
 pub mod PanelTexts
 pub mod PlaceLemmas
 pub mod PlaceTexts
+pub mod RestLemmas
 pub mod RowLemmas
 pub mod RunLemmas
 pub mod ShownLemmas

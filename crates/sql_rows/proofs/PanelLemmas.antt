@@ -1,24 +1,26 @@
 -- The statements on the next numbers.
-use Rattle.std.proofs.Common.{◌≡◌, ◌≢◌, ℕ, ℤ, Option, Result, OnOk, pos, Bool, true, false, ◌&&◌, List, [], ◌∷◌, codes, refl, ap}
+use Rattle.std.proofs.Common.{◌≡◌, ◌≢◌, ℕ, ℤ, Option, Result, IfOk, Ok, Err, OnOk, pos, Bool, true, false, ◌&&◌, List, [], ◌∷◌, codes, refl, ap}
 use Rattle.sqlite_value.specs.declared.value.Value.TheVariants.{Int, Null, Text}
 use Rattle.sqlite_value.specs.Order.{Row, column}
 use Rattle.sqlite_schema.specs.declared.schema.Constraint.TheVariants.{Datatype, NotNull}
 use Rattle.sqlite_schema.specs.declared.schema.Kind.TheVariants as kind
 use Rattle.sqlite_rules.specs.Lists.{Has}
 use Rattle.sqlite_rules.proofs.ListLemmas.{all_has}
-use Rattle.sqlite_sql.specs.declared.ops.CompareOp.TheVariants.{Lt}
+use Rattle.sqlite_sql.specs.declared.ops.CompareOp.TheVariants.{Ge, Gt, Lt}
 use Rattle.sqlite_sql.specs.Term.{lit, col}
 use Rattle.sqlite.specs.declared.error.Error.{Error}
 use Rattle.sqlite.specs.Effect.{Database}
-use Rattle.sqlite.specs.State.{ExecutesInside, State}
+use Rattle.sqlite.specs.State.{ExecutesInside, Shown, State}
 use Rattle.sql_schema.specs.Schema.{column_of, panel_table, panel_tree}
 use Rattle.sql_rows.specs.Meanings.{cell_of, compared_with, given, passes}
 use Rattle.sql_rows.specs.Ours.{Changes, Gains, IsInside, IsOurs, Loses}
 use Rattle.sql_rows.specs.Slot.{On, panel_slot}
-use Rattle.sql_rows.proofs.CellLemmas.{and_true, below_count, cast_cell, cast_int, cast_null, equal_count, equal_text}
+use Rattle.sql_rows.proofs.CellLemmas.{after_text, and_true, below_count, cast_cell, cast_int, cast_null, equal_count, equal_text, from_count}
+use Rattle.sql_rows.proofs.RestLemmas.{finds, finds_least, finds_same, least_same}
+use Rattle.sql_rows.specs.Looking.{Finds, FindsLeast, is_after, is_from}
 use Rattle.sql_rows.proofs.SlotLemmas.{gains, is_panel, loses}
 use Rattle.sql_rows.proofs.TypeLemmas.{IsFilled, first_filled, ruled, second_filled}
-use Rattle.sql_rows.proofs.PanelTexts.{add_is, add_plain, add_text, clear_is, clear_plain, clear_text}
+use Rattle.sql_rows.proofs.PanelTexts.{add_is, add_plain, add_text, clear_is, clear_plain, clear_text, find_is, find_plain, find_text, find_unlisted, next_name_is, next_name_plain, next_name_text, next_name_unlisted}
 use Rattle.stored_rows.specs.Cells.{is_below, is_count, is_text}
 use Rattle.stored_rows.specs.Rows.{of_panel}
 
@@ -47,3 +49,24 @@ adds panel next old new result inside h =
     gains panel_slot is_panel add_text add_plain (codes "panel") panel_table.columns panel_table.checks (lit Null ∷ col 0 0 ∷ col 0 1 ∷ []) 3 panel_tree refl add_is
     old new (Text panel ∷ Int (pos next) ∷ []) (Text panel ∷ Int (pos next) ∷ []) result
     (rw (cast_null, cast_int (pos next)) refl) inside h
+
+-- the queries
+
+pub find_shown : {V : Type 0} (items : V → List Row) (panel : List ℕ) (old new : State) (r : Result V Error) → IsOurs old.now
+    → IfOk r (λ v. Shown find_text (Text panel ∷ []) old new (items v)) → IfOk r (λ v. Finds (of_panel panel) (λ row. column row 2 ∷ []) (old.now.trees panel_tree) (items v))
+find_shown items panel old new (Err e) ours shown = tt
+find_shown items panel old new (Ok v) ours shown =
+    finds_same (passes (given 1 0 ∷ []) (Text panel ∷ [])) (of_panel panel) (λ row. column row 2 ∷ []) (old.now.trees panel_tree) (items v) (λ row h. passes_panel old.now ours panel row h)
+    (finds find_text find_plain find_unlisted panel_tree (given 1 0 ∷ []) (col 1 2 ∷ []) (codes "next" ∷ []) find_is old new (Text panel ∷ []) (items v) ours.schema_is shown)
+
+passes_next_name : (db : Database) → IsOurs db → (after : List ℕ) → (row : Row) → Has (db.trees panel_tree) row → passes (compared_with Gt 1 0 ∷ []) (Text after ∷ []) row ≡ (is_after after (column row 1))
+passes_next_name db ours after row h =
+    let cell = panel_cells db ours row h in
+    rw (after_text after (column row 1) cell.of cell.filled, and_true) refl
+
+pub next_name_shown : {V : Type 0} (items : V → List Row) (after : List ℕ) (old new : State) (r : Result V Error) → IsOurs old.now
+    → IfOk r (λ v. Shown next_name_text (Text after ∷ []) old new (items v)) → IfOk r (λ v. FindsLeast (λ row. is_after after (column row 1)) 1 (old.now.trees panel_tree) (items v))
+next_name_shown items after old new (Err e) ours shown = tt
+next_name_shown items after old new (Ok v) ours shown =
+    least_same (passes (compared_with Gt 1 0 ∷ []) (Text after ∷ [])) (λ row. is_after after (column row 1)) 1 (old.now.trees panel_tree) (items v) (λ row h. passes_next_name old.now ours after row h)
+    (finds_least next_name_text next_name_plain next_name_unlisted panel_tree (compared_with Gt 1 0 ∷ []) 1 (codes "name" ∷ []) next_name_is old new (Text after ∷ []) (items v) ours.schema_is shown)

@@ -1,16 +1,16 @@
 -- What the statements on the next numbers mean.
-use Rattle.std.proofs.Common.{◌≡◌, ℕ, List, [], ◌∷◌, codes, refl}
+use Rattle.std.proofs.Common.{◌≡◌, ℕ, false, List, [], ◌∷◌, codes, refl}
 use Rattle.sqlite_value.specs.declared.value.Value.TheVariants.{Null}
 use Rattle.sqlite_schema.specs.declared.command.Command.TheVariants.{Insert}
 use Rattle.sqlite_schema.specs.declared.command.Source.TheVariants.{Values}
-use Rattle.sqlite_sql.specs.declared.ops.CompareOp.TheVariants.{Lt}
+use Rattle.sqlite_sql.specs.declared.ops.CompareOp.TheVariants.{Ge, Gt, Lt}
 use Rattle.sqlite_sql.specs.Term.{lit, col}
 use Rattle.sqlite.specs.Given.{IsPlain}
-use Rattle.sqlite.specs.Listing.{understood}
+use Rattle.sqlite.specs.Listing.{reads_listing, understood}
 use Rattle.sqlite.proofs.Callers.{command_of}
 use Rattle.sqlite_tied.specs.Compute.{everything}
 use Rattle.sql_schema.specs.Schema.{desk_schema, panel_tree}
-use Rattle.sql_rows.specs.Meanings.{compared_with, deletion, given}
+use Rattle.sql_rows.specs.Meanings.{compared_with, deletion, given, least, selection}
 
 abbrev pub clear_text : List ℕ
 clear_text = codes "DELETE FROM panel WHERE name = ?1"
@@ -33,3 +33,35 @@ add_is = refl
 pub add_plain : IsPlain (understood desk_schema add_text)
 unfolding understood everything
 add_plain = (refl, refl)
+
+-- the queries
+
+abbrev pub find_text : List ℕ
+find_text = codes "SELECT next FROM panel WHERE name = ?1"
+
+pub find_is : command_of (understood desk_schema find_text) ≡ selection panel_tree (given 1 0 ∷ []) (col 1 2 ∷ []) (codes "next" ∷ [])
+unfolding understood everything
+find_is = refl
+
+pub find_plain : IsPlain (understood desk_schema find_text)
+unfolding understood everything
+find_plain = (refl, refl)
+
+pub find_unlisted : reads_listing desk_schema find_text ≡ false
+unfolding everything
+find_unlisted = refl
+
+abbrev pub next_name_text : List ℕ
+next_name_text = codes "SELECT name FROM panel WHERE name > ?1 ORDER BY name LIMIT 1"
+
+pub next_name_is : command_of (understood desk_schema next_name_text) ≡ least panel_tree (compared_with Gt 1 0 ∷ []) 1 (codes "name" ∷ [])
+unfolding understood everything
+next_name_is = refl
+
+pub next_name_plain : IsPlain (understood desk_schema next_name_text)
+unfolding understood everything
+next_name_plain = (refl, refl)
+
+pub next_name_unlisted : reads_listing desk_schema next_name_text ≡ false
+unfolding everything
+next_name_unlisted = refl

@@ -1,5 +1,5 @@
 -- The statements on the places.
-use Rattle.std.proofs.Common.{◌≡◌, ◌≢◌, ℕ, ℤ, Result, OnOk, pos, Bool, true, false, ◌&&◌, List, [], ◌∷◌, filter, map, codes, Some, Ok, refl, sym, ap, subst, ◌∙◌, arith}
+use Rattle.std.proofs.Common.{◌≡◌, ◌≢◌, ℕ, ℤ, Result, IfOk, Ok, Err, OnOk, pos, Bool, true, false, ◌&&◌, List, [], ◌∷◌, filter, map, codes, Some, refl, sym, ap, subst, ◌∙◌, arith}
 use Rattle.std.specs.List.Sorted.{IsPermutation}
 use Rattle.sqlite_value.specs.declared.value.Value.TheVariants.{Int, Null, Text}
 use Rattle.sqlite_value.specs.Order.{Row, column}
@@ -10,17 +10,20 @@ use Rattle.sqlite_rules.proofs.ListLemmas.{all_has}
 use Rattle.sqlite_trees.specs.Tree.{rowid}
 use Rattle.sqlite.specs.Effect.{Database}
 use Rattle.sql_schema.specs.Schema.{column_of, desk_schema, place_table, place_tree}
-use Rattle.sql_rows.specs.Meanings.{given, passes}
+use Rattle.sql_rows.specs.Meanings.{cell_of, compared_with, given, passes}
 use Rattle.sql_rows.specs.Ours.{IsOurs}
-use Rattle.sql_rows.proofs.CellLemmas.{equal_count, equal_text}
+use Rattle.sql_rows.proofs.CellLemmas.{after_text, and_true, below_count, cast_cell, cast_int, cast_null, equal_count, equal_text, from_count}
 use Rattle.sql_rows.proofs.TypeLemmas.{IsFilled, first_filled, ruled, second_filled}
+use Rattle.sqlite_sql.specs.declared.ops.CompareOp.TheVariants.{Ge, Gt, Lt}
 use Rattle.sqlite_sql.specs.Term.{lit, col}
 use Rattle.sqlite.specs.declared.error.Error.{Error}
-use Rattle.sqlite.specs.State.{ExecutesInside, State}
+use Rattle.sqlite.specs.State.{ExecutesInside, Shown, State}
 use Rattle.sql_rows.specs.Ours.{Changes, Gains, IsInside, Loses}
 use Rattle.sql_rows.specs.Slot.{On, place_slot}
-use Rattle.sql_rows.proofs.CellLemmas.{cast_int, cast_null}
-use Rattle.sql_rows.proofs.PlaceTexts.{add_is, add_plain, add_text, clear_is, clear_plain, clear_text}
+use Rattle.sql_rows.proofs.CellLemmas.{after_text, and_true, below_count, cast_cell, cast_int, cast_null, equal_count, equal_text, from_count}
+use Rattle.sql_rows.proofs.PlaceTexts.{add_is, add_plain, add_text, clear_is, clear_plain, clear_text, find_is, find_plain, find_text, find_unlisted, next_point_is, next_point_plain, next_point_text, next_point_unlisted, next_priority_is, next_priority_plain, next_priority_text, next_priority_unlisted}
+use Rattle.sql_rows.proofs.RestLemmas.{finds, finds_least, finds_same, least_same}
+use Rattle.sql_rows.specs.Looking.{Finds, FindsLeast, is_after, is_from}
 use Rattle.sql_rows.proofs.SlotLemmas.{gains, is_place, loses}
 use Rattle.stored_rows.specs.Cells.{is_count, is_text}
 use Rattle.stored_rows.specs.Rows.{of_place}
@@ -34,10 +37,6 @@ place_cells db ours row h =
     let point = column_of (codes "point") kind.Text true in
     (first_filled place_table (codes "point") kind.Text (priority ∷ value ∷ []) refl refl db.trees row typed present,
     second_filled place_table point (codes "priority") kind.Integer (value ∷ []) refl refl db.trees row typed present)
-
-and_true : (b : Bool) → (b && true) ≡ b
-and_true true = refl
-and_true false = refl
 
 pub passes_place : (db : Database) → IsOurs db → (point : List ℕ) (priority : ℕ) (row : Row) → Has (db.trees place_tree) row
     → passes (given 1 0 ∷ given 2 1 ∷ []) (Text point ∷ Int (pos priority) ∷ []) row ≡ of_place point priority row
@@ -58,3 +57,36 @@ adds point priority value old new result inside h =
     gains place_slot is_place add_text add_plain (codes "place") place_table.columns place_table.checks (lit Null ∷ col 0 0 ∷ col 0 1 ∷ col 0 2 ∷ []) 4 place_tree refl add_is
     old new (Text point ∷ Int (pos priority) ∷ Int value ∷ []) (Text point ∷ Int (pos priority) ∷ Int value ∷ []) result
     (rw (cast_null, cast_int (pos priority), cast_int value) refl) inside h
+
+-- the queries
+
+pub find_shown : {V : Type 0} (items : V → List Row) (point : List ℕ) (priority : ℕ) (old new : State) (r : Result V Error) → IsOurs old.now
+    → IfOk r (λ v. Shown find_text (Text point ∷ Int (pos priority) ∷ []) old new (items v)) → IfOk r (λ v. Finds (of_place point priority) (λ row. column row 3 ∷ []) (old.now.trees place_tree) (items v))
+find_shown items point priority old new (Err e) ours shown = tt
+find_shown items point priority old new (Ok v) ours shown =
+    finds_same (passes (given 1 0 ∷ given 2 1 ∷ []) (Text point ∷ Int (pos priority) ∷ [])) (of_place point priority) (λ row. column row 3 ∷ []) (old.now.trees place_tree) (items v) (λ row h. passes_place old.now ours point priority row h)
+    (finds find_text find_plain find_unlisted place_tree (given 1 0 ∷ given 2 1 ∷ []) (col 1 3 ∷ []) (codes "value" ∷ []) find_is old new (Text point ∷ Int (pos priority) ∷ []) (items v) ours.schema_is shown)
+
+passes_next_point : (db : Database) → IsOurs db → (after : List ℕ) → (row : Row) → Has (db.trees place_tree) row → passes (compared_with Gt 1 0 ∷ []) (Text after ∷ []) row ≡ (is_after after (column row 1))
+passes_next_point db ours after row h =
+    let cells = place_cells db ours row h in
+    rw (after_text after (column row 1) cells.0.of cells.0.filled, and_true) refl
+
+pub next_point_shown : {V : Type 0} (items : V → List Row) (after : List ℕ) (old new : State) (r : Result V Error) → IsOurs old.now
+    → IfOk r (λ v. Shown next_point_text (Text after ∷ []) old new (items v)) → IfOk r (λ v. FindsLeast (λ row. is_after after (column row 1)) 1 (old.now.trees place_tree) (items v))
+next_point_shown items after old new (Err e) ours shown = tt
+next_point_shown items after old new (Ok v) ours shown =
+    least_same (passes (compared_with Gt 1 0 ∷ []) (Text after ∷ [])) (λ row. is_after after (column row 1)) 1 (old.now.trees place_tree) (items v) (λ row h. passes_next_point old.now ours after row h)
+    (finds_least next_point_text next_point_plain next_point_unlisted place_tree (compared_with Gt 1 0 ∷ []) 1 (codes "point" ∷ []) next_point_is old new (Text after ∷ []) (items v) ours.schema_is shown)
+
+passes_next_priority : (db : Database) → IsOurs db → (point : List ℕ) (from : ℕ) → (row : Row) → Has (db.trees place_tree) row → passes (given 1 0 ∷ compared_with Ge 2 1 ∷ []) (Text point ∷ Int (pos from) ∷ []) row ≡ (is_text point (column row 1) && is_from from (column row 2))
+passes_next_priority db ours point from row h =
+    let cells = place_cells db ours row h in
+    rw (equal_text point (column row 1) cells.0.of cells.0.filled, from_count from (column row 2) cells.1.of cells.1.filled, and_true) refl
+
+pub next_priority_shown : {V : Type 0} (items : V → List Row) (point : List ℕ) (from : ℕ) (old new : State) (r : Result V Error) → IsOurs old.now
+    → IfOk r (λ v. Shown next_priority_text (Text point ∷ Int (pos from) ∷ []) old new (items v)) → IfOk r (λ v. FindsLeast (λ row. is_text point (column row 1) && is_from from (column row 2)) 2 (old.now.trees place_tree) (items v))
+next_priority_shown items point from old new (Err e) ours shown = tt
+next_priority_shown items point from old new (Ok v) ours shown =
+    least_same (passes (given 1 0 ∷ compared_with Ge 2 1 ∷ []) (Text point ∷ Int (pos from) ∷ [])) (λ row. is_text point (column row 1) && is_from from (column row 2)) 2 (old.now.trees place_tree) (items v) (λ row h. passes_next_priority old.now ours point from row h)
+    (finds_least next_priority_text next_priority_plain next_priority_unlisted place_tree (given 1 0 ∷ compared_with Ge 2 1 ∷ []) 2 (codes "priority" ∷ []) next_priority_is old new (Text point ∷ Int (pos from) ∷ []) (items v) ours.schema_is shown)

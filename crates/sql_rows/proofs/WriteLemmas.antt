@@ -7,7 +7,7 @@ use Rattle.sqlite_trees.specs.Tree.{Trees, rowid}
 use Rattle.sqlite_schema.specs.declared.schema.Column.{Column}
 use Rattle.sqlite_schema.specs.declared.schema.Table.{Table}
 use Rattle.sqlite_schema.specs.declared.schema.Keys.TheVariants.{Enforced}
-use Rattle.sqlite_schema.specs.declared.command.Command.TheVariants.{Insert, Delete}
+use Rattle.sqlite_schema.specs.declared.command.Command.TheVariants.{Delete, Insert, Update}
 use Rattle.sqlite_schema.specs.declared.command.Source.TheVariants.{Values}
 use Rattle.sqlite_sql.specs.Term.{Term, col}
 use Rattle.sqlite_rules.specs.declared.error.Rowids.TheVariants.{Chosen, Given}
@@ -62,6 +62,27 @@ module _ (sql : List ℕ) (at : ℕ) (table : Table) (found : slice_get desk_sch
       let edit = edit_of db table (ids_of deleted.0) Given 0 [] in
       (deleted.0,
       plain_program tree terms (col 1 0 ∷ []) db params deleted.0 deleted.1.answer,
+      record { schema = ap (λ (d : Database). d.schema) now; sound = w.sound; applies = subst (Applies desk_schema Enforced db edit) left (one_step desk_schema Enforced db written.0 edit refl written.1) })
+
+  pub updates : (tree : ℕ) (project : List Term) → command_of (understood desk_schema sql) ≡ Update at (record { lets = []; body = plain_query tree [] project })
+      → (old new : State) (params : Row) (count : ℕ) → old.now.schema ≡ desk_schema → Executes sql params old new (Ok count)
+      → (rows : List Row) × IsPermutation (map (shows project params) (filter (passes [] params) (old.now.trees tree))) rows × Ran old new (edit_of old.now.trees table (ids_of rows) Given 1 rows)
+  updates tree project is old new params count has h =
+      let db = old.now.trees in
+      let command = Update at (record { lets = []; body = plain_query tree [] project }) in
+      let text = statement_of sql (understood desk_schema sql) in
+      let w = runs_as sql params old new desk_schema has command is plain count h in
+      let on = subst (λ s. Does old.step_limit (mode_of old) params (record old.now { schema = s }) text None command (Ok (w.tally, new.now))) has w.changed in
+      let task : Task = record { limit = old.step_limit; keys = Enforced; schema = desk_schema; table = table; params = params } in
+      let done = went (at_place (λ (t : Table). OnRows (record task { table = t }) (mode_of old) None command db) (slice_get desk_schema.tables at) table (Ok (w.tally, new.now)) found on) in
+      let updated = went done.1 in
+      let written = went updated.2 in
+      let concluded = went (went done.2).2 in
+      let now = ap (λ (p : Tally × Database). p.1) (same_value concluded.2) in
+      let left : written.0 ≡ new.now.trees = ap (λ (it : Written). it.trees) (sym (same_value written.2)) ∙ sym (ap (λ (d : Database). d.trees) now) in
+      let edit = edit_of db table (ids_of updated.0) Given 1 updated.0 in
+      (updated.0,
+      plain_program tree [] project db params updated.0 updated.1.answer,
       record { schema = ap (λ (d : Database). d.schema) now; sound = w.sound; applies = subst (Applies desk_schema Enforced db edit) left (one_step desk_schema Enforced db written.0 edit refl written.1) })
 
 module _ (sql : List ℕ) (at : ℕ) (name : List ℕ) (tree : ℕ) (columns : List Column) (key : List ℕ) (checks : List Term)

@@ -1,3 +1,4 @@
+pub mod Looking
 pub mod Meanings
 pub mod Ours
 pub mod Slot

@@ -1,16 +1,20 @@
 //! The statements on the rows of commands.
-ghost use Rattle.std.specs.Prelude.{◌≡◌, ◌<◌, ◌^◌, OnOk, pos, [], ◌∷◌};
+ghost use Rattle.std.specs.Prelude.{◌≡◌, ◌<◌, ◌^◌, ◌&&◌, false, IfOk, OnOk, pos, [], ◌∷◌};
 ghost use Rattle.sqlite.specs.Held.{state};
-ghost use Rattle.sqlite.specs.State.{HasCleanDisk, KeepsCommit, Survives};
+ghost use Rattle.sqlite.specs.State.{HasCleanDisk, IsUnchanged, KeepsCommit, Survives};
 ghost use Rattle.sqlite_value.specs.declared.value.Value.TheVariants.{Int, Text};
-ghost use Rattle.sql_rows.specs.Ours.{Changes, Gains, IsInside, Loses};
+ghost use Rattle.sqlite_value.specs.Order.{column};
+ghost use Rattle.sql_rows.specs.Looking.{Finds, FindsLeast, Rests, is_after, is_from};
+ghost use Rattle.sql_rows.specs.Ours.{Changes, Gains, IsInside, IsOurs, Loses, kept_in};
 ghost use Rattle.sql_rows.specs.Slot.{On, command_slot};
+ghost use Rattle.stored_rows.specs.Cells.{is_text};
 ghost use Rattle.stored_rows.specs.Rows.{of_command, of_lower_command};
 
-use crate::parameters::{count, text};
+use crate::parameters::{count, text, words};
+use crate::looking::look;
 use crate::running::run;
 use points::{Name};
-use sqlite::{Alter, Error, Transaction};
+use sqlite::{Alter, Connection, Error, Row, Transaction};
 
 /// Removes the row under a number of a panel.
 pub fn clear<S: Alter>(
@@ -47,5 +51,65 @@ pub fn drop_below<S: Alter>(
         transaction,
         "DELETE FROM command WHERE panel = ?1 AND number < ?2",
         &[text(panel), count(number)],
+    )
+}
+
+// ---- what is read
+
+/// The cells of the row under a number of a panel, from `point` on.
+pub fn find<S: Alter>(
+    connection: &mut Connection<S>,
+    panel: &Name,
+    number: u64,
+) -> Result<Vec<Row>, Error>
+    requires { number < 2 ^ 63 }
+    ensures mode { connection.old.in_transaction ≡ false → connection.new.in_transaction ≡ false }
+    ensures same { HasCleanDisk (state S.Store connection.new) → IsOurs (state S.Store connection.old).now → OnOk result (IsUnchanged (state S.Store connection.old) (state S.Store connection.new)) }
+    ensures rests { HasCleanDisk (state S.Store connection.new) → IsOurs (state S.Store connection.old).now → Rests (state S.Store connection.old) (state S.Store connection.new) }
+    ensures found { HasCleanDisk (state S.Store connection.new) → IsOurs (state S.Store connection.old).now → IfOk result (λ rows. Finds (of_command panel.now number) (λ row. column row 3 ∷ column row 4 ∷ column row 5 ∷ column row 6 ∷ column row 7 ∷ column row 8 ∷ []) (kept_in (state S.Store connection.old).now.trees).command rows.items) }
+    ensures survives { Survives (state S.Store connection.old) (state S.Store connection.new) (λ _. IsOurs (state S.Store connection.old).now → ⊥) }
+{
+    look(
+        connection,
+        "SELECT point, priority, value, state, a, b FROM command WHERE panel = ?1 AND number = ?2",
+        &[text(panel), count(number)],
+    )
+}
+
+/// The least name of a panel after a text, if there is one.
+pub fn next_panel<S: Alter>(
+    connection: &mut Connection<S>,
+    after: &str,
+) -> Result<Vec<Row>, Error>
+    ensures mode { connection.old.in_transaction ≡ false → connection.new.in_transaction ≡ false }
+    ensures same { HasCleanDisk (state S.Store connection.new) → IsOurs (state S.Store connection.old).now → OnOk result (IsUnchanged (state S.Store connection.old) (state S.Store connection.new)) }
+    ensures rests { HasCleanDisk (state S.Store connection.new) → IsOurs (state S.Store connection.old).now → Rests (state S.Store connection.old) (state S.Store connection.new) }
+    ensures found { HasCleanDisk (state S.Store connection.new) → IsOurs (state S.Store connection.old).now → IfOk result (λ rows. FindsLeast (λ row. is_after after.now (column row 1)) 1 (kept_in (state S.Store connection.old).now.trees).command rows.items) }
+    ensures survives { Survives (state S.Store connection.old) (state S.Store connection.new) (λ _. IsOurs (state S.Store connection.old).now → ⊥) }
+{
+    look(
+        connection,
+        "SELECT panel FROM command WHERE panel > ?1 ORDER BY panel LIMIT 1",
+        &[words(after)],
+    )
+}
+
+/// The least number of a panel from one on, if there is one.
+pub fn next_number<S: Alter>(
+    connection: &mut Connection<S>,
+    panel: &Name,
+    from: u64,
+) -> Result<Vec<Row>, Error>
+    requires { from < 2 ^ 63 }
+    ensures mode { connection.old.in_transaction ≡ false → connection.new.in_transaction ≡ false }
+    ensures same { HasCleanDisk (state S.Store connection.new) → IsOurs (state S.Store connection.old).now → OnOk result (IsUnchanged (state S.Store connection.old) (state S.Store connection.new)) }
+    ensures rests { HasCleanDisk (state S.Store connection.new) → IsOurs (state S.Store connection.old).now → Rests (state S.Store connection.old) (state S.Store connection.new) }
+    ensures found { HasCleanDisk (state S.Store connection.new) → IsOurs (state S.Store connection.old).now → IfOk result (λ rows. FindsLeast (λ row. is_text panel.now (column row 1) && is_from from (column row 2)) 2 (kept_in (state S.Store connection.old).now.trees).command rows.items) }
+    ensures survives { Survives (state S.Store connection.old) (state S.Store connection.new) (λ _. IsOurs (state S.Store connection.old).now → ⊥) }
+{
+    look(
+        connection,
+        "SELECT number FROM command WHERE panel = ?1 AND number >= ?2 ORDER BY number LIMIT 1",
+        &[text(panel), count(from)],
     )
 }

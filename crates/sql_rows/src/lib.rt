@@ -6,6 +6,7 @@
 pub mod calendars;
 pub mod commands;
 pub mod panels;
+mod looking;
 mod parameters;
 pub mod places;
 mod running;

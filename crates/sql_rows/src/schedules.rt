@@ -1,17 +1,21 @@
 //! The statements on the values that schedules show.
-ghost use Rattle.std.specs.Prelude.{◌≡◌, ◌<◌, ◌^◌, OnOk, pos, [], ◌∷◌};
+ghost use Rattle.std.specs.Prelude.{◌≡◌, ◌<◌, ◌^◌, ◌&&◌, false, IfOk, OnOk, pos, [], ◌∷◌};
 ghost use Rattle.sqlite.specs.Held.{state};
-ghost use Rattle.sqlite.specs.State.{HasCleanDisk, KeepsCommit, Survives};
+ghost use Rattle.sqlite.specs.State.{HasCleanDisk, IsUnchanged, KeepsCommit, Survives};
 ghost use Rattle.sqlite_value.specs.declared.value.Value.TheVariants.{Int, Text};
 ghost use Rattle.sql_rows.specs.Meanings.{cell_of};
-ghost use Rattle.sql_rows.specs.Ours.{Changes, Gains, IsInside, Loses};
+ghost use Rattle.sqlite_value.specs.Order.{column};
+ghost use Rattle.sql_rows.specs.Looking.{Finds, FindsLeast, Rests, is_after, is_from};
+ghost use Rattle.sql_rows.specs.Ours.{Changes, Gains, IsInside, IsOurs, Loses, kept_in};
 ghost use Rattle.sql_rows.specs.Slot.{On, shown_slot};
+ghost use Rattle.stored_rows.specs.Cells.{is_text};
 ghost use Rattle.stored_rows.specs.Rows.{of_schedule};
 
-use crate::parameters::{optional, text};
+use crate::parameters::{optional, text, words};
+use crate::looking::look;
 use crate::running::run;
 use points::{Name};
-use sqlite::{Alter, Error, Transaction};
+use sqlite::{Alter, Connection, Error, Row, Transaction};
 
 /// Removes what a schedule shows.
 pub fn clear<S: Alter>(
@@ -45,5 +49,43 @@ pub fn add<S: Alter>(
         transaction,
         "INSERT INTO shown (schedule, value) VALUES (?1, ?2)",
         &[text(schedule), optional(value)],
+    )
+}
+
+// ---- what is read
+
+/// The cell `value` of a schedule.
+pub fn find<S: Alter>(
+    connection: &mut Connection<S>,
+    schedule: &Name,
+) -> Result<Vec<Row>, Error>
+    ensures mode { connection.old.in_transaction ≡ false → connection.new.in_transaction ≡ false }
+    ensures same { HasCleanDisk (state S.Store connection.new) → IsOurs (state S.Store connection.old).now → OnOk result (IsUnchanged (state S.Store connection.old) (state S.Store connection.new)) }
+    ensures rests { HasCleanDisk (state S.Store connection.new) → IsOurs (state S.Store connection.old).now → Rests (state S.Store connection.old) (state S.Store connection.new) }
+    ensures found { HasCleanDisk (state S.Store connection.new) → IsOurs (state S.Store connection.old).now → IfOk result (λ rows. Finds (of_schedule schedule.now) (λ row. column row 2 ∷ []) (kept_in (state S.Store connection.old).now.trees).shown rows.items) }
+    ensures survives { Survives (state S.Store connection.old) (state S.Store connection.new) (λ _. IsOurs (state S.Store connection.old).now → ⊥) }
+{
+    look(
+        connection,
+        "SELECT value FROM shown WHERE schedule = ?1",
+        &[text(schedule)],
+    )
+}
+
+/// The least name after a text, if there is one.
+pub fn next_name<S: Alter>(
+    connection: &mut Connection<S>,
+    after: &str,
+) -> Result<Vec<Row>, Error>
+    ensures mode { connection.old.in_transaction ≡ false → connection.new.in_transaction ≡ false }
+    ensures same { HasCleanDisk (state S.Store connection.new) → IsOurs (state S.Store connection.old).now → OnOk result (IsUnchanged (state S.Store connection.old) (state S.Store connection.new)) }
+    ensures rests { HasCleanDisk (state S.Store connection.new) → IsOurs (state S.Store connection.old).now → Rests (state S.Store connection.old) (state S.Store connection.new) }
+    ensures found { HasCleanDisk (state S.Store connection.new) → IsOurs (state S.Store connection.old).now → IfOk result (λ rows. FindsLeast (λ row. is_after after.now (column row 1)) 1 (kept_in (state S.Store connection.old).now.trees).shown rows.items) }
+    ensures survives { Survives (state S.Store connection.old) (state S.Store connection.new) (λ _. IsOurs (state S.Store connection.old).now → ⊥) }
+{
+    look(
+        connection,
+        "SELECT schedule FROM shown WHERE schedule > ?1 ORDER BY schedule LIMIT 1",
+        &[words(after)],
     )
 }

@@ -1,8 +1,8 @@
 -- What a cell is that says something, and which rows have a key.
-use Rattle.std.proofs.Common.{◌≡◌, ℕ, ◌≤◌, ◌<◌, Bool, true, false, cond, ◌&&◌, ◌==◌, nat_le, nat_lt, List, Option, Some, None, option_map, option_and_then, Result, Ok, Err}
-use Rattle.std.proofs.Common.{ℤ, pos, negsuc, refl, sym, ap, ◌∙◌, arith}
+use Rattle.std.proofs.Common.{◌≡◌, ℕ, ◌≤◌, Bool, true, ◌&&◌, ◌==◌, nat_le, nat_lt, List, Option, Some, None, option_map, option_and_then, Result, Ok, Err}
+use Rattle.std.proofs.Common.{pos, negsuc, refl, sym, ap, ◌∙◌, arith}
 use Rattle.std.specs.Str.{bytes_eq}
-use Rattle.std.proofs.lemmas.Bool.{and_parts, and_from, leb-true, eqb-true, eq-eqb, ltb-true}
+use Rattle.std.proofs.lemmas.Bool.{and_parts, leb-true}
 use Rattle.std.proofs.lemmas.Bool.Decides.{nat_tests, same_from_decides}
 use Rattle.std.proofs.lemmas.Option.{cond_some, none-some}
 use Rattle.std.proofs.lemmas.Slice.Eq.{bytes_eq-Decides}
@@ -10,7 +10,6 @@ use Rattle.dates.specs.declared.entry.Entry.{Entry}
 use Rattle.dates.specs.declared.entry_fault.EntryFault.{EntryFault}
 use Rattle.dates.specs.Entry.{reading, spelling}
 use Rattle.dates.proofs.ReadSpells.{reading-ok}
-use Rattle.points.specs.declared.command_row.CommandRow.{CommandRow}
 use Rattle.sqlite_value.specs.declared.value.Value.{Value}
 use Rattle.sqlite_value.specs.declared.value.Value.TheVariants.{Null, Int, Real, Text, Blob}
 use Rattle.sqlite_value.specs.Order.{Row, column}
@@ -132,9 +131,10 @@ command-parts row item says =
     let parts = three-parts (λ name number kept. let it : KeptRow = record { panel = name; number = number; row = kept } in it)
     (name_in (column row 1)) (count_in 1 1_000_000_000_000 (column row 2))
     (command_in (column row 3) (column row 4) (column row 5) (column row 6) (column row 7) (column row 8)) item says in
-    let count = count-cell 1 1_000_000_000_000 (column row 2) parts.second parts.second-is in
-    (name-cell (column row 1) parts.first parts.first-is ∙ ap Text (ap (λ y. y.panel) parts.is),
-    count.cell ∙ ap (λ n. Int (pos n)) (ap (λ y. y.number) parts.is))
+    let count = count-cell 1 1_000_000_000_000 (column row 2) parts.second parts.second-is in (
+      name-cell (column row 1) parts.first parts.first-is ∙ ap Text (ap (λ y. y.panel) parts.is),
+      count.cell ∙ ap (λ n. Int (pos n)) (ap (λ y. y.number) parts.is),
+    )
 
 pub command-agrees : (panel : List ℕ) (number : ℕ) → Agrees command_said (of_command panel number) (λ y. bytes_eq panel y.panel && number == y.number)
 command-agrees panel number row item says =

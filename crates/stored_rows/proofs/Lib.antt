@@ -1,6 +1,6 @@
 pub mod CellLemmas
 pub mod FoldLemmas
-pub mod ReadLemmas
+pub mod MadeLemmas
 pub mod RowLemmas
 pub mod SpellingLemmas
 pub mod StoredLemmas

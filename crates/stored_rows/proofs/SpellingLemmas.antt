@@ -1,9 +1,8 @@
 -- The texts of entries and names are text.
-use Rattle.std.proofs.Common.{◌≡◌, ℕ, ◌+◌, ◌/◌, ◌%◌, ◌<◌, ◌≤◌, Bool, true, false, ◌&&◌, List, ◌++◌, Option, Some, None, Result, Ok, Err, codes, ltb, arith, ap, refl, sym, ◌∙◌, inl, inr}
+use Rattle.std.proofs.Common.{◌≡◌, ℕ, ◌+◌, ◌/◌, ◌%◌, ◌<◌, Bool, true, false, List, ◌++◌, Option, Some, None, Result, Ok, Err, codes, ltb, pos, unsigned_abs, arith, ap, refl, ◌∙◌}
 use Rattle.std.specs.List.{list_all}
 use Rattle.std.specs.Str.{IsUtf8}
-use Rattle.std.proofs.lemmas.Bool.{and_from, cases_Bool, lt-ltb, ltb-true, false_from_ne_true}
-use Rattle.std.proofs.lemmas.Int.{signed_arith}
+use Rattle.std.proofs.lemmas.Bool.{and_from, lt-ltb, ltb-true, false_from_ne_true}
 use Rattle.std.proofs.lemmas.List.Elements.{All-weaker}
 use Rattle.std.proofs.lemmas.List.Folds.{list_all-append}
 use Rattle.std.proofs.lemmas.List.Sums.{AllPass-from_list_all}
@@ -32,6 +31,9 @@ use Rattle.dates.specs.Range.{IsRangeEnd, range_end_text}
 use Rattle.dates.specs.Week.{weeks_text}
 use Rattle.dates.specs.Weekday.{weekday_text, weekdays_text}
 use Rattle.dates.specs.Year.{AreYears, years_text}
+use Rattle.jiff_core.proofs.CalendarLemmas.{days_in_month_bounds}
+use Rattle.jiff_core.proofs.SignedLemmas.{signed_arith}
+use Rattle.dates.proofs.SpelledReads.{year_number}
 use Rattle.dates.proofs.ReadSpells.{reading-ok}
 use Rattle.points.specs.Name.{is_name}
 use Rattle.points.proofs.NameLemmas.{name_is_utf8}
@@ -107,7 +109,17 @@ plain-weeks (Some week.ThirdLast) = refl
 plain-weeks (Some week.FourthLast) = refl
 
 plain-day : (day : Date) → IsOfYears day → is_plain (day_text day) ≡ true
-plain-day day years = ?
+plain-day day years =
+    let y : ℕ = unsigned_abs day.year in
+    let same : pos y ≡ day.year = year_number day.year years.0 in
+    let long = days_in_month_bounds day.year day.month in
+    let m : day.month < 100 = omega (arith, day.month_in) in
+    let d : day.day < 100 = omega (arith, day.day_in) in
+    plain-join (four_digit_text y) (codes "-" ++ (two_digit_text day.month ++ (codes "-" ++ two_digit_text day.day)))
+    (plain-four y (omega (arith, signed_arith)))
+    (plain-join (codes "-") (two_digit_text day.month ++ (codes "-" ++ two_digit_text day.day)) refl
+    (plain-join (two_digit_text day.month) (codes "-" ++ two_digit_text day.day) (plain-two day.month m)
+    (plain-join (codes "-") (two_digit_text day.day) refl (plain-two day.day d))))
 
 plain-end : (end : Option Date) → IsRangeEnd end → is_plain (range_end_text end) ≡ true
 plain-end None in' = refl

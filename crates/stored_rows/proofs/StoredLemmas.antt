@@ -1,5 +1,5 @@
 -- What the tables of rows tell after a change of the rows, and what the rows of a key tell of the tables.
-use Rattle.std.proofs.Common.{◌≡◌, ℕ, ◌≤◌, ◌<◌, Bool, true, false, not, ◌&&◌, ◌==◌, nat_lt, List, [], ◌∷◌, ◌++◌, Option, Some, None, is_some, unwrap_or, filter, filter_map}
+use Rattle.std.proofs.Common.{◌≡◌, ℕ, ◌≤◌, true, false, ◌&&◌, ◌==◌, List, [], ◌∷◌, Option, Some, None, is_some, unwrap_or, filter, filter_map}
 use Rattle.std.proofs.Common.{ℤ, Contains, refl, sym, ap, ◌∙◌, arith, IsTrue}
 use Rattle.std.specs.FinMap.{get, empty, get-empty}
 use Rattle.std.specs.Ordering.{nat_cmp}
@@ -14,7 +14,7 @@ use Rattle.store.specs.declared.change.NextNumber.{NextNumber}
 use Rattle.store.specs.declared.change.PlaceValue.{PlaceValue}
 use Rattle.store.specs.declared.change.RowsBelow.{RowsBelow}
 use Rattle.store.specs.declared.change.ShownValue.{ShownValue}
-use Rattle.store.specs.Change.{with_each, with_next, with_row, without_rows, with_place, with_shown, with_imported}
+use Rattle.store.specs.Change.{with_next, with_row, without_rows, with_place, with_shown, with_imported}
 use Rattle.store.specs.Memory.{no_tables}
 use Rattle.store.specs.Standing.{sound}
 use Rattle.store.specs.Tables.{Text}
@@ -23,6 +23,7 @@ use Rattle.stored_rows.specs.Rows.{next_said, command_said, place_said, shown_sa
 use Rattle.stored_rows.specs.Rows.{of_panel, of_command, of_lower_command, of_place, of_schedule, of_entry}
 use Rattle.stored_rows.specs.Rows.{same_panel, same_command, same_place, same_schedule, same_entry}
 use Rattle.stored_rows.specs.Stored.{Kept, HasPut, HasLost, can_stand, content_in, is_desk, is_sound_in, last_in, tables_in}
+pub use Rattle.stored_rows.proofs.CellLemmas.{reading_spelled}
 use Rattle.stored_rows.proofs.CellLemmas.{same-text, text-same, panel-agrees, command-agrees, lower-agrees, place-agrees, place-parts, schedule-agrees, entry-agrees}
 use Rattle.stored_rows.proofs.FoldLemmas.{with_each-unseen}
 use Rattle.stored_rows.proofs.RowLemmas.{bad-row, here-row, item-goes, lost, no-row, one-row, put-row, two-rows}
@@ -61,10 +62,11 @@ pub put_next : (item : NextNumber) (row : Row) (kept : Kept) (now : List Row) �
     × (is_sound_in kept ≡ true → is_sound_in (record kept { panel = now }) ≡ true)
 put_next item row kept now says has =
     let both = put-row next_said same_panel with_next (λ panel. 1) next-either item (next-absorb item) (next-commute item) (of_panel item.panel)
-    (panel-agrees item.panel) row says kept.panel now has in
-    (λ i. record (tables_in kept) { next = both.0 i },
-    λ is. let are = sound-parts kept is in sound-from (record kept { panel = now })
-    (record { desk = are.desk; panel = both.1 are.panel; command = are.command; place = are.place; shown = are.shown; imported = are.imported }))
+    (panel-agrees item.panel) row says kept.panel now has in (
+      λ i. record (tables_in kept) { next = both.0 i },
+      λ is. let are = sound-parts kept is in sound-from (record kept { panel = now })
+          (record { desk = are.desk; panel = both.1 are.panel; command = are.command; place = are.place; shown = are.shown; imported = are.imported }),
+    )
 
 pub put_command : (item : KeptRow) (row : Row) (kept : Kept) (now : List Row) → command_said row ≡ Some item
     → HasPut row (of_command item.panel item.number) kept.command now
@@ -72,20 +74,22 @@ pub put_command : (item : KeptRow) (row : Row) (kept : Kept) (now : List Row) �
     × (is_sound_in kept ≡ true → is_sound_in (record kept { command = now }) ≡ true)
 put_command item row kept now says has =
     let both = put-row command_said same_command with_row (λ panel number. None) row-either item (row-absorb item) (row-commute item)
-    (of_command item.panel item.number) (command-agrees item.panel item.number) row says kept.command now has in
-    (λ i. record (tables_in kept) { row = both.0 i },
-    λ is. let are = sound-parts kept is in sound-from (record kept { command = now })
-    (record { desk = are.desk; panel = are.panel; command = both.1 are.command; place = are.place; shown = are.shown; imported = are.imported }))
+    (of_command item.panel item.number) (command-agrees item.panel item.number) row says kept.command now has in (
+      λ i. record (tables_in kept) { row = both.0 i },
+      λ is. let are = sound-parts kept is in sound-from (record kept { command = now })
+          (record { desk = are.desk; panel = are.panel; command = both.1 are.command; place = are.place; shown = are.shown; imported = are.imported }),
+    )
 
 pub drop_commands : (item : RowsBelow) (kept : Kept) (now : List Row) → HasLost (of_lower_command item.panel item.number) kept.command now
     → (tables_in (record kept { command = now }) ≡ record (tables_in kept) { row = without_rows item (tables_in kept).row })
     × (is_sound_in kept ≡ true → is_sound_in (record kept { command = now }) ≡ true)
 drop_commands item kept now left =
     let both = lost command_said same_command with_row (λ panel number. None) (of_lower_command item.panel item.number) (is_lower item)
-    (lower-agrees item.panel item.number) (without_rows item) (lower-absorb item) (lower-commute item) (lower-none item) kept.command now left in
-    (λ i. record (tables_in kept) { row = both.0 i },
-    λ is. let are = sound-parts kept is in sound-from (record kept { command = now })
-    (record { desk = are.desk; panel = are.panel; command = both.1 are.command; place = are.place; shown = are.shown; imported = are.imported }))
+    (lower-agrees item.panel item.number) (without_rows item) (lower-absorb item) (lower-commute item) (lower-none item) kept.command now left in (
+      λ i. record (tables_in kept) { row = both.0 i },
+      λ is. let are = sound-parts kept is in sound-from (record kept { command = now })
+          (record { desk = are.desk; panel = are.panel; command = both.1 are.command; place = are.place; shown = are.shown; imported = are.imported }),
+    )
 
 pub put_place : (item : PlaceValue) (row : Row) (kept : Kept) (now : List Row) → place_said row ≡ Some item
     → HasPut row (of_place item.point item.priority) kept.place now
@@ -93,20 +97,22 @@ pub put_place : (item : PlaceValue) (row : Row) (kept : Kept) (now : List Row) �
     × (is_sound_in kept ≡ true → is_sound_in (record kept { place = now }) ≡ true)
 put_place item row kept now says has =
     let both = put-row place_said same_place with_place (λ point. empty) place-either item (place-absorb item) (place-commute item)
-    (of_place item.point item.priority) (place-agrees item.point item.priority) row says kept.place now has in
-    (λ i. record (tables_in kept) { places = both.0 i },
-    λ is. let are = sound-parts kept is in sound-from (record kept { place = now })
-    (record { desk = are.desk; panel = are.panel; command = are.command; place = both.1 are.place; shown = are.shown; imported = are.imported }))
+    (of_place item.point item.priority) (place-agrees item.point item.priority) row says kept.place now has in (
+      λ i. record (tables_in kept) { places = both.0 i },
+      λ is. let are = sound-parts kept is in sound-from (record kept { place = now })
+          (record { desk = are.desk; panel = are.panel; command = are.command; place = both.1 are.place; shown = are.shown; imported = are.imported }),
+    )
 
 pub clear_place : (item : PlaceValue) (kept : Kept) (now : List Row) → item.value ≡ None → HasLost (of_place item.point item.priority) kept.place now
     → (tables_in (record kept { place = now }) ≡ record (tables_in kept) { places = with_place item (tables_in kept).places })
     × (is_sound_in kept ≡ true → is_sound_in (record kept { place = now }) ≡ true)
 clear_place item kept now quiet left =
     let both = lost place_said same_place with_place (λ point. empty) (of_place item.point item.priority) (same_place item)
-    (place-agrees item.point item.priority) (with_place item) (place-absorb item) (place-commute item) (place-none item quiet) kept.place now left in
-    (λ i. record (tables_in kept) { places = both.0 i },
-    λ is. let are = sound-parts kept is in sound-from (record kept { place = now })
-    (record { desk = are.desk; panel = are.panel; command = are.command; place = both.1 are.place; shown = are.shown; imported = are.imported }))
+    (place-agrees item.point item.priority) (with_place item) (place-absorb item) (place-commute item) (place-none item quiet) kept.place now left in (
+      λ i. record (tables_in kept) { places = both.0 i },
+      λ is. let are = sound-parts kept is in sound-from (record kept { place = now })
+          (record { desk = are.desk; panel = are.panel; command = are.command; place = both.1 are.place; shown = are.shown; imported = are.imported }),
+    )
 
 pub put_shown : (item : ShownValue) (row : Row) (kept : Kept) (now : List Row) → shown_said row ≡ Some item
     → HasPut row (of_schedule item.schedule) kept.shown now
@@ -114,20 +120,22 @@ pub put_shown : (item : ShownValue) (row : Row) (kept : Kept) (now : List Row) �
     × (is_sound_in kept ≡ true → is_sound_in (record kept { shown = now }) ≡ true)
 put_shown item row kept now says has =
     let both = put-row shown_said same_schedule with_shown (λ schedule. None) shown-either item (shown-absorb item) (shown-commute item)
-    (of_schedule item.schedule) (schedule-agrees item.schedule) row says kept.shown now has in
-    (λ i. record (tables_in kept) { shown = both.0 i },
-    λ is. let are = sound-parts kept is in sound-from (record kept { shown = now })
-    (record { desk = are.desk; panel = are.panel; command = are.command; place = are.place; shown = both.1 are.shown; imported = are.imported }))
+    (of_schedule item.schedule) (schedule-agrees item.schedule) row says kept.shown now has in (
+      λ i. record (tables_in kept) { shown = both.0 i },
+      λ is. let are = sound-parts kept is in sound-from (record kept { shown = now })
+          (record { desk = are.desk; panel = are.panel; command = are.command; place = are.place; shown = both.1 are.shown; imported = are.imported }),
+    )
 
 pub clear_shown : (item : ShownValue) (kept : Kept) (now : List Row) → item.shown ≡ None → HasLost (of_schedule item.schedule) kept.shown now
     → (tables_in (record kept { shown = now }) ≡ record (tables_in kept) { shown = with_shown item (tables_in kept).shown })
     × (is_sound_in kept ≡ true → is_sound_in (record kept { shown = now }) ≡ true)
 clear_shown item kept now quiet left =
     let both = lost shown_said same_schedule with_shown (λ schedule. None) (of_schedule item.schedule) (same_schedule item)
-    (schedule-agrees item.schedule) (with_shown item) (shown-absorb item) (shown-commute item) (shown-none item quiet) kept.shown now left in
-    (λ i. record (tables_in kept) { shown = both.0 i },
-    λ is. let are = sound-parts kept is in sound-from (record kept { shown = now })
-    (record { desk = are.desk; panel = are.panel; command = are.command; place = are.place; shown = both.1 are.shown; imported = are.imported }))
+    (schedule-agrees item.schedule) (with_shown item) (shown-absorb item) (shown-commute item) (shown-none item quiet) kept.shown now left in (
+      λ i. record (tables_in kept) { shown = both.0 i },
+      λ is. let are = sound-parts kept is in sound-from (record kept { shown = now })
+          (record { desk = are.desk; panel = are.panel; command = are.command; place = are.place; shown = both.1 are.shown; imported = are.imported }),
+    )
 
 pub put_imported : (item : ImportedEntry) (row : Row) (kept : Kept) (now : List Row) → imported_said row ≡ Some item
     → HasPut row (of_entry item.calendar (spelling item.entry)) kept.imported now
@@ -135,33 +143,36 @@ pub put_imported : (item : ImportedEntry) (row : Row) (kept : Kept) (now : List 
     × (is_sound_in kept ≡ true → is_sound_in (record kept { imported = now }) ≡ true)
 put_imported item row kept now says has =
     let both = put-row imported_said same_entry with_imported (λ calendar text. false) entry-either item (entry-absorb item) (entry-commute item)
-    (of_entry item.calendar (spelling item.entry)) (entry-agrees item.calendar (spelling item.entry)) row says kept.imported now has in
-    (λ i. record (tables_in kept) { imported = both.0 i },
-    λ is. let are = sound-parts kept is in sound-from (record kept { imported = now })
-    (record { desk = are.desk; panel = are.panel; command = are.command; place = are.place; shown = are.shown; imported = both.1 are.imported }))
+    (of_entry item.calendar (spelling item.entry)) (entry-agrees item.calendar (spelling item.entry)) row says kept.imported now has in (
+      λ i. record (tables_in kept) { imported = both.0 i },
+      λ is. let are = sound-parts kept is in sound-from (record kept { imported = now })
+          (record { desk = are.desk; panel = are.panel; command = are.command; place = are.place; shown = are.shown; imported = both.1 are.imported }),
+    )
 
 pub set_last : (moment : ℤ) (old new : Row) (kept : Kept) → kept.desk ≡ old ∷ [] → optional_in (column new 3) ≡ Some (Some moment)
     → (tables_in (record kept { desk = new ∷ [] }) ≡ record (tables_in kept) { last_tick = Some moment })
     × (is_sound_in kept ≡ true → is_sound_in (record kept { desk = new ∷ [] }) ≡ true)
-set_last moment old new kept one says =
-    (λ i. record (tables_in kept) { last_tick = unwrap_or (says i) None },
-    λ is. let are = sound-parts kept is in sound-from (record kept { desk = new ∷ [] })
-    (record { desk = ap is_some says; panel = are.panel; command = are.command; place = are.place; shown = are.shown; imported = are.imported }))
+set_last moment old new kept one says = (
+  λ i. record (tables_in kept) { last_tick = unwrap_or (says i) None },
+  λ is. let are = sound-parts kept is in sound-from (record kept { desk = new ∷ [] })
+      (record { desk = ap is_some says; panel = are.panel; command = are.command; place = are.place; shown = are.shown; imported = are.imported }),
+)
 
 pub set_version : (old new : Row) (kept : Kept) → kept.desk ≡ old ∷ [] → column new 3 ≡ column old 3
     → (tables_in (record kept { desk = new ∷ [] }) ≡ tables_in kept) × (is_sound_in kept ≡ true → is_sound_in (record kept { desk = new ∷ [] }) ≡ true)
 set_version old new kept one same =
-    let last : last_in (new ∷ []) ≡ last_in kept.desk = ap (λ v. unwrap_or (optional_in v) None) same ∙ sym (ap last_in one) in
-    (λ i. record (tables_in kept) { last_tick = last i },
-    λ is. let are = sound-parts kept is in sound-from (record kept { desk = new ∷ [] })
-    (record {
-      desk = ap (λ v. is_some (optional_in v)) same ∙ sym (ap is_desk one) ∙ are.desk;
-      panel = are.panel;
-      command = are.command;
-      place = are.place;
-      shown = are.shown;
-      imported = are.imported;
-    }))
+    let last : last_in (new ∷ []) ≡ last_in kept.desk = ap (λ v. unwrap_or (optional_in v) None) same ∙ sym (ap last_in one) in (
+      λ i. record (tables_in kept) { last_tick = last i },
+      λ is. let are = sound-parts kept is in sound-from (record kept { desk = new ∷ [] })
+          (record {
+            desk = ap (λ v. is_some (optional_in v)) same ∙ sym (ap is_desk one) ∙ are.desk;
+            panel = are.panel;
+            command = are.command;
+            place = are.place;
+            shown = are.shown;
+            imported = are.imported;
+          }),
+    )
 
 -- ---- reads of `panel`
 

@@ -1,10 +1,10 @@
 -- What two items of a table make, one after the other.
-use Rattle.std.proofs.Common.{◌≡◌, ℕ, Bool, true, false, cond, ◌&&◌, ◌||◌, ◌==◌, nat_lt, List, Option, Some, None, ℤ, refl, sym, ap, ◌∙◌, arith, inl, inr}
+use Rattle.std.proofs.Common.{◌≡◌, ℕ, Bool, true, false, cond, ◌&&◌, ◌||◌, ◌==◌, nat_lt, List, Option, Some, None, ℤ, refl, sym, ap, ◌∙◌, arith}
 use Rattle.std.specs.Cmp.{nat_cmp_total}
-use Rattle.std.specs.FinMap.{get, empty, insert, remove, get-empty, get-insert, get-remove, same_map, nat_cmp-IsAntisymmetric}
+use Rattle.std.specs.FinMap.{get, empty, get-empty, get-insert, get-remove, same_map, nat_cmp-IsAntisymmetric}
 use Rattle.std.specs.Ordering.{nat_cmp, eq_by_cmp}
 use Rattle.std.specs.Str.{bytes_eq}
-use Rattle.std.proofs.lemmas.Bool.{cases_Bool, both_ways, false_from_ne_true, and_parts, and_from, eqb-true, eq-eqb}
+use Rattle.std.proofs.lemmas.Bool.{both_ways, false_from_ne_true, and_parts, and_from, eqb-true, eq-eqb}
 use Rattle.std.proofs.lemmas.Bool.Decides.{nat_tests}
 use Rattle.dates.specs.Entry.{spelling}
 use Rattle.points.specs.PriorityArray.{Places, put}
@@ -268,9 +268,9 @@ pub place-other : (point : List ℕ) (priority : ℕ) (y : PlaceValue) (t : List
 place-other point priority y t other =
     get-place-in (bytes_eq y.point point) y (t point) priority
     ∙ ap (λ c. cond c y.value (get (t point) priority)) (ap (λ c. bytes_eq y.point point && c) other ∙ never (bytes_eq y.point point)) where
-  never : (b : Bool) → (b && false) ≡ false
-  never true = refl
-  never false = refl
+      never : (b : Bool) → (b && false) ≡ false
+      never true = refl
+      never false = refl
 
 pub entry-at : (calendar text : List ℕ) (y : ImportedEntry) (t : List ℕ → List ℕ → Bool) (b : Bool)
     → (bytes_eq calendar y.calendar && bytes_eq text (spelling y.entry)) ≡ b → with_imported y t calendar text ≡ (b || t calendar text)

@@ -1,7 +1,7 @@
 -- What a cell of a table says.
 use Rattle.std.specs.Prelude.{ℕ, nat_le, ◌&&◌, if◌then◌else◌, Bool, false, true, nat_lt, List, Option, Some, None, ℤ, pos, negsuc, Result, Ok, Err, bytes_eq, ◌==◌}
 use Rattle.sqlite_value.specs.declared.value.Value.{Value}
-use Rattle.sqlite_value.specs.declared.value.Value.TheVariants.{Null, Int, Real, Text, Blob}
+use Rattle.sqlite_value.specs.declared.value.Value.TheVariants.{Null, Int, Text}
 use Rattle.dates.specs.declared.entry.Entry.{Entry}
 use Rattle.dates.specs.declared.entry_fault.EntryFault.{EntryFault}
 use Rattle.dates.specs.Entry.{reading}

@@ -1,5 +1,5 @@
 -- What a row of each table says. A row is its rowid and then its columns; a row that cannot stand says nothing.
-use Rattle.std.specs.Prelude.{ℕ, nat_le, ◌&&◌, ◌==◌, if◌then◌else◌, Bool, List, Option, Some, None, option_map, option_and_then, ℤ, pos, bytes_eq, nat_lt}
+use Rattle.std.specs.Prelude.{ℕ, ◌&&◌, ◌==◌, if◌then◌else◌, Bool, List, Option, Some, None, option_map, option_and_then, ℤ, pos, bytes_eq}
 use Rattle.sqlite_value.specs.declared.value.Value.{Value}
 use Rattle.sqlite_value.specs.declared.value.Value.TheVariants.{Null, Int}
 use Rattle.sqlite_value.specs.Order.{Row, column}
@@ -15,7 +15,6 @@ use Rattle.store.specs.declared.change.ImportedEntry.{ImportedEntry}
 use Rattle.store.specs.declared.change.KeptRow.{KeptRow}
 use Rattle.store.specs.declared.change.NextNumber.{NextNumber}
 use Rattle.store.specs.declared.change.PlaceValue.{PlaceValue}
-use Rattle.store.specs.declared.change.RowsBelow.{RowsBelow}
 use Rattle.store.specs.declared.change.ShownValue.{ShownValue}
 use Rattle.stored_rows.specs.Cells.{is_text, is_count, is_below, name_in, count_in, number_in, optional_in, entry_in}
 

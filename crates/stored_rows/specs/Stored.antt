@@ -1,11 +1,11 @@
 -- What a database of the six tables holds.
-use Rattle.std.specs.Prelude.{◌≡◌, ℕ, ◌&&◌, Bool, true, false, not, List, [], ◌∷◌, ◌++◌, Option, Some, None, is_some, unwrap_or, option_and_then, ℤ, slice_get}
+use Rattle.std.specs.Prelude.{◌≡◌, ◌&&◌, Bool, true, false, not, List, [], ◌∷◌, ◌++◌, Option, None, is_some, unwrap_or, ℤ}
 use Rattle.std.specs.FinMap.{empty}
 use Rattle.std.specs.List.{list_all, list_any, filter, filter_map}
 use Rattle.sqlite_value.specs.Order.{Row}
 use Rattle.store.specs.Change.{with_each, with_next, with_row, with_place, with_shown, with_imported}
 use Rattle.store.specs.Standing.{Content}
-use Rattle.store.specs.Tables.{Tables, Text}
+use Rattle.store.specs.Tables.{Tables}
 use Rattle.stored_rows.specs.Rows.{next_said, command_said, place_said, shown_said, imported_said, last_said, same_panel, same_command, same_place, same_schedule, same_entry}
 
 -- the rows of the six tables

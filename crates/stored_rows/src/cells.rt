@@ -3,7 +3,8 @@ ghost use Rattle.std.specs.Prelude.{◌≡◌, Some, None, IfOk, IfErr};
 ghost use Rattle.sqlite_value.specs.Order.{column};
 ghost use Rattle.sqlite_value.specs.Value.{owned};
 ghost use Rattle.stored_rows.specs.declared.read_fault.ReadFault.TheVariants.{BadRow};
-ghost use Rattle.stored_rows.specs.Cells.{count_in, entry_in, name_in, number_in, optional_in};
+ghost use Rattle.dates.specs.Entry.{reading};
+ghost use Rattle.stored_rows.specs.Cells.{count_in, entry_in, entry_of, name_in, number_in, optional_in};
 
 use crate::read_fault::ReadFault;
 use dates::Entry;
@@ -22,7 +23,7 @@ pub(crate) fn cell_at(row: &Row, at: usize) -> ValueRef<'_>
 
 #[tactic(auto, using(crate::proofs::SpellingLemmas::no_name))]
 fn name_of(cell: ValueRef<'_>) -> Option<Name>
-    ensures { result ≡ name_in (owned cell) }
+    ensures { result ≡ name_in (owned cell.entry) }
 {
     match cell {
         ValueRef::Text(bytes) => match str::from_utf8(bytes) {
@@ -34,19 +35,23 @@ fn name_of(cell: ValueRef<'_>) -> Option<Name>
 }
 
 pub(crate) fn count_of(cell: ValueRef<'_>, least: u64, greatest: u64) -> Option<u64>
-    ensures { result ≡ count_in least greatest (owned cell) }
+    ensures { result ≡ count_in least greatest (owned cell.entry) }
 {
     match cell {
         ValueRef::Int(number) => {
             let count = u64::try_from(number).ok()?;
-            if least <= count && count <= greatest { Some(count) } else { None }
+            if least <= count && count <= greatest {
+                Some(count)
+            } else {
+                None
+            }
         }
         _ => None,
     }
 }
 
 pub(crate) fn number_of(cell: ValueRef<'_>) -> Option<i64>
-    ensures { result ≡ number_in (owned cell) }
+    ensures { result ≡ number_in (owned cell.entry) }
 {
     match cell {
         ValueRef::Int(number) => Some(number),
@@ -55,7 +60,7 @@ pub(crate) fn number_of(cell: ValueRef<'_>) -> Option<i64>
 }
 
 fn optional_of(cell: ValueRef<'_>) -> Option<Option<i64>>
-    ensures { result ≡ optional_in (owned cell) }
+    ensures { result ≡ optional_in (owned cell.entry) }
 {
     match cell {
         ValueRef::Null => Some(None),
@@ -64,13 +69,22 @@ fn optional_of(cell: ValueRef<'_>) -> Option<Option<i64>>
     }
 }
 
+fn read_entry(text: &str) -> Option<Entry>
+    ensures { result ≡ entry_of (reading text.now) }
+{
+    match Entry::read(text) {
+        Ok(entry) => Some(entry),
+        Err(_) => None,
+    }
+}
+
 #[tactic(auto, using(crate::proofs::SpellingLemmas::no_entry))]
 fn entry_of(cell: ValueRef<'_>) -> Option<Entry>
-    ensures { result ≡ entry_in (owned cell) }
+    ensures { result ≡ entry_in (owned cell.entry) }
 {
     match cell {
         ValueRef::Text(bytes) => match str::from_utf8(bytes) {
-            Ok(text) => Entry::read(text).ok(),
+            Ok(text) => read_entry(text),
             Err(_) => None,
         },
         _ => None,
@@ -119,5 +133,8 @@ pub fn entry_at(row: &Row, at: usize) -> Result<Entry, ReadFault>
     ensures bad { IfErr result (λ fault. entry_in (column row.now at) ≡ None) }
     ensures fault { IfErr result (λ fault. fault ≡ BadRow) }
 {
-    entry_of(cell_at(row, at)).ok_or(ReadFault::BadRow)
+    match entry_of(cell_at(row, at)) {
+        Some(entry) => Ok(entry),
+        None => Err(ReadFault::BadRow),
+    }
 }

@@ -28,7 +28,7 @@ pub struct StateCells {
 }
 
 fn parked_of(a: ValueRef<'_>, b: ValueRef<'_>) -> Option<CommandState>
-    ensures { result ≡ parked_in (owned a) (owned b) }
+    ensures { result ≡ parked_in (owned a.entry) (owned b.entry) }
 {
     match (a, b) {
         (ValueRef::Null, ValueRef::Null) => Some(CommandState::Parked),
@@ -37,7 +37,7 @@ fn parked_of(a: ValueRef<'_>, b: ValueRef<'_>) -> Option<CommandState>
 }
 
 fn done_of(a: ValueRef<'_>, b: ValueRef<'_>) -> Option<CommandState>
-    ensures { result ≡ done_in (owned a) (owned b) }
+    ensures { result ≡ done_in (owned a.entry) (owned b.entry) }
 {
     let present = number_of(a)?;
     let priority = count_of(b, 0, 16)?;
@@ -62,17 +62,18 @@ fn rule_of(number: i64) -> Option<Rule>
 }
 
 fn refused_of(a: ValueRef<'_>, b: ValueRef<'_>) -> Option<CommandState>
-    ensures { result ≡ refused_in (owned a) (owned b) }
+    ensures { result ≡ refused_in (owned a.entry) (owned b.entry) }
 {
     match (a, b) {
-        (ValueRef::Int(number), ValueRef::Null) =>
-            Some(CommandState::Answered(Answer::Refused(rule_of(number)?))),
+        (ValueRef::Int(number), ValueRef::Null) => Some(CommandState::Answered(Answer::Refused(
+            rule_of(number)?,
+        ))),
         _ => None,
     }
 }
 
 fn state_of(state: ValueRef<'_>, a: ValueRef<'_>, b: ValueRef<'_>) -> Option<CommandState>
-    ensures { result ≡ state_in (owned state) (owned a) (owned b) }
+    ensures { result ≡ state_in (owned state.entry) (owned a.entry) (owned b.entry) }
 {
     match state {
         ValueRef::Int(0) => parked_of(a, b),
@@ -99,7 +100,8 @@ fn content_at(row: &Row, at: usize) -> Result<Content, ReadFault>
     })
 }
 
-/// The command of the six cells from a column on: its content's three and its state's three.
+/// The command of the six cells from a column on (one of the first 101): its content's three, then its state's
+/// three.
 pub fn command_at(row: &Row, at: usize) -> Result<CommandRow, ReadFault>
     requires { at ≤ 100 }
     ensures value { IfOk result (λ kept. command_in (column row.now at) (column row.now (at + 1)) (column row.now (at + 2)) (column row.now (at + 3)) (column row.now (at + 4)) (column row.now (at + 5)) ≡ Some kept) }
@@ -107,7 +109,11 @@ pub fn command_at(row: &Row, at: usize) -> Result<CommandRow, ReadFault>
     ensures fault { IfErr result (λ fault. fault ≡ BadRow) }
 {
     let content = content_at(row, at)?;
-    let state = state_of(cell_at(row, at + 3), cell_at(row, at + 4), cell_at(row, at + 5));
+    let state = state_of(
+        cell_at(row, at + 3),
+        cell_at(row, at + 4),
+        cell_at(row, at + 5),
+    );
     match state {
         Some(state) => Ok(CommandRow { content, state }),
         None => Err(ReadFault::BadRow),

@@ -1,2 +1,0 @@
--- Which results the reads of cells have.
-use Rattle.std.proofs.Common.{◌≡◌, refl}
