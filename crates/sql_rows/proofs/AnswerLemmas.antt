@@ -5,9 +5,9 @@ use Rattle.std.proofs.lemmas.List.Sorted.{IsPermutation-map}
 use Rattle.sqlite_value.specs.declared.value.Value.TheVariants.{Null}
 use Rattle.sqlite_value.specs.Order.{Row}
 use Rattle.sqlite_trees.specs.Tree.{Trees}
-use Rattle.sqlite_sql.specs.Query.{IsAnswer, Output, output, matches, inner, end}
+use Rattle.sqlite_sql.specs.Query.{IsAnswer, Output, output}
 use Rattle.sqlite_sql.specs.Program.{IsProgramAnswer, overlay}
-use Rattle.sqlite_sql.specs.Term.{Term, Env}
+use Rattle.sqlite_sql.specs.Term.{Term}
 use Rattle.sql_rows.specs.Meanings.{plain_query, passes, shows}
 
 pub flat_map_cond : {X Y : Type 0} (p : X → Bool) (f : X → Y) (xs : List X) → flat_map (λ x. cond (p x) (f x ∷ []) []) xs ≡ map f (filter p xs)

@@ -1,5 +1,5 @@
 -- The statements on the commands.
-use Rattle.std.proofs.Common.{◌≡◌, ◌≢◌, ℕ, ℤ, Option, Result, IfOk, Ok, Err, OnOk, pos, Bool, true, false, ◌&&◌, List, [], ◌∷◌, codes, refl, ap}
+use Rattle.std.proofs.Common.{◌≡◌, ℕ, ℤ, Option, Result, IfOk, Ok, Err, OnOk, pos, true, false, ◌&&◌, List, [], ◌∷◌, codes, refl, ap}
 use Rattle.sqlite_value.specs.declared.value.Value.TheVariants.{Int, Null, Text}
 use Rattle.sqlite_value.specs.Order.{Row, column}
 use Rattle.sqlite_schema.specs.declared.schema.Constraint.TheVariants.{Datatype, NotNull}
@@ -12,7 +12,7 @@ use Rattle.sqlite.specs.declared.error.Error.{Error}
 use Rattle.sqlite.specs.Effect.{Database}
 use Rattle.sqlite.specs.State.{ExecutesInside, Shown, State}
 use Rattle.sql_schema.specs.Schema.{column_of, command_table, command_tree}
-use Rattle.sql_rows.specs.Meanings.{cell_of, compared_with, given, passes}
+use Rattle.sql_rows.specs.Meanings.{compared_with, given, passes}
 use Rattle.sql_rows.specs.Ours.{Changes, Gains, IsInside, IsOurs, Loses}
 use Rattle.sql_rows.specs.Slot.{On, command_slot}
 use Rattle.sql_rows.proofs.CellLemmas.{after_text, and_true, below_count, cast_cell, cast_int, cast_null, equal_count, equal_text, from_count}
@@ -21,7 +21,7 @@ use Rattle.sql_rows.specs.Looking.{Finds, FindsLeast, is_after, is_from}
 use Rattle.sql_rows.proofs.SlotLemmas.{gains, is_command, loses}
 use Rattle.sql_rows.proofs.TypeLemmas.{IsFilled, first_filled, ruled, second_filled}
 use Rattle.sql_rows.proofs.CommandTexts.{add_is, add_plain, add_text, clear_is, clear_plain, clear_text, drop_is, drop_plain, drop_text, find_is, find_plain, find_text, find_unlisted, next_number_is, next_number_plain, next_number_text, next_number_unlisted, next_panel_is, next_panel_plain, next_panel_text, next_panel_unlisted}
-use Rattle.stored_rows.specs.Cells.{is_below, is_count, is_text}
+use Rattle.stored_rows.specs.Cells.{cell_of, is_below, is_count, is_text}
 use Rattle.stored_rows.specs.Rows.{of_command, of_lower_command}
 
 command_cells : (db : Database) → IsOurs db → (row : Row) → Has (db.trees command_tree) row → IsFilled kind.Text (column row 1) × IsFilled kind.Integer (column row 2)
@@ -35,9 +35,10 @@ command_cells db ours row h =
     let col5 = column_of (codes "value") kind.Integer false in
     let col6 = column_of (codes "state") kind.Integer true in
     let col7 = column_of (codes "a") kind.Integer false in
-    let col8 = column_of (codes "b") kind.Integer false in
-    (first_filled command_table (codes "panel") kind.Text (col2 ∷ col3 ∷ col4 ∷ col5 ∷ col6 ∷ col7 ∷ col8 ∷ []) refl refl db.trees row typed present,
-    second_filled command_table col1 (codes "number") kind.Integer (col3 ∷ col4 ∷ col5 ∷ col6 ∷ col7 ∷ col8 ∷ []) refl refl db.trees row typed present)
+    let col8 = column_of (codes "b") kind.Integer false in (
+      first_filled command_table (codes "panel") kind.Text (col2 ∷ col3 ∷ col4 ∷ col5 ∷ col6 ∷ col7 ∷ col8 ∷ []) refl refl db.trees row typed present,
+      second_filled command_table col1 (codes "number") kind.Integer (col3 ∷ col4 ∷ col5 ∷ col6 ∷ col7 ∷ col8 ∷ []) refl refl db.trees row typed present,
+    )
 
 pub passes_command : (db : Database) → IsOurs db → (panel : List ℕ) (number : ℕ) → (row : Row) → Has (db.trees command_tree) row → passes (given 1 0 ∷ given 2 1 ∷ []) (Text panel ∷ Int (pos number) ∷ []) row ≡ of_command panel number row
 passes_command db ours panel number row h =

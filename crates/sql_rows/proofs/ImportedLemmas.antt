@@ -1,27 +1,27 @@
 -- The statements on the imported entries.
-use Rattle.std.proofs.Common.{◌≡◌, ◌≢◌, ℕ, ℤ, Option, Result, IfOk, Ok, Err, OnOk, pos, Bool, true, false, ◌&&◌, List, [], ◌∷◌, codes, refl, ap}
-use Rattle.sqlite_value.specs.declared.value.Value.TheVariants.{Int, Null, Text}
+use Rattle.std.proofs.Common.{◌≡◌, ℕ, Result, IfOk, Ok, Err, OnOk, true, ◌&&◌, List, [], ◌∷◌, codes, refl, ap}
+use Rattle.sqlite_value.specs.declared.value.Value.TheVariants.{Null, Text}
 use Rattle.sqlite_value.specs.Order.{Row, column}
 use Rattle.sqlite_schema.specs.declared.schema.Constraint.TheVariants.{Datatype, NotNull}
 use Rattle.sqlite_schema.specs.declared.schema.Kind.TheVariants as kind
 use Rattle.sqlite_rules.specs.Lists.{Has}
 use Rattle.sqlite_rules.proofs.ListLemmas.{all_has}
-use Rattle.sqlite_sql.specs.declared.ops.CompareOp.TheVariants.{Ge, Gt, Lt}
+use Rattle.sqlite_sql.specs.declared.ops.CompareOp.TheVariants.{Gt}
 use Rattle.sqlite_sql.specs.Term.{lit, col}
 use Rattle.sqlite.specs.declared.error.Error.{Error}
 use Rattle.sqlite.specs.Effect.{Database}
 use Rattle.sqlite.specs.State.{ExecutesInside, Shown, State}
 use Rattle.sql_schema.specs.Schema.{column_of, imported_table, imported_tree}
-use Rattle.sql_rows.specs.Meanings.{cell_of, compared_with, given, passes}
+use Rattle.sql_rows.specs.Meanings.{compared_with, given, passes}
 use Rattle.sql_rows.specs.Ours.{Changes, Gains, IsInside, IsOurs, Loses}
 use Rattle.sql_rows.specs.Slot.{On, imported_slot}
-use Rattle.sql_rows.proofs.CellLemmas.{after_text, and_true, below_count, cast_cell, cast_int, cast_null, equal_count, equal_text, from_count}
-use Rattle.sql_rows.proofs.RestLemmas.{finds, finds_least, finds_same, least_same}
-use Rattle.sql_rows.specs.Looking.{Finds, FindsLeast, is_after, is_from}
+use Rattle.sql_rows.proofs.CellLemmas.{after_text, and_true, cast_null, equal_text}
+use Rattle.sql_rows.proofs.RestLemmas.{finds_least, least_same}
+use Rattle.sql_rows.specs.Looking.{FindsLeast, is_after}
 use Rattle.sql_rows.proofs.SlotLemmas.{gains, is_imported, loses}
 use Rattle.sql_rows.proofs.TypeLemmas.{IsFilled, first_filled, ruled, second_filled}
 use Rattle.sql_rows.proofs.ImportedTexts.{add_is, add_plain, add_text, clear_is, clear_plain, clear_text, next_entry_is, next_entry_plain, next_entry_text, next_entry_unlisted, next_name_is, next_name_plain, next_name_text, next_name_unlisted}
-use Rattle.stored_rows.specs.Cells.{is_below, is_count, is_text}
+use Rattle.stored_rows.specs.Cells.{is_text}
 use Rattle.stored_rows.specs.Rows.{of_entry}
 
 imported_cells : (db : Database) → IsOurs db → (row : Row) → Has (db.trees imported_tree) row → IsFilled kind.Text (column row 1) × IsFilled kind.Text (column row 2)
@@ -29,9 +29,10 @@ imported_cells db ours row h =
     let typed = all_has _ (db.trees imported_tree) row (ruled Datatype db ours).1.1.1.1.1.0 h in
     let present = all_has _ (db.trees imported_tree) row (ruled NotNull db ours).1.1.1.1.1.0 h in
     let col1 = column_of (codes "calendar") kind.Text true in
-    let col2 = column_of (codes "entry") kind.Text true in
-    (first_filled imported_table (codes "calendar") kind.Text (col2 ∷ []) refl refl db.trees row typed present,
-    second_filled imported_table col1 (codes "entry") kind.Text ([]) refl refl db.trees row typed present)
+    let col2 = column_of (codes "entry") kind.Text true in (
+      first_filled imported_table (codes "calendar") kind.Text (col2 ∷ []) refl refl db.trees row typed present,
+      second_filled imported_table col1 (codes "entry") kind.Text ([]) refl refl db.trees row typed present,
+    )
 
 pub passes_imported : (db : Database) → IsOurs db → (calendar : List ℕ) (entry : List ℕ) → (row : Row) → Has (db.trees imported_tree) row → passes (given 1 0 ∷ given 2 1 ∷ []) (Text calendar ∷ Text entry ∷ []) row ≡ of_entry calendar entry row
 passes_imported db ours calendar entry row h =

@@ -1,7 +1,7 @@
 -- What a query for the least row answers.
-use Rattle.std.proofs.Common.{◌≡◌, ℕ, ◌≤◌, Bool, true, false, List, [], ◌∷◌, filter, map, inl, inr, length, take, refl, sym, ap, ◌∙◌, subst, arith, Ordering, Less, Equal, Greater}
+use Rattle.std.proofs.Common.{◌≡◌, ℕ, Bool, true, false, List, [], ◌∷◌, filter, map, inl, length, take, refl, sym, ap, ◌∙◌, subst, arith, Ordering}
 use Rattle.std.specs.List.Sorted.{IsPermutation, IsSorted, IsSortedBy}
-use Rattle.std.specs.Ordering.{is_lt, ordering_then}
+use Rattle.std.specs.Ordering.{is_lt}
 use Rattle.std.proofs.lemmas.List.Sorted.{IsPermutation-sym, length_permutation, sorted_far}
 use Rattle.std.proofs.lemmas.List.MinMax.{ranks_by}
 use Rattle.sqlite_rules.specs.Lists.{Has}
@@ -84,12 +84,17 @@ module _ (tree : ℕ) (terms : List Term) (at : ℕ) (db : Trees) (params : Row)
         some = λ shown more shows_it.
             let same : shown ∷ more ≡ o.1 ∷ [] = sym shows_it ∙ whole in
             let first : shown ≡ o.1 = cc in
-            let last : more ≡ [] = cc in
-            (from.0, from.1, from.2, first ∙ ap (λ (p : Output). p.1) from.3, last,
-            λ other h passes_it.
-                let lowest = first_is_least (output_cmp (least_query tree terms at)) o rest (subst (IsSorted (output_cmp (least_query tree terms at))) (sym is) answer.sorted) by_first (made other)
-                    (subst (λ l. Has l (made other)) (sym is) (ordered_made other h passes_it)) in
-                subst (λ v. is_lt (value_cmp (column other at) v) ≡ false) (ap first_key from.3) lowest);
+            let last : more ≡ [] = cc in (
+              from.0,
+              from.1,
+              from.2,
+              first ∙ ap (λ (p : Output). p.1) from.3,
+              last,
+              λ other h passes_it.
+                  let lowest = first_is_least (output_cmp (least_query tree terms at)) o rest (subst (IsSorted (output_cmp (least_query tree terms at))) (sym is) answer.sorted) by_first (made other)
+                  (subst (λ l. Has l (made other)) (sym is) (ordered_made other h passes_it)) in
+                  subst (λ v. is_lt (value_cmp (column other at) v) ≡ false) (ap first_key from.3) lowest,
+            );
       }
 
   pub least_answer : FindsLeast (passes terms params) at (db tree) rows

@@ -2,6 +2,7 @@ pub mod AnswerLemmas
 pub mod CellLemmas
 pub mod CommandLemmas
 pub mod CommandTexts
+pub mod DeskLemmas
 pub mod DeskTexts
 pub mod ImportedLemmas
 pub mod ImportedTexts

@@ -1,27 +1,27 @@
 -- The statements on the next numbers.
-use Rattle.std.proofs.Common.{◌≡◌, ◌≢◌, ℕ, ℤ, Option, Result, IfOk, Ok, Err, OnOk, pos, Bool, true, false, ◌&&◌, List, [], ◌∷◌, codes, refl, ap}
+use Rattle.std.proofs.Common.{◌≡◌, ℕ, Result, IfOk, Ok, Err, OnOk, pos, true, List, [], ◌∷◌, codes, refl, ap}
 use Rattle.sqlite_value.specs.declared.value.Value.TheVariants.{Int, Null, Text}
 use Rattle.sqlite_value.specs.Order.{Row, column}
 use Rattle.sqlite_schema.specs.declared.schema.Constraint.TheVariants.{Datatype, NotNull}
 use Rattle.sqlite_schema.specs.declared.schema.Kind.TheVariants as kind
 use Rattle.sqlite_rules.specs.Lists.{Has}
 use Rattle.sqlite_rules.proofs.ListLemmas.{all_has}
-use Rattle.sqlite_sql.specs.declared.ops.CompareOp.TheVariants.{Ge, Gt, Lt}
+use Rattle.sqlite_sql.specs.declared.ops.CompareOp.TheVariants.{Gt}
 use Rattle.sqlite_sql.specs.Term.{lit, col}
 use Rattle.sqlite.specs.declared.error.Error.{Error}
 use Rattle.sqlite.specs.Effect.{Database}
 use Rattle.sqlite.specs.State.{ExecutesInside, Shown, State}
 use Rattle.sql_schema.specs.Schema.{column_of, panel_table, panel_tree}
-use Rattle.sql_rows.specs.Meanings.{cell_of, compared_with, given, passes}
+use Rattle.sql_rows.specs.Meanings.{compared_with, given, passes}
 use Rattle.sql_rows.specs.Ours.{Changes, Gains, IsInside, IsOurs, Loses}
 use Rattle.sql_rows.specs.Slot.{On, panel_slot}
-use Rattle.sql_rows.proofs.CellLemmas.{after_text, and_true, below_count, cast_cell, cast_int, cast_null, equal_count, equal_text, from_count}
+use Rattle.sql_rows.proofs.CellLemmas.{after_text, and_true, cast_int, cast_null, equal_text}
 use Rattle.sql_rows.proofs.RestLemmas.{finds, finds_least, finds_same, least_same}
-use Rattle.sql_rows.specs.Looking.{Finds, FindsLeast, is_after, is_from}
+use Rattle.sql_rows.specs.Looking.{Finds, FindsLeast, is_after}
 use Rattle.sql_rows.proofs.SlotLemmas.{gains, is_panel, loses}
-use Rattle.sql_rows.proofs.TypeLemmas.{IsFilled, first_filled, ruled, second_filled}
+use Rattle.sql_rows.proofs.TypeLemmas.{IsFilled, first_filled, ruled}
 use Rattle.sql_rows.proofs.PanelTexts.{add_is, add_plain, add_text, clear_is, clear_plain, clear_text, find_is, find_plain, find_text, find_unlisted, next_name_is, next_name_plain, next_name_text, next_name_unlisted}
-use Rattle.stored_rows.specs.Cells.{is_below, is_count, is_text}
+use Rattle.stored_rows.specs.Cells.{is_text}
 use Rattle.stored_rows.specs.Rows.{of_panel}
 
 panel_cells : (db : Database) → IsOurs db → (row : Row) → Has (db.trees panel_tree) row → IsFilled kind.Text (column row 1)

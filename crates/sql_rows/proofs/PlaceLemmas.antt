@@ -1,26 +1,24 @@
 -- The statements on the places.
-use Rattle.std.proofs.Common.{◌≡◌, ◌≢◌, ℕ, ℤ, Result, IfOk, Ok, Err, OnOk, pos, Bool, true, false, ◌&&◌, List, [], ◌∷◌, filter, map, codes, Some, refl, sym, ap, subst, ◌∙◌, arith}
-use Rattle.std.specs.List.Sorted.{IsPermutation}
+use Rattle.std.proofs.Common.{◌≡◌, ℕ, ℤ, Result, IfOk, Ok, Err, OnOk, pos, true, ◌&&◌, List, [], ◌∷◌, codes, refl, ap}
 use Rattle.sqlite_value.specs.declared.value.Value.TheVariants.{Int, Null, Text}
 use Rattle.sqlite_value.specs.Order.{Row, column}
 use Rattle.sqlite_schema.specs.declared.schema.Constraint.TheVariants.{Datatype, NotNull}
 use Rattle.sqlite_schema.specs.declared.schema.Kind.TheVariants as kind
 use Rattle.sqlite_rules.specs.Lists.{Has}
 use Rattle.sqlite_rules.proofs.ListLemmas.{all_has}
-use Rattle.sqlite_trees.specs.Tree.{rowid}
 use Rattle.sqlite.specs.Effect.{Database}
-use Rattle.sql_schema.specs.Schema.{column_of, desk_schema, place_table, place_tree}
-use Rattle.sql_rows.specs.Meanings.{cell_of, compared_with, given, passes}
+use Rattle.sql_schema.specs.Schema.{column_of, place_table, place_tree}
+use Rattle.sql_rows.specs.Meanings.{compared_with, given, passes}
 use Rattle.sql_rows.specs.Ours.{IsOurs}
-use Rattle.sql_rows.proofs.CellLemmas.{after_text, and_true, below_count, cast_cell, cast_int, cast_null, equal_count, equal_text, from_count}
+use Rattle.sql_rows.proofs.CellLemmas.{after_text, and_true, cast_int, cast_null, equal_count, equal_text, from_count}
 use Rattle.sql_rows.proofs.TypeLemmas.{IsFilled, first_filled, ruled, second_filled}
-use Rattle.sqlite_sql.specs.declared.ops.CompareOp.TheVariants.{Ge, Gt, Lt}
+use Rattle.sqlite_sql.specs.declared.ops.CompareOp.TheVariants.{Ge, Gt}
 use Rattle.sqlite_sql.specs.Term.{lit, col}
 use Rattle.sqlite.specs.declared.error.Error.{Error}
 use Rattle.sqlite.specs.State.{ExecutesInside, Shown, State}
 use Rattle.sql_rows.specs.Ours.{Changes, Gains, IsInside, Loses}
 use Rattle.sql_rows.specs.Slot.{On, place_slot}
-use Rattle.sql_rows.proofs.CellLemmas.{after_text, and_true, below_count, cast_cell, cast_int, cast_null, equal_count, equal_text, from_count}
+use Rattle.sql_rows.proofs.CellLemmas.{after_text, and_true, cast_int, cast_null, equal_count, equal_text, from_count}
 use Rattle.sql_rows.proofs.PlaceTexts.{add_is, add_plain, add_text, clear_is, clear_plain, clear_text, find_is, find_plain, find_text, find_unlisted, next_point_is, next_point_plain, next_point_text, next_point_unlisted, next_priority_is, next_priority_plain, next_priority_text, next_priority_unlisted}
 use Rattle.sql_rows.proofs.RestLemmas.{finds, finds_least, finds_same, least_same}
 use Rattle.sql_rows.specs.Looking.{Finds, FindsLeast, is_after, is_from}
@@ -34,9 +32,10 @@ place_cells db ours row h =
     let present = all_has _ (db.trees place_tree) row (ruled NotNull db ours).1.1.1.0 h in
     let value = column_of (codes "value") kind.Integer true in
     let priority = column_of (codes "priority") kind.Integer true in
-    let point = column_of (codes "point") kind.Text true in
-    (first_filled place_table (codes "point") kind.Text (priority ∷ value ∷ []) refl refl db.trees row typed present,
-    second_filled place_table point (codes "priority") kind.Integer (value ∷ []) refl refl db.trees row typed present)
+    let point = column_of (codes "point") kind.Text true in (
+      first_filled place_table (codes "point") kind.Text (priority ∷ value ∷ []) refl refl db.trees row typed present,
+      second_filled place_table point (codes "priority") kind.Integer (value ∷ []) refl refl db.trees row typed present,
+    )
 
 pub passes_place : (db : Database) → IsOurs db → (point : List ℕ) (priority : ℕ) (row : Row) → Has (db.trees place_tree) row
     → passes (given 1 0 ∷ given 2 1 ∷ []) (Text point ∷ Int (pos priority) ∷ []) row ≡ of_place point priority row

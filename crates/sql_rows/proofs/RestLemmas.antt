@@ -1,16 +1,12 @@
 -- What a query leaves.
-use Rattle.std.proofs.Common.{◌≡◌, ◌⊎◌, inl, inr, ℕ, map, filter, Bool, false, List, [], ◌∷◌, Ok, Err, Result, refl, sym, ap, subst, ◌∙◌, IsTrue, IfErr, IfOk, OnOk, None, Some}
+use Rattle.std.proofs.Common.{◌≡◌, inl, inr, ℕ, map, Bool, false, List, Ok, Err, Result, sym, subst, ◌∙◌, IfErr, IfOk, OnOk}
 use Rattle.sqlite_value.specs.Order.{Row}
-use Rattle.sqlite_trees.specs.Tree.{Trees}
-use Rattle.sqlite_resolve.specs.declared.compiled.Compiled.{Compiled}
-use Rattle.sqlite_schema.specs.Program.{lets_of}
-use Rattle.sqlite_sql.specs.Program.{IsProgramAnswer}
 use Rattle.sqlite_sql.specs.Term.{Term}
 use Rattle.sqlite.specs.Clock.{timed}
 use Rattle.sqlite.specs.declared.error.Error.{Error}
 use Rattle.sqlite.specs.Given.{IsPlain}
 use Rattle.sqlite.specs.Listing.{reads_listing, understood}
-use Rattle.sqlite.specs.State.{CommitsShowing, FailsToQuery, FailsToShow, HasCleanDisk, IsNotRun, IsRolledBack, IsStatement, IsUnchanged, Shown, ShowsRows, State, Survives}
+use Rattle.sqlite.specs.State.{CommitsShowing, FailsToQuery, FailsToShow, IsNotRun, IsRolledBack, IsUnchanged, Shown, ShowsRows, State, Survives}
 use Rattle.sqlite.proofs.Callers.{command_of, never_commits, reads_as}
 use Rattle.sqlite.proofs.StateLemmas.{survives_weaker}
 use Rattle.sql_schema.specs.Schema.{desk_schema}

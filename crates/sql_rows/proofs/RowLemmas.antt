@@ -1,16 +1,15 @@
 -- What becomes of the rows of a table.
-use Rattle.std.proofs.Common.{◌≡◌, ◌⊎◌, inl, inr, ℕ, ℤ, Bool, true, false, cond, not, ◌&&◌, ◌||◌, List, [], ◌∷◌, ◌++◌, map, filter, refl, sym, ap, subst, ◌∙◌, IsTrue, Ordering, true≢false}
+use Rattle.std.proofs.Common.{◌≡◌, inl, inr, ℕ, ℤ, Bool, true, false, not, ◌&&◌, ◌||◌, List, [], ◌∷◌, map, filter, refl, sym, ap, subst, ◌∙◌, IsTrue, Ordering, true≢false}
 use Rattle.std.specs.declared.cmp.Ordering.TheVariants.{Less, Equal, Greater}
-use Rattle.std.specs.List.{AllByRecursion, list_any}
+use Rattle.std.specs.List.{list_any}
 use Rattle.std.specs.List.Sorted.{IsPermutation}
 use Rattle.std.specs.Ordering.{is_eq, match_ordering}
-use Rattle.std.proofs.lemmas.Bool.{both_ways, cases_Bool, or_parts}
+use Rattle.std.proofs.lemmas.Bool.{cases_Bool, or_parts}
 use Rattle.std.proofs.lemmas.List.Sorted.{IsPermutation-sym}
 use Rattle.sqlite_trees.proofs.ListLemmas.{all-permutation}
 use Rattle.std.specs.Ordering.{int_cmp}
 use Rattle.std.proofs.lemmas.Cmp.{tied_itself}
 use Rattle.std.proofs.lemmas.Bool.Decides.{Decides-int_eq}
-use Rattle.sqlite_value.specs.declared.value.Value.{Value}
 use Rattle.sqlite_value.specs.declared.value.Value.TheVariants.{Int}
 use Rattle.sqlite_value.specs.Order.{Row, column, value_cmp}
 use Rattle.sqlite_value.proofs.OrderLemmas.{value_cmp-Int, value_cmp_total}
@@ -56,7 +55,7 @@ has_id id row int has =
     let same : id_in (rowid row) ≡ id = (Decides-int_eq (id_in (rowid row)) id).0 tied in
     own ∙ ap Int same
 
-has_own_id : (row : Row) → is_int (rowid row) ≡ true → has_rowid (id_in (rowid row)) row ≡ true
+pub has_own_id : (row : Row) → is_int (rowid row) ≡ true → has_rowid (id_in (rowid row)) row ≡ true
 has_own_id row int = ap (λ v. is_eq (value_cmp (rowid row) v)) (sym (int_is (rowid row) int)) ∙ ap is_eq (tied_itself value_cmp_total (rowid row))
 
 has_permuted : {X : Type 0} (xs ys : List X) (x : X) → IsPermutation xs ys → Has ys x → Has xs x
@@ -76,6 +75,7 @@ deleted p rows answer numbered apart shown =
   where
     show : Row → Row
     show r = rowid r ∷ []
+
     gone : (r : Row) → Has rows r → list_any (λ id. has_rowid id r) (ids_of answer) ≡ true → p r ≡ true
     gone r h any =
         let id = some_has (λ id. has_rowid id r) (ids_of answer) any in
@@ -86,6 +86,7 @@ deleted p rows answer numbered apart shown =
         let one : rowid r ≡ Int id.0 = has_id id.0 r (numbered r h) id.2 in
         let other : rowid row.0 ≡ Int (id_in (rowid row.0)) = int_is (rowid row.0) (numbered row.0 kept.0) in
         apart r row.0 h kept.0 (one ∙ ap Int number ∙ sym other) ∙ kept.1
+
     answered : (r : Row) → Has rows r → p r ≡ true → list_any (λ id. has_rowid id r) (ids_of answer) ≡ true
     answered r h passes =
         let there = mapped_has show (filter p rows) r (has_kept p rows r h passes) in
@@ -119,12 +120,12 @@ own_put new key rows int free own = record {
   numbered = λ row h. elim (put_has new rows row h) [ inl same ↦ subst (λ r. IsTrue (is_int (rowid r))) (sym same) int | inr was ↦ own.numbered row was ];
   apart = λ a b ha hb tied. elim (put_has new rows a ha) [
     | inl one ↦ elim (put_has new rows b hb) [
-        | inl other ↦ ap (λ r. map (column r) key) (one ∙ sym other)
-        | inr was ↦ absurd (true≢false (sym (tied_taken new rows b was (sym tied ∙ ap rowid one)) ∙ free))
-      ]
+      | inl other ↦ ap (λ r. map (column r) key) (one ∙ sym other)
+      | inr was ↦ absurd (true≢false (sym (tied_taken new rows b was (sym tied ∙ ap rowid one)) ∙ free))
+    ]
     | inr had ↦ elim (put_has new rows b hb) [
-        | inl other ↦ absurd (true≢false (sym (tied_taken new rows a had (tied ∙ ap rowid other)) ∙ free))
-        | inr was ↦ own.apart a b had was tied
-      ]
+      | inl other ↦ absurd (true≢false (sym (tied_taken new rows a had (tied ∙ ap rowid other)) ∙ free))
+      | inr was ↦ own.apart a b had was tied
+    ]
   ];
 }

@@ -1,5 +1,5 @@
 -- What a statement on one of the keyed tables makes of the rows of the six.
-use Rattle.std.proofs.Common.{◌≡◌, ◌≢◌, ℕ, ℤ, pos, Bool, true, false, not, List, length, ◌/◌, [], ◌∷◌, ◌++◌, filter, map, slice_get, Some, Ok, Err, Result, refl, sym, ap, subst, subst₂, ◌∙◌, arith, IsTrue, OnOk}
+use Rattle.std.proofs.Common.{◌≡◌, ◌≢◌, ℕ, Bool, true, false, not, List, length, ◌/◌, [], ◌∷◌, ◌++◌, filter, map, slice_get, Some, Ok, Err, Result, refl, sym, ap, subst, subst₂, ◌∙◌, arith, OnOk}
 use Rattle.std.proofs.lemmas.Bool.{and_parts}
 use Rattle.std.specs.List.Sorted.{IsPermutation}
 use Rattle.sqlite_value.specs.declared.value.Value.TheVariants.{Int, Null}
@@ -22,7 +22,7 @@ use Rattle.sqlite.specs.State.{ExecutesInside, Shows, State}
 use Rattle.sqlite.proofs.Callers.{command_of}
 use Rattle.sql_schema.specs.Schema.{desk_schema, keyed_table}
 use Rattle.sql_rows.specs.Meanings.{deletion, passes}
-use Rattle.sql_rows.specs.Ours.{AreOurs, AreOwn, Changes, Gains, HasOneMore, IsInside, IsOurs, Loses, kept_in}
+use Rattle.sql_rows.specs.Ours.{AreOurs, AreOwn, Changes, Gains, HasOneMore, IsInside, Loses, kept_in}
 use Rattle.sql_rows.specs.Slot.{On, Slot, command_slot, imported_slot, panel_slot, place_slot, shown_slot}
 use Rattle.sql_rows.proofs.RowLemmas.{deleted, filter_same, own_filtered, own_put, put_apart}
 use Rattle.sql_rows.proofs.WriteLemmas.{Ran, adds, removes}
@@ -130,7 +130,7 @@ is_imported = record {
   with_own = λ kept rows ours own. record { desk = ours.desk; panel = ours.panel; command = ours.command; place = ours.place; shown = ours.shown; imported = own };
 }
 
-not_true : (b : Bool) → not b ≡ true → b ≡ false
+pub not_true : (b : Bool) → not b ≡ true → b ≡ false
 not_true false is = refl
 not_true true is = sym is
 
@@ -164,7 +164,7 @@ module _ (slot : Slot) (is_slot : IsSlot slot) (sql : List ℕ) (plain : IsPlain
       let gave = removes sql slot.at slot.table is_slot.found plain slot.table.tree terms is old new params count inside.ours.schema_is h.0 in
       let picked = subst (λ l. IsPermutation (map (λ r. rowid r ∷ []) l) gave.0) (filter_same (passes terms params) gone rows same) gave.1 in
       let left : new.now.trees slot.table.tree ≡ filter (λ r. not (gone r)) rows =
-          gave.2.applies.rows ∙ deleted gone rows gave.0 own.numbered (λ a b ha hb tied. by_key a b (own.apart a b ha hb tied)) picked in
+      gave.2.applies.rows ∙ deleted gone rows gave.0 own.numbered (λ a b ha hb tied. by_key a b (own.apart a b ha hb tied)) picked in
       changed (Loses gone) _ old new refl inside h.1 gave.2 (subst (AreOwn slot.key) (sym left) (own_filtered (λ r. not (gone r)) slot.key rows own)) left
 
   -- a statement that adds a row
@@ -186,4 +186,4 @@ module _ (slot : Slot) (is_slot : IsSlot slot) (sql : List ℕ) (plain : IsPlain
       let free : is_taken rows row ≡ false = not_true _ (and_parts _ _ (subst (λ l. are_fresh rows l ≡ true) news ran.applies.fresh)).0 in
       let now : new.now.trees slot.table.tree ≡ put_row row rows = ran.applies.rows ∙ ap (put_all rows) news in
       changed (Gains cells) _ old new refl inside h.1 ran (subst (AreOwn slot.key) (sym now) (own_put row slot.key rows refl free (own_rows old inside)))
-          (record { id = id; more = subst (HasOneMore row rows) (sym now) (put_apart row rows free) })
+      (record { id = id; more = subst (HasOneMore row rows) (sym now) (put_apart row rows free) })

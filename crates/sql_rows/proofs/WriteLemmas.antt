@@ -1,26 +1,23 @@
 -- What a statement that removes rows of a table, or adds one, makes of the trees.
-use Rattle.std.proofs.Common.{◌≡◌, ◌≢◌, ◌⊎◌, inl, inr, ℕ, ℤ, Bool, true, false, List, length, ◌/◌, [], ◌∷◌, ◌++◌, map, filter, slice_get, Option, Some, None, Ok, Err, Result, refl, sym, ap, subst, ◌∙◌}
-use Rattle.std.specs.List.{AllByRecursion}
+use Rattle.std.proofs.Common.{◌≡◌, ◌⊎◌, inl, inr, ℕ, List, length, ◌/◌, [], ◌∷◌, ◌++◌, map, filter, slice_get, Option, Some, None, Ok, Err, Result, refl, sym, ap, subst, ◌∙◌}
 use Rattle.std.specs.List.Sorted.{IsPermutation}
 use Rattle.sqlite_value.specs.Order.{Row}
-use Rattle.sqlite_trees.specs.Tree.{Trees, rowid}
+use Rattle.sqlite_trees.specs.Tree.{rowid}
 use Rattle.sqlite_schema.specs.declared.schema.Column.{Column}
 use Rattle.sqlite_schema.specs.declared.schema.Table.{Table}
 use Rattle.sqlite_schema.specs.declared.schema.Keys.TheVariants.{Enforced}
-use Rattle.sqlite_schema.specs.declared.command.Command.TheVariants.{Delete, Insert, Update}
+use Rattle.sqlite_schema.specs.declared.command.Command.TheVariants.{Insert, Update}
 use Rattle.sqlite_schema.specs.declared.command.Source.TheVariants.{Values}
 use Rattle.sqlite_sql.specs.Term.{Term, col}
 use Rattle.sqlite_rules.specs.declared.error.Rowids.TheVariants.{Chosen, Given}
-use Rattle.sqlite_rules.specs.Action.{works}
 use Rattle.sqlite_rules.specs.Calls.{ids_of}
-use Rattle.sqlite_rules.specs.Edit.{Applies, Edit, edit_of, edited, taken_by, without_all}
-use Rattle.sqlite.specs.declared.error.Error.{Error}
+use Rattle.sqlite_rules.specs.Edit.{Applies, Edit, edit_of}
 use Rattle.sqlite.specs.Does.{AtPlace, Does, OnRows, Tally}
 use Rattle.sqlite.specs.Effect.{Database, IsDatabase, value_rows}
 use Rattle.sqlite.specs.Given.{IsPlain}
 use Rattle.sqlite.specs.Listing.{understood}
 use Rattle.sqlite.specs.Rows.{Outcome, Part, Task, Written}
-use Rattle.sqlite.specs.State.{State, mode_of, Writes, Executes}
+use Rattle.sqlite.specs.State.{State, mode_of, Executes}
 use Rattle.sqlite.proofs.Callers.{command_of, one_step, runs_as, statement_of}
 use Rattle.sql_schema.specs.Schema.{desk_schema, keyed_table}
 use Rattle.sql_rows.specs.Meanings.{deletion, passes, plain_query, shows}
@@ -59,10 +56,11 @@ module _ (sql : List ℕ) (at : ℕ) (table : Table) (found : slice_get desk_sch
       let concluded = went (went done.2).2 in
       let now = ap (λ (p : Tally × Database). p.1) (same_value concluded.2) in
       let left : written.0 ≡ new.now.trees = ap (λ (it : Written). it.trees) (sym (same_value written.2)) ∙ sym (ap (λ (d : Database). d.trees) now) in
-      let edit = edit_of db table (ids_of deleted.0) Given 0 [] in
-      (deleted.0,
-      plain_program tree terms (col 1 0 ∷ []) db params deleted.0 deleted.1.answer,
-      record { schema = ap (λ (d : Database). d.schema) now; sound = w.sound; applies = subst (Applies desk_schema Enforced db edit) left (one_step desk_schema Enforced db written.0 edit refl written.1) })
+      let edit = edit_of db table (ids_of deleted.0) Given 0 [] in (
+        deleted.0,
+        plain_program tree terms (col 1 0 ∷ []) db params deleted.0 deleted.1.answer,
+        record { schema = ap (λ (d : Database). d.schema) now; sound = w.sound; applies = subst (Applies desk_schema Enforced db edit) left (one_step desk_schema Enforced db written.0 edit refl written.1) },
+      )
 
   pub updates : (tree : ℕ) (project : List Term) → command_of (understood desk_schema sql) ≡ Update at (record { lets = []; body = plain_query tree [] project })
       → (old new : State) (params : Row) (count : ℕ) → old.now.schema ≡ desk_schema → Executes sql params old new (Ok count)
@@ -80,10 +78,11 @@ module _ (sql : List ℕ) (at : ℕ) (table : Table) (found : slice_get desk_sch
       let concluded = went (went done.2).2 in
       let now = ap (λ (p : Tally × Database). p.1) (same_value concluded.2) in
       let left : written.0 ≡ new.now.trees = ap (λ (it : Written). it.trees) (sym (same_value written.2)) ∙ sym (ap (λ (d : Database). d.trees) now) in
-      let edit = edit_of db table (ids_of updated.0) Given 1 updated.0 in
-      (updated.0,
-      plain_program tree [] project db params updated.0 updated.1.answer,
-      record { schema = ap (λ (d : Database). d.schema) now; sound = w.sound; applies = subst (Applies desk_schema Enforced db edit) left (one_step desk_schema Enforced db written.0 edit refl written.1) })
+      let edit = edit_of db table (ids_of updated.0) Given 1 updated.0 in (
+        updated.0,
+        plain_program tree [] project db params updated.0 updated.1.answer,
+        record { schema = ap (λ (d : Database). d.schema) now; sound = w.sound; applies = subst (Applies desk_schema Enforced db edit) left (one_step desk_schema Enforced db written.0 edit refl written.1) },
+      )
 
 module _ (sql : List ℕ) (at : ℕ) (name : List ℕ) (tree : ℕ) (columns : List Column) (key : List ℕ) (checks : List Term)
     (found : slice_get desk_schema.tables at ≡ Some (keyed_table name tree columns key checks)) (plain : IsPlain (understood desk_schema sql)) where

@@ -1,5 +1,5 @@
 -- What a statement that only reads leaves, and what its answer is.
-use Rattle.std.specs.Prelude.{◌≡◌, ℕ, ℤ, pos, negsuc, Bool, true, false, nat_lt, not, IsTrue, List, [], ◌∷◌, filter, map}
+use Rattle.std.specs.Prelude.{◌≡◌, ℕ, pos, Bool, true, false, nat_lt, not, IsTrue, List, [], ◌∷◌, filter, map}
 use Rattle.std.specs.Cmp.Lexicographic.{slice_cmp}
 use Rattle.std.specs.List.Sorted.{IsPermutation}
 use Rattle.std.specs.Ordering.{is_gt, is_lt, nat_cmp}

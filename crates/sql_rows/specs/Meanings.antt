@@ -1,9 +1,8 @@
 -- What the statements on one table mean.
-use Rattle.std.specs.Prelude.{ℕ, Bool, false, List, [], ◌∷◌, Option, Some, None, ℤ, pos, negsuc}
+use Rattle.std.specs.Prelude.{ℕ, Bool, false, List, [], ◌∷◌, None, pos, negsuc}
 use Rattle.std.specs.List.{list_all}
 use Rattle.sqlite_value.specs.declared.keys.Collation.TheVariants.{Binary}
-use Rattle.sqlite_value.specs.declared.value.Value.TheVariants.{Null, Int}
-use Rattle.sqlite_value.specs.declared.value.Value.{Value}
+use Rattle.sqlite_value.specs.declared.value.Value.TheVariants.{Int}
 use Rattle.sqlite_value.specs.Keys.{ascending}
 use Rattle.sqlite_value.specs.Order.{Row}
 use Rattle.sqlite_sql.specs.declared.ops.BinaryOp.TheVariants.{Compare}
@@ -12,7 +11,7 @@ use Rattle.sqlite_sql.specs.declared.ops.CompareOp.TheVariants.{Eq}
 use Rattle.sqlite_sql.specs.Query.{Query, inner, end}
 use Rattle.sqlite_sql.specs.Term.{Term, lit, col, op2, eval_all, holds}
 use Rattle.sqlite_schema.specs.declared.command.Command.{Command}
-use Rattle.sqlite_schema.specs.declared.command.Command.TheVariants.{Select, Delete, Update}
+use Rattle.sqlite_schema.specs.declared.command.Command.TheVariants.{Select, Delete}
 
 -- the rows of a table that pass the terms, and of each what the terms show
 abbrev pub plain_query : ℕ → List Term → List Term → Query
@@ -66,8 +65,3 @@ least tree terms column names = Select (record { lets = []; body = least_query t
 
 abbrev pub deletion : ℕ → ℕ → List Term → Command
 deletion at tree terms = Delete at (record { lets = []; body = plain_query tree terms (col 1 0 ∷ []) })
-
--- a number or NULL as a cell
-abbrev pub cell_of : Option ℤ → Value
-cell_of None = Null
-cell_of (Some n) = Int n

@@ -24,9 +24,11 @@ pub record AreOwn (key : List ℕ) (rows : List Row) : Type 0 where
   pub numbered : (row : Row) → Has rows row → IsTrue (is_int (rowid row))
   pub apart : (a b : Row) → Has rows a → Has rows b → rowid a ≡ rowid b → map (column a) key ≡ map (column b) key
 
--- there is one row
-abbrev pub IsOne : List Row → Type 0
-IsOne rows = (row : Row) × (rows ≡ row ∷ [])
+-- there is one row, and it is numbered
+pub record IsOne (rows : List Row) : Type 0 where
+  pub row : Row
+  pub is : rows ≡ row ∷ []
+  pub numbered : IsTrue (is_int (rowid row))
 
 -- the rows of the six tables, as a store writes them
 pub record AreOurs (kept : Kept) : Type 0 where
@@ -74,3 +76,11 @@ Loses gone old now = now ≡ filter (λ row. not (gone row)) old
 pub record Gains (cells : Row) (old now : List Row) : Type 0 where
   pub id : Value
   pub more : HasOneMore (id ∷ cells) old now
+
+-- the row of `desk` is another one, with this as its last cell
+pub record SetsDesk (last : Row → Value) (old new : Kept) : Type 0 where
+  pub was : Row
+  pub row : Row
+  pub had : old.desk ≡ was ∷ []
+  pub others : new ≡ record old { desk = row ∷ [] }
+  pub last_is : column row 3 ≡ last was

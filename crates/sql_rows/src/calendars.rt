@@ -10,10 +10,10 @@ ghost use Rattle.sql_rows.specs.Slot.{On, imported_slot};
 ghost use Rattle.stored_rows.specs.Cells.{is_text};
 ghost use Rattle.stored_rows.specs.Rows.{of_entry};
 
-use crate::parameters::{text, words};
 use crate::looking::look;
+use crate::parameters::{text, words};
 use crate::running::run;
-use points::{Name};
+use points::Name;
 use sqlite::{Alter, Connection, Error, Row, Transaction};
 
 /// Removes an entry of a calendar.
@@ -55,10 +55,7 @@ pub fn add<S: Alter>(
 // ---- what is read
 
 /// The least name after a text, if there is one.
-pub fn next_name<S: Alter>(
-    connection: &mut Connection<S>,
-    after: &str,
-) -> Result<Vec<Row>, Error>
+pub fn next_name<S: Alter>(connection: &mut Connection<S>, after: &str) -> Result<Vec<Row>, Error>
     ensures mode { connection.old.in_transaction ≡ false → connection.new.in_transaction ≡ false }
     ensures same { HasCleanDisk (state S.Store connection.new) → IsOurs (state S.Store connection.old).now → OnOk result (IsUnchanged (state S.Store connection.old) (state S.Store connection.new)) }
     ensures rests { HasCleanDisk (state S.Store connection.new) → IsOurs (state S.Store connection.old).now → Rests (state S.Store connection.old) (state S.Store connection.new) }

@@ -7,14 +7,15 @@ ghost use Rattle.sqlite_value.specs.Order.{column};
 ghost use Rattle.sql_rows.specs.Looking.{Finds, FindsLeast, Rests, is_after, is_from};
 ghost use Rattle.sql_rows.specs.Ours.{Changes, Gains, IsInside, IsOurs, Loses, kept_in};
 ghost use Rattle.sql_rows.specs.Slot.{On, command_slot};
-ghost use Rattle.stored_rows.specs.Cells.{is_text};
+ghost use Rattle.stored_rows.specs.Cells.{cell_of, is_text};
 ghost use Rattle.stored_rows.specs.Rows.{of_command, of_lower_command};
 
-use crate::parameters::{count, text, words};
 use crate::looking::look;
+use crate::parameters::{count, optional, text, whole, words};
 use crate::running::run;
-use points::{Name};
+use points::{Content, Name};
 use sqlite::{Alter, Connection, Error, Row, Transaction};
+use stored_rows::StateCells;
 
 /// Removes the row under a number of a panel.
 pub fn clear<S: Alter>(
@@ -32,6 +33,36 @@ pub fn clear<S: Alter>(
         transaction,
         "DELETE FROM command WHERE panel = ?1 AND number = ?2",
         &[text(panel), count(number)],
+    )
+}
+
+/// Adds the row under a number of a panel.
+pub fn add<S: Alter>(
+    transaction: &mut Transaction<'_, S>,
+    panel: &Name,
+    number: u64,
+    content: &Content,
+    cells: &StateCells,
+) -> Result<usize, Error>
+    requires { number < 2 ^ 63 }
+    ensures same_reference { transaction.new.conn.ghost_name ≡ transaction.old.conn.ghost_name }
+    ensures done { HasCleanDisk (state S.Store transaction.new.conn.now) → IsInside (state S.Store transaction.old.conn.now) → OnOk result (Changes (On command_slot (Gains (Text panel.now ∷ Int (pos number) ∷ Text content.now.point ∷ Int content.now.priority ∷ cell_of content.now.value ∷ Int cells.now.code ∷ cell_of cells.now.a ∷ cell_of cells.now.b ∷ []))) (state S.Store transaction.old.conn.now) (state S.Store transaction.new.conn.now)) }
+    ensures kept { HasCleanDisk (state S.Store transaction.new.conn.now) → KeepsCommit (state S.Store transaction.old.conn.now) (state S.Store transaction.new.conn.now) }
+    ensures survives { Survives (state S.Store transaction.old.conn.now) (state S.Store transaction.new.conn.now) (λ _. ⊥) }
+{
+    run(
+        transaction,
+        "INSERT INTO command (panel, number, point, priority, value, state, a, b) VALUES (?1, ?2, ?3, ?4, ?5, ?6, ?7, ?8)",
+        &[
+            text(panel),
+            count(number),
+            text(&content.point),
+            whole(content.priority),
+            optional(content.value),
+            whole(cells.code),
+            optional(cells.a),
+            optional(cells.b),
+        ],
     )
 }
 
@@ -77,10 +108,7 @@ pub fn find<S: Alter>(
 }
 
 /// The least name of a panel after a text, if there is one.
-pub fn next_panel<S: Alter>(
-    connection: &mut Connection<S>,
-    after: &str,
-) -> Result<Vec<Row>, Error>
+pub fn next_panel<S: Alter>(connection: &mut Connection<S>, after: &str) -> Result<Vec<Row>, Error>
     ensures mode { connection.old.in_transaction ≡ false → connection.new.in_transaction ≡ false }
     ensures same { HasCleanDisk (state S.Store connection.new) → IsOurs (state S.Store connection.old).now → OnOk result (IsUnchanged (state S.Store connection.old) (state S.Store connection.new)) }
     ensures rests { HasCleanDisk (state S.Store connection.new) → IsOurs (state S.Store connection.old).now → Rests (state S.Store connection.old) (state S.Store connection.new) }

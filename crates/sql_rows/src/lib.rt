@@ -5,8 +5,9 @@
 
 pub mod calendars;
 pub mod commands;
-pub mod panels;
+pub mod desk_row;
 mod looking;
+pub mod panels;
 mod parameters;
 pub mod places;
 mod running;

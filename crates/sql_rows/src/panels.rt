@@ -10,17 +10,14 @@ ghost use Rattle.sql_rows.specs.Slot.{On, panel_slot};
 ghost use Rattle.stored_rows.specs.Cells.{is_text};
 ghost use Rattle.stored_rows.specs.Rows.{of_panel};
 
-use crate::parameters::{count, text, words};
 use crate::looking::look;
+use crate::parameters::{count, text, words};
 use crate::running::run;
-use points::{Name};
+use points::Name;
 use sqlite::{Alter, Connection, Error, Row, Transaction};
 
 /// Removes the next number of a panel.
-pub fn clear<S: Alter>(
-    transaction: &mut Transaction<'_, S>,
-    panel: &Name,
-) -> Result<usize, Error>
+pub fn clear<S: Alter>(transaction: &mut Transaction<'_, S>, panel: &Name) -> Result<usize, Error>
     ensures same_reference { transaction.new.conn.ghost_name ≡ transaction.old.conn.ghost_name }
     ensures done { HasCleanDisk (state S.Store transaction.new.conn.now) → IsInside (state S.Store transaction.old.conn.now) → OnOk result (Changes (On panel_slot (Loses (of_panel panel.now))) (state S.Store transaction.old.conn.now) (state S.Store transaction.new.conn.now)) }
     ensures kept { HasCleanDisk (state S.Store transaction.new.conn.now) → KeepsCommit (state S.Store transaction.old.conn.now) (state S.Store transaction.new.conn.now) }
@@ -55,10 +52,7 @@ pub fn add<S: Alter>(
 // ---- what is read
 
 /// The cell `next` of a panel.
-pub fn find<S: Alter>(
-    connection: &mut Connection<S>,
-    panel: &Name,
-) -> Result<Vec<Row>, Error>
+pub fn find<S: Alter>(connection: &mut Connection<S>, panel: &Name) -> Result<Vec<Row>, Error>
     ensures mode { connection.old.in_transaction ≡ false → connection.new.in_transaction ≡ false }
     ensures same { HasCleanDisk (state S.Store connection.new) → IsOurs (state S.Store connection.old).now → OnOk result (IsUnchanged (state S.Store connection.old) (state S.Store connection.new)) }
     ensures rests { HasCleanDisk (state S.Store connection.new) → IsOurs (state S.Store connection.old).now → Rests (state S.Store connection.old) (state S.Store connection.new) }
@@ -73,10 +67,7 @@ pub fn find<S: Alter>(
 }
 
 /// The least name after a text, if there is one.
-pub fn next_name<S: Alter>(
-    connection: &mut Connection<S>,
-    after: &str,
-) -> Result<Vec<Row>, Error>
+pub fn next_name<S: Alter>(connection: &mut Connection<S>, after: &str) -> Result<Vec<Row>, Error>
     ensures mode { connection.old.in_transaction ≡ false → connection.new.in_transaction ≡ false }
     ensures same { HasCleanDisk (state S.Store connection.new) → IsOurs (state S.Store connection.old).now → OnOk result (IsUnchanged (state S.Store connection.old) (state S.Store connection.new)) }
     ensures rests { HasCleanDisk (state S.Store connection.new) → IsOurs (state S.Store connection.old).now → Rests (state S.Store connection.old) (state S.Store connection.new) }

@@ -10,8 +10,8 @@ ghost use Rattle.sql_rows.specs.Slot.{On, place_slot};
 ghost use Rattle.stored_rows.specs.Cells.{is_text};
 ghost use Rattle.stored_rows.specs.Rows.{of_place};
 
-use crate::parameters::{count, text, whole, words};
 use crate::looking::look;
+use crate::parameters::{count, text, whole, words};
 use crate::running::run;
 use points::Name;
 use sqlite::{Alter, Connection, Error, Row, Transaction};
@@ -49,11 +49,7 @@ pub fn add<S: Alter>(
     run(
         transaction,
         "INSERT INTO place (point, priority, value) VALUES (?1, ?2, ?3)",
-        &[
-            text(point),
-            count(u64::from(priority)),
-            whole(value),
-        ],
+        &[text(point), count(u64::from(priority)), whole(value)],
     )
 }
 
@@ -80,10 +76,7 @@ pub fn find<S: Alter>(
 }
 
 /// The least name of a point after a text, if there is one.
-pub fn next_point<S: Alter>(
-    connection: &mut Connection<S>,
-    after: &str,
-) -> Result<Vec<Row>, Error>
+pub fn next_point<S: Alter>(connection: &mut Connection<S>, after: &str) -> Result<Vec<Row>, Error>
     ensures mode { connection.old.in_transaction ≡ false → connection.new.in_transaction ≡ false }
     ensures same { HasCleanDisk (state S.Store connection.new) → IsOurs (state S.Store connection.old).now → OnOk result (IsUnchanged (state S.Store connection.old) (state S.Store connection.new)) }
     ensures rests { HasCleanDisk (state S.Store connection.new) → IsOurs (state S.Store connection.old).now → Rests (state S.Store connection.old) (state S.Store connection.new) }

@@ -3,18 +3,17 @@ ghost use Rattle.std.specs.Prelude.{◌≡◌, ◌<◌, ◌^◌, ◌&&◌, false
 ghost use Rattle.sqlite.specs.Held.{state};
 ghost use Rattle.sqlite.specs.State.{HasCleanDisk, IsUnchanged, KeepsCommit, Survives};
 ghost use Rattle.sqlite_value.specs.declared.value.Value.TheVariants.{Int, Text};
-ghost use Rattle.sql_rows.specs.Meanings.{cell_of};
 ghost use Rattle.sqlite_value.specs.Order.{column};
 ghost use Rattle.sql_rows.specs.Looking.{Finds, FindsLeast, Rests, is_after, is_from};
 ghost use Rattle.sql_rows.specs.Ours.{Changes, Gains, IsInside, IsOurs, Loses, kept_in};
 ghost use Rattle.sql_rows.specs.Slot.{On, shown_slot};
-ghost use Rattle.stored_rows.specs.Cells.{is_text};
+ghost use Rattle.stored_rows.specs.Cells.{cell_of, is_text};
 ghost use Rattle.stored_rows.specs.Rows.{of_schedule};
 
-use crate::parameters::{optional, text, words};
 use crate::looking::look;
+use crate::parameters::{optional, text, words};
 use crate::running::run;
-use points::{Name};
+use points::Name;
 use sqlite::{Alter, Connection, Error, Row, Transaction};
 
 /// Removes what a schedule shows.
@@ -55,10 +54,7 @@ pub fn add<S: Alter>(
 // ---- what is read
 
 /// The cell `value` of a schedule.
-pub fn find<S: Alter>(
-    connection: &mut Connection<S>,
-    schedule: &Name,
-) -> Result<Vec<Row>, Error>
+pub fn find<S: Alter>(connection: &mut Connection<S>, schedule: &Name) -> Result<Vec<Row>, Error>
     ensures mode { connection.old.in_transaction ≡ false → connection.new.in_transaction ≡ false }
     ensures same { HasCleanDisk (state S.Store connection.new) → IsOurs (state S.Store connection.old).now → OnOk result (IsUnchanged (state S.Store connection.old) (state S.Store connection.new)) }
     ensures rests { HasCleanDisk (state S.Store connection.new) → IsOurs (state S.Store connection.old).now → Rests (state S.Store connection.old) (state S.Store connection.new) }
@@ -73,10 +69,7 @@ pub fn find<S: Alter>(
 }
 
 /// The least name after a text, if there is one.
-pub fn next_name<S: Alter>(
-    connection: &mut Connection<S>,
-    after: &str,
-) -> Result<Vec<Row>, Error>
+pub fn next_name<S: Alter>(connection: &mut Connection<S>, after: &str) -> Result<Vec<Row>, Error>
     ensures mode { connection.old.in_transaction ≡ false → connection.new.in_transaction ≡ false }
     ensures same { HasCleanDisk (state S.Store connection.new) → IsOurs (state S.Store connection.old).now → OnOk result (IsUnchanged (state S.Store connection.old) (state S.Store connection.new)) }
     ensures rests { HasCleanDisk (state S.Store connection.new) → IsOurs (state S.Store connection.old).now → Rests (state S.Store connection.old) (state S.Store connection.new) }
