@@ -9,14 +9,8 @@ use Rattle.sqlite.specs.Given.{IsPlain}
 use Rattle.sqlite.proofs.Callers.{command_of, statement_of}
 use Rattle.sqlite_tied.specs.Compute.{everything}
 use Rattle.sql_schema.specs.Schema.{desk_table, panel_table, command_table, place_table, shown_table, imported_table, schema_0, schema_1, schema_2, schema_3, schema_4, schema_5}
+use Rattle.sql_schema.specs.Making.{MakesTable}
 use Rattle.sql_schema.specs.Texts.{create_desk, create_panel, create_command, create_place, create_shown, create_imported}
-
--- the text makes the table where the schema stands, and means nothing else
-pub record MakesTable (schema : Schema) (sql : List ℕ) (table : Table) : Type 0 where
-  pub command : command_of (understood schema sql) ≡ CreateTable
-  pub statement : statement_of sql (understood schema sql) ≡ sql
-  pub defined : table_defined_by sql ≡ Ok (record table { tree = 0 })
-  pub plain : IsPlain (understood schema sql)
 
 pub makes_desk : MakesTable schema_0 create_desk desk_table
 unfolding understood everything
