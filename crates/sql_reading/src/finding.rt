@@ -1,0 +1,172 @@
+//! What is kept under a key.
+ghost use Rattle.std.specs.Prelude.{◌≡◌, ◌≤◌, false, true, Err, IfErr, IfOk, [], ◌∷◌};
+ghost use Rattle.std.specs.FinMap.{get};
+ghost use Rattle.std.specs.Result.{result_err};
+ghost use Rattle.sqlite.specs.Held.{state};
+ghost use Rattle.sqlite.specs.State.{HasCleanDisk, Survives};
+ghost use Rattle.sqlite_value.specs.Order.{column};
+ghost use Rattle.sql_rows.specs.Looking.{Finds};
+ghost use Rattle.sql_rows.specs.Ours.{IsOurs, kept_in};
+ghost use Rattle.sql_reading.specs.Asking.{Asks};
+ghost use Rattle.stored_rows.specs.declared.read_fault.ReadFault.TheVariants.{BadRow};
+ghost use Rattle.stored_rows.specs.Rows.{of_command, of_panel, of_place, of_schedule};
+ghost use Rattle.stored_rows.specs.Stored.{Kept, is_sound_in, tables_in};
+
+use crate::only::only;
+use points::{CommandRow, Name};
+use sql_rows::{commands, desk_row, panels, places, schedules};
+use sqlite::{Alter, Connection, Row};
+use stored_rows::{ReadFault, command_at, count_at, number_at, optional_at};
+
+const LEAST_NUMBER: u64 = 1;
+
+const GREATEST_NUMBER: u64 = 1_000_000_000_000;
+
+const GREATEST_NEXT: u64 = 1_000_000_000_001;
+
+// What the answer of the query on a panel tells.
+fn told_next(panel: &Name, rows: Vec<Row>) -> Result<u64, ReadFault>
+    ensures value { (kept : Kept) → Finds (of_panel panel.now) (λ row. column row 2 ∷ []) kept.panel rows.items → IfOk result (λ it. it ≡ (tables_in kept).next panel.now) }
+    ensures bad { (kept : Kept) → Finds (of_panel panel.now) (λ row. column row 2 ∷ []) kept.panel rows.items → IfErr result (λ _. is_sound_in kept ≡ false) }
+    ensures fault { IfErr result (λ fault. fault ≡ BadRow) }
+{
+    // What is asked for is a name, as a row's own has to be.
+    let _name = panel.as_str();
+    match only(rows)? {
+        None => Ok(LEAST_NUMBER),
+        Some(row) => count_at(&row, 0, LEAST_NUMBER, GREATEST_NEXT),
+    }
+}
+
+/// The next number of a panel: 1 where none is kept.
+pub fn next_of<S: Alter>(connection: &mut Connection<S>, panel: &Name) -> Result<u64, ReadFault>
+    ensures mode { connection.old.in_transaction ≡ false → connection.new.in_transaction ≡ false }
+    ensures asks { HasCleanDisk (state S.Store connection.new) → IsOurs (state S.Store connection.old).now → Asks (result_err result) (state S.Store connection.old) (state S.Store connection.new) }
+    ensures value { HasCleanDisk (state S.Store connection.new) → IsOurs (state S.Store connection.old).now → IfOk result (λ it. it ≡ (tables_in (kept_in (state S.Store connection.old).now.trees)).next panel.now) }
+    ensures bad { HasCleanDisk (state S.Store connection.new) → IsOurs (state S.Store connection.old).now → result ≡ Err BadRow → is_sound_in (kept_in (state S.Store connection.old).now.trees) ≡ false }
+    ensures survives { Survives (state S.Store connection.old) (state S.Store connection.new) (λ _. IsOurs (state S.Store connection.old).now → ⊥) }
+{
+    let rows = panels::find(connection, panel)?;
+    told_next(panel, rows)
+}
+
+// What the answer of the query on a number tells.
+fn told_command(panel: &Name, number: u64, rows: Vec<Row>) -> Result<Option<CommandRow>, ReadFault>
+    requires at_least_1 { 1 ≤ number }
+    requires greatest { number ≤ 1_000_000_000_000 }
+    ensures value { (kept : Kept) → Finds (of_command panel.now number) (λ row. column row 3 ∷ column row 4 ∷ column row 5 ∷ column row 6 ∷ column row 7 ∷ column row 8 ∷ []) kept.command rows.items → IfOk result (λ it. it ≡ (tables_in kept).row panel.now number) }
+    ensures bad { (kept : Kept) → Finds (of_command panel.now number) (λ row. column row 3 ∷ column row 4 ∷ column row 5 ∷ column row 6 ∷ column row 7 ∷ column row 8 ∷ []) kept.command rows.items → IfErr result (λ _. is_sound_in kept ≡ false) }
+    ensures fault { IfErr result (λ fault. fault ≡ BadRow) }
+{
+    // What is asked for is a name, as a row's own has to be.
+    let _name = panel.as_str();
+    match only(rows)? {
+        None => Ok(None),
+        Some(row) => Ok(Some(command_at(&row, 0)?)),
+    }
+}
+
+/// The row under a number of a panel from 1 to 1,000,000,000,000, if one is kept.
+pub fn command_under<S: Alter>(
+    connection: &mut Connection<S>,
+    panel: &Name,
+    number: u64,
+) -> Result<Option<CommandRow>, ReadFault>
+    requires at_least_1 { 1 ≤ number }
+    requires greatest { number ≤ 1_000_000_000_000 }
+    ensures mode { connection.old.in_transaction ≡ false → connection.new.in_transaction ≡ false }
+    ensures asks { HasCleanDisk (state S.Store connection.new) → IsOurs (state S.Store connection.old).now → Asks (result_err result) (state S.Store connection.old) (state S.Store connection.new) }
+    ensures value { HasCleanDisk (state S.Store connection.new) → IsOurs (state S.Store connection.old).now → IfOk result (λ it. it ≡ (tables_in (kept_in (state S.Store connection.old).now.trees)).row panel.now number) }
+    ensures bad { HasCleanDisk (state S.Store connection.new) → IsOurs (state S.Store connection.old).now → result ≡ Err BadRow → is_sound_in (kept_in (state S.Store connection.old).now.trees) ≡ false }
+    ensures survives { Survives (state S.Store connection.old) (state S.Store connection.new) (λ _. IsOurs (state S.Store connection.old).now → ⊥) }
+{
+    let rows = commands::find(connection, panel, number)?;
+    told_command(panel, number, rows)
+}
+
+// What the answer of the query on a place tells.
+fn told_place(point: &Name, priority: u64, rows: Vec<Row>) -> Result<Option<i64>, ReadFault>
+    requires at_least_1 { 1 ≤ priority }
+    requires at_most_16 { priority ≤ 16 }
+    ensures value { (kept : Kept) → Finds (of_place point.now priority) (λ row. column row 3 ∷ []) kept.place rows.items → IfOk result (λ it. it ≡ get ((tables_in kept).places point.now) priority) }
+    ensures bad { (kept : Kept) → Finds (of_place point.now priority) (λ row. column row 3 ∷ []) kept.place rows.items → IfErr result (λ _. is_sound_in kept ≡ false) }
+    ensures fault { IfErr result (λ fault. fault ≡ BadRow) }
+{
+    // What is asked for is a name, as a row's own has to be.
+    let _name = point.as_str();
+    match only(rows)? {
+        None => Ok(None),
+        Some(row) => Ok(Some(number_at(&row, 0)?)),
+    }
+}
+
+/// The value in the place of a priority from 1 to 16, if it is not NULL.
+pub fn value_at<S: Alter>(
+    connection: &mut Connection<S>,
+    point: &Name,
+    priority: u64,
+) -> Result<Option<i64>, ReadFault>
+    requires at_least_1 { 1 ≤ priority }
+    requires at_most_16 { priority ≤ 16 }
+    ensures mode { connection.old.in_transaction ≡ false → connection.new.in_transaction ≡ false }
+    ensures asks { HasCleanDisk (state S.Store connection.new) → IsOurs (state S.Store connection.old).now → Asks (result_err result) (state S.Store connection.old) (state S.Store connection.new) }
+    ensures value { HasCleanDisk (state S.Store connection.new) → IsOurs (state S.Store connection.old).now → IfOk result (λ it. it ≡ get ((tables_in (kept_in (state S.Store connection.old).now.trees)).places point.now) priority) }
+    ensures bad { HasCleanDisk (state S.Store connection.new) → IsOurs (state S.Store connection.old).now → result ≡ Err BadRow → is_sound_in (kept_in (state S.Store connection.old).now.trees) ≡ false }
+    ensures survives { Survives (state S.Store connection.old) (state S.Store connection.new) (λ _. IsOurs (state S.Store connection.old).now → ⊥) }
+{
+    let rows = places::find(connection, point, priority)?;
+    told_place(point, priority, rows)
+}
+
+// What the answer of the query on a schedule tells.
+fn told_shown(schedule: &Name, rows: Vec<Row>) -> Result<Option<Option<i64>>, ReadFault>
+    ensures value { (kept : Kept) → Finds (of_schedule schedule.now) (λ row. column row 2 ∷ []) kept.shown rows.items → IfOk result (λ it. it ≡ (tables_in kept).shown schedule.now) }
+    ensures bad { (kept : Kept) → Finds (of_schedule schedule.now) (λ row. column row 2 ∷ []) kept.shown rows.items → IfErr result (λ _. is_sound_in kept ≡ false) }
+    ensures fault { IfErr result (λ fault. fault ≡ BadRow) }
+{
+    // What is asked for is a name, as a row's own has to be.
+    let _name = schedule.as_str();
+    match only(rows)? {
+        None => Ok(None),
+        Some(row) => Ok(Some(optional_at(&row, 0)?)),
+    }
+}
+
+/// What a schedule shows: a value or NULL, or nothing where it is quiet.
+pub fn shown_by<S: Alter>(
+    connection: &mut Connection<S>,
+    schedule: &Name,
+) -> Result<Option<Option<i64>>, ReadFault>
+    ensures mode { connection.old.in_transaction ≡ false → connection.new.in_transaction ≡ false }
+    ensures asks { HasCleanDisk (state S.Store connection.new) → IsOurs (state S.Store connection.old).now → Asks (result_err result) (state S.Store connection.old) (state S.Store connection.new) }
+    ensures value { HasCleanDisk (state S.Store connection.new) → IsOurs (state S.Store connection.old).now → IfOk result (λ it. it ≡ (tables_in (kept_in (state S.Store connection.old).now.trees)).shown schedule.now) }
+    ensures bad { HasCleanDisk (state S.Store connection.new) → IsOurs (state S.Store connection.old).now → result ≡ Err BadRow → is_sound_in (kept_in (state S.Store connection.old).now.trees) ≡ false }
+    ensures survives { Survives (state S.Store connection.old) (state S.Store connection.new) (λ _. IsOurs (state S.Store connection.old).now → ⊥) }
+{
+    let rows = schedules::find(connection, schedule)?;
+    told_shown(schedule, rows)
+}
+
+// What the answer of the query on `desk` tells.
+fn told_last(rows: Vec<Row>) -> Result<Option<i64>, ReadFault>
+    ensures value { (kept : Kept) → Finds (λ row. true) (λ row. column row 2 ∷ column row 3 ∷ []) kept.desk rows.items → IfOk result (λ it. it ≡ (tables_in kept).last_tick) }
+    ensures bad { (kept : Kept) → Finds (λ row. true) (λ row. column row 2 ∷ column row 3 ∷ []) kept.desk rows.items → IfErr result (λ _. is_sound_in kept ≡ false) }
+    ensures fault { IfErr result (λ fault. fault ≡ BadRow) }
+{
+    match only(rows)? {
+        None => Err(ReadFault::BadRow),
+        Some(row) => optional_at(&row, 1),
+    }
+}
+
+/// The moment of the last tick, if there was one.
+pub fn last_tick<S: Alter>(connection: &mut Connection<S>) -> Result<Option<i64>, ReadFault>
+    ensures mode { connection.old.in_transaction ≡ false → connection.new.in_transaction ≡ false }
+    ensures asks { HasCleanDisk (state S.Store connection.new) → IsOurs (state S.Store connection.old).now → Asks (result_err result) (state S.Store connection.old) (state S.Store connection.new) }
+    ensures value { HasCleanDisk (state S.Store connection.new) → IsOurs (state S.Store connection.old).now → IfOk result (λ it. it ≡ (tables_in (kept_in (state S.Store connection.old).now.trees)).last_tick) }
+    ensures bad { HasCleanDisk (state S.Store connection.new) → IsOurs (state S.Store connection.old).now → result ≡ Err BadRow → is_sound_in (kept_in (state S.Store connection.old).now.trees) ≡ false }
+    ensures survives { Survives (state S.Store connection.old) (state S.Store connection.new) (λ _. IsOurs (state S.Store connection.old).now → ⊥) }
+{
+    let rows = desk_row::find(connection)?;
+    told_last(rows)
+}
