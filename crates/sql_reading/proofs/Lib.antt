@@ -1,2 +1,4 @@
 pub mod FoundLemmas
+pub mod PlacingLemmas
+pub mod ReadLemmas
 pub mod ToldLemmas

@@ -1,9 +1,12 @@
 -- What a read of the tables leaves.
-use Rattle.std.specs.Prelude.{◌≡◌, ◌⊎◌, List, ◌∷◌, Option, Some, None, Bool, true, false}
+use Rattle.std.specs.Prelude.{◌≡◌, ◌⊎◌, ◌<◌, ◌≤◌, ℕ, List, ◌∷◌, Option, Some, None, Bool, true, false}
 use Rattle.std.specs.Bool.{IsTrue}
+use Rattle.std.specs.FinMap.{get}
+use Rattle.points.specs.PriorityArray.{Places}
 use Rattle.sqlite_value.specs.Order.{Row}
-use Rattle.sqlite.specs.State.{IsUnchanged, State}
+use Rattle.sqlite.specs.State.{HasCleanDisk, State, Survives}
 use Rattle.sql_rows.specs.Looking.{Rests}
+use Rattle.sql_rows.specs.Ours.{IsOurs}
 use Rattle.stored_rows.specs.declared.read_fault.ReadFault.{ReadFault}
 use Rattle.stored_rows.specs.declared.read_fault.ReadFault.TheVariants.{Sql, BadRow}
 
@@ -13,10 +16,22 @@ is_sql None = false
 is_sql (Some (Sql e)) = true
 is_sql (Some BadRow) = false
 
+-- a connection sees what it saw
+pub record Sees (old new : State) : Type 0 where
+  pub now : new.now ≡ old.now
+  pub committed : new.committed ≡ old.committed
+  pub is_open : new.is_open ≡ old.is_open
+
 -- nothing is changed; after a refusal of the database an open connection sees what it saw
 pub record Asks (fault : Option ReadFault) (old new : State) : Type 0 where
   pub rests : Rests old new
-  pub same : IsTrue (is_sql fault) ⊎ IsUnchanged old new
+  pub same : IsTrue (is_sql fault) ⊎ Sees old new
+
+-- some reads were made, and each was answered
+pub record HasRead (old new : State) : Type 0 where
+  pub mode : old.in_transaction ≡ false → new.in_transaction ≡ false
+  pub sees : HasCleanDisk new → IsOurs old.now → Sees old new
+  pub survives : Survives old new (λ _. IsOurs old.now → ⊥)
 
 -- there are two rows or more
 pub record AreSeveral (rows : List Row) : Type 0 where
@@ -24,3 +39,8 @@ pub record AreSeveral (rows : List Row) : Type 0 where
   pub second : Row
   pub more : List Row
   pub is : rows ≡ first ∷ second ∷ more
+
+-- the array has the values of the priorities below one, and no other
+pub record AreBelow (priority : ℕ) (places array : Places) : Type 0 where
+  pub same : (q : ℕ) → q < priority → get array q ≡ get places q
+  pub none : (q : ℕ) → priority ≤ q → get array q ≡ None

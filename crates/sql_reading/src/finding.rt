@@ -39,6 +39,7 @@ fn told_next(panel: &Name, rows: Vec<Row>) -> Result<u64, ReadFault>
 }
 
 /// The next number of a panel: 1 where none is kept.
+#[tactic(auto, using(crate::proofs::ReadLemmas::sees_unchanged))]
 pub fn next_of<S: Alter>(connection: &mut Connection<S>, panel: &Name) -> Result<u64, ReadFault>
     ensures mode { connection.old.in_transaction ≡ false → connection.new.in_transaction ≡ false }
     ensures asks { HasCleanDisk (state S.Store connection.new) → IsOurs (state S.Store connection.old).now → Asks (result_err result) (state S.Store connection.old) (state S.Store connection.new) }
@@ -67,6 +68,7 @@ fn told_command(panel: &Name, number: u64, rows: Vec<Row>) -> Result<Option<Comm
 }
 
 /// The row under a number of a panel from 1 to 1,000,000,000,000, if one is kept.
+#[tactic(auto, using(crate::proofs::ReadLemmas::sees_unchanged))]
 pub fn command_under<S: Alter>(
     connection: &mut Connection<S>,
     panel: &Name,
@@ -101,6 +103,7 @@ fn told_place(point: &Name, priority: u64, rows: Vec<Row>) -> Result<Option<i64>
 }
 
 /// The value in the place of a priority from 1 to 16, if it is not NULL.
+#[tactic(auto, using(crate::proofs::ReadLemmas::sees_unchanged))]
 pub fn value_at<S: Alter>(
     connection: &mut Connection<S>,
     point: &Name,
@@ -133,6 +136,7 @@ fn told_shown(schedule: &Name, rows: Vec<Row>) -> Result<Option<Option<i64>>, Re
 }
 
 /// What a schedule shows: a value or NULL, or nothing where it is quiet.
+#[tactic(auto, using(crate::proofs::ReadLemmas::sees_unchanged))]
 pub fn shown_by<S: Alter>(
     connection: &mut Connection<S>,
     schedule: &Name,
@@ -160,6 +164,7 @@ fn told_last(rows: Vec<Row>) -> Result<Option<i64>, ReadFault>
 }
 
 /// The moment of the last tick, if there was one.
+#[tactic(auto, using(crate::proofs::ReadLemmas::sees_unchanged))]
 pub fn last_tick<S: Alter>(connection: &mut Connection<S>) -> Result<Option<i64>, ReadFault>
     ensures mode { connection.old.in_transaction ≡ false → connection.new.in_transaction ≡ false }
     ensures asks { HasCleanDisk (state S.Store connection.new) → IsOurs (state S.Store connection.old).now → Asks (result_err result) (state S.Store connection.old) (state S.Store connection.new) }

@@ -4,6 +4,8 @@
 #![tactic(auto)]
 
 pub use finding::{command_under, last_tick, next_of, shown_by, value_at};
+pub use placing::array_of;
 
 mod finding;
 mod only;
+mod placing;

@@ -1,0 +1,10 @@
+//! How is a change written into the database of the desk's tables?
+//!
+//! `commit_change` writes a whole change in one transaction and commits it, or nothing of it is left.
+#![tactic(auto)]
+
+pub use committing::commit_change;
+
+mod committing;
+mod putting;
+mod writing;
