@@ -1,0 +1,183 @@
+-- What a commit, and the telling of its refusal, leave of a store.
+use Rattle.std.proofs.Common.{◌≡◌, ◌⊎◌, inl, inr, ℕ, Bool, true, false, Some, None, refl, sym, ap, ◌∙◌, subst, IsTrue, true≢false}
+use Rattle.sqlite_trees.specs.Tree.{Trees}
+use Rattle.sqlite_trees.specs.declared.store.Store.{Ghosts}
+use Rattle.sqlite.specs.Held.{Held, state}
+use Rattle.sqlite.specs.State.{HasCleanDisk, IsUnchanged, State, Survives}
+use Rattle.sqlite.proofs.StateLemmas.{survives_then}
+use Rattle.sql_reading.proofs.ReadLemmas.{clean_before}
+use Rattle.sql_rows.specs.Ours.{IsOurs, content_of, kept_in}
+use Rattle.sql_rows.specs.Ours as ours
+use Rattle.sql_writing.specs.Committed.{IsCommitted}
+use Rattle.store.specs.declared.change.Change.{Change}
+use Rattle.store.specs.declared.fault.StoreFault.{StoreFault}
+use Rattle.store.specs.declared.fault.StoreFault.TheVariants.{Failed, NoMemory, Shut}
+use Rattle.store.specs.Change.{with_change}
+use Rattle.store.specs.Standing.{Commits, HasRisen, Makes}
+use Rattle.store_sql.specs.Standing.{IsFit, Stands, standing_at}
+use Rattle.store_sql.specs.Judging.{IsRefusal}
+use Rattle.store_sql.specs.declared.session.Session.{Session}
+use Rattle.store_sql.proofs.StandLemmas.{Settles, settled_at}
+
+-- a shut store answers S3 and is left as it is
+pub commits_shut : (change : Change) (s : State) (failures : ℕ) (is_shut : Bool) → is_shut ≡ true → Commits change (Some Shut) (standing_at s failures is_shut) (standing_at s failures is_shut)
+commits_shut change s failures is_shut shut = record {
+  goes = record {
+    honest = λ h. h;
+    shut = (λ _. shut, λ _. refl);
+    untouched = λ _ _. record { content = refl; leaves = λ content left. left };
+    goes_on = λ _. refl;
+    steady = λ _. refl;
+    failed = λ is. absurd (let e = is in cc);
+    settled = λ clean unshut. absurd (true≢false (sym shut ∙ unshut));
+  };
+  made = λ _ is. absurd (let e = is in cc);
+  unchanged = λ _ unshut. absurd (true≢false (sym shut ∙ unshut));
+  left = λ _ unshut. absurd (true≢false (sym shut ∙ unshut));
+  never_bad = λ is. absurd (let e = is in cc);
+}
+
+-- Before a commit, after it, and once its refusal was told.
+module _ (change : Change) (old new : State) (failures : ℕ) (was_shut : Bool) (was_open : was_shut ≡ false) (fit : IsFit old was_shut) (settles_old : Settles old) (settles_new : Settles new)
+    (mode : new.in_transaction ≡ false)
+    (survives : Survives old new (λ trees. IsOurs old.now → ours.Makes (with_change change) (kept_in old.now.trees) (kept_in trees))) where
+  stood : HasCleanDisk new → Stands old
+  stood clean = fit.stands (clean_before old new survives.clean clean) was_open
+
+  -- what the rows say is what the content says
+  made_of : HasCleanDisk new → (trees : Trees) → ours.Makes (with_change change) (kept_in old.now.trees) (kept_in trees) → Makes change (content_of old.committed.trees) (content_of trees)
+  made_of clean trees makes =
+      subst (λ d. Makes change (content_of d.trees) (content_of trees)) (stood clean).same
+      (record { tables = makes.tables; is_sound = makes.is_sound })
+
+  left_before : HasCleanDisk new → (content : _) → (db : Trees) × new.may_leave db × (content ≡ content_of db)
+      → (content ≡ content_of old.committed.trees) ⊎ Makes change (content_of old.committed.trees) content
+  left_before clean content left =
+      elim (survives.crash clean left.0 left.1) [
+        | inl could ↦ inl (left.2 ∙ ap content_of (settles_old left.0 (stood clean).is_open could))
+        | inr makes ↦ inr (subst (Makes change (content_of old.committed.trees)) (sym left.2) (made_of clean left.0 (makes (stood clean).ours)))
+      ]
+
+  -- the change is committed
+  pub commit_made : (HasCleanDisk new → IsOurs old.now → IsCommitted change old new) → (now_shut : Bool) → now_shut ≡ was_shut
+      → IsFit new now_shut × Commits change None (standing_at old failures was_shut) (standing_at new failures now_shut)
+  commit_made done now_shut same_shut =
+      let committed : HasCleanDisk new → IsCommitted change old new = λ clean. done clean (stood clean).ours in
+      let now_fit : IsFit new now_shut = record { mode = mode; stands = λ clean _. record { is_open = (committed clean).is_open; ours = (committed clean).ours; same = (committed clean).same } } in (
+        now_fit,
+        record {
+          goes = record {
+            honest = λ clean. clean_before old new survives.clean clean;
+            shut = (λ is. absurd (let e = is in cc), λ is. absurd (true≢false (sym is ∙ was_open)));
+            untouched = λ _ is. absurd (true≢false (sym is ∙ was_open));
+            goes_on = λ _. same_shut;
+            steady = λ _. refl;
+            failed = λ is. absurd (let e = is in cc);
+            settled = settled_at new failures now_shut settles_new now_fit;
+          };
+          made = λ clean _. subst (λ d. Makes change (content_of old.committed.trees) (content_of d.trees)) (committed clean).same (made_of clean new.now.trees (committed clean).makes);
+          unchanged = λ _ _ it is. absurd (let e = is in cc);
+          left = λ clean _. left_before clean;
+          never_bad = λ is. absurd (let e = is in cc);
+        },
+      )
+
+  -- memory was refused, and the connection goes on with what it had
+  pub commit_refused : (HasCleanDisk new → (new.now ≡ old.committed) × (new.committed ≡ old.committed) × IsTrue new.is_open) → (now_shut : Bool) → now_shut ≡ was_shut
+      → IsFit new now_shut × Commits change (Some NoMemory) (standing_at old failures was_shut) (standing_at new failures now_shut)
+  commit_refused undone now_shut same_shut =
+      let now_fit : IsFit new now_shut = record {
+        mode = mode;
+        stands = λ clean _. record {
+          is_open = (undone clean).2;
+          ours = subst IsOurs (sym ((undone clean).0 ∙ sym (stood clean).same)) (stood clean).ours;
+          same = (undone clean).0 ∙ sym (undone clean).1;
+        };
+      } in (
+        now_fit,
+        record {
+          goes = record {
+            honest = λ clean. clean_before old new survives.clean clean;
+            shut = (λ is. absurd (let e = is in cc), λ is. absurd (true≢false (sym is ∙ was_open)));
+            untouched = λ _ is. absurd (true≢false (sym is ∙ was_open));
+            goes_on = λ _. same_shut;
+            steady = λ _. refl;
+            failed = λ is. absurd (let e = is in cc);
+            settled = settled_at new failures now_shut settles_new now_fit;
+          };
+          made = λ _ is. absurd (let e = is in cc);
+          unchanged = λ clean _ it is. ap (λ d. content_of d.trees) (undone clean).1;
+          left = λ clean _. left_before clean;
+          never_bad = λ is. absurd (let e = is in cc);
+        },
+      )
+
+  -- the database failed
+  pub commit_failed : (risen : ℕ) (now_shut : Bool) → now_shut ≡ true → HasRisen failures risen
+      → IsFit new now_shut × Commits change (Some Failed) (standing_at old failures was_shut) (standing_at new risen now_shut)
+  commit_failed risen now_shut shut has_risen = (
+    record { mode = mode; stands = λ _ unshut. absurd (true≢false (sym shut ∙ unshut)) },
+    record {
+      goes = record {
+        honest = λ clean. clean_before old new survives.clean clean;
+        shut = (λ is. absurd (let e = is in cc), λ is. absurd (true≢false (sym is ∙ was_open)));
+        untouched = λ _ is. absurd (true≢false (sym is ∙ was_open));
+        goes_on = λ unfailed. absurd (unfailed refl);
+        steady = λ unfailed. absurd (unfailed refl);
+        failed = λ _. (shut, has_risen);
+        settled = λ clean unshut. absurd (true≢false (sym shut ∙ unshut));
+      };
+      made = λ _ is. absurd (let e = is in cc);
+      unchanged = λ _ unshut. absurd (true≢false (sym shut ∙ unshut));
+      left = λ clean _. left_before clean;
+      never_bad = λ is. absurd (let e = is in cc);
+    },
+  )
+
+-- A commit that was refused, before it, after it, and once that was told.
+module _ {S : Type 0} (g : Ghosts S) (change : Change) (before after now : Session S) (told : StoreFault)
+    (same_failures : after.failures ≡ before.failures) (same_shut : after.is_shut ≡ before.is_shut)
+    (was_open : before.is_shut ≡ false) (fit : IsFit (state g before.connection) before.is_shut) (settles : (h : Held S) → Settles (state g h))
+    (mode : (state g after.connection).in_transaction ≡ false)
+    (undone : HasCleanDisk (state g after.connection) → IsTrue (state g after.connection).is_open
+    → ((state g after.connection).now ≡ (state g before.connection).committed) × ((state g after.connection).committed ≡ (state g before.connection).committed))
+    (survives : Survives (state g before.connection) (state g after.connection)
+    (λ trees. IsOurs (state g before.connection).now → ours.Makes (with_change change) (kept_in (state g before.connection).now.trees) (kept_in trees)))
+    (told_mode : (state g after.connection).in_transaction ≡ false → (state g now.connection).in_transaction ≡ false)
+    (told_survives : Survives (state g after.connection) (state g now.connection) (λ _. ⊥))
+    (refusal : IsRefusal g after now told) where
+  abbrev old : State
+  old = state g before.connection
+
+  abbrev mid : State
+  mid = state g after.connection
+
+  abbrev new : State
+  new = state g now.connection
+
+  abbrev CouldMake : Trees → Type 0
+  CouldMake trees = IsOurs old.now → ours.Makes (with_change change) (kept_in old.now.trees) (kept_in trees)
+
+  both : Survives old new CouldMake
+  both = survives_then old mid new CouldMake (λ _. ⊥) CouldMake (λ _ db makes. makes) (λ _ db none. absurd none) survives told_survives
+
+  abbrev Left : StoreFault → ℕ → Bool → Type 0
+  Left it failures is_shut = IsFit new is_shut × Commits change (Some it) (standing_at old before.failures before.is_shut) (standing_at new failures is_shut)
+
+  went_back : HasCleanDisk new → IsUnchanged mid new → (new.now ≡ old.committed) × (new.committed ≡ old.committed) × IsTrue new.is_open
+  went_back clean same =
+      let back = undone (clean_before mid new told_survives.clean clean) same.0.was_open in
+      (same.0.now_is ∙ back.0, same.0.committed_is ∙ back.1, same.0.is_open)
+
+  pub commit_left : Left told now.failures now.is_shut
+  commit_left = elim refusal [
+    | inl h ↦
+        subst (λ t. Left t now.failures now.is_shut) (sym h.0)
+        (subst (λ n. Left NoMemory n now.is_shut) (sym (h.1.failures_are ∙ same_failures))
+        (commit_refused change old new before.failures before.is_shut was_open fit (settles before.connection) (settles now.connection) (told_mode mode) both
+        (λ clean. went_back clean (h.1.unchanged clean)) now.is_shut (h.1.shut_is ∙ same_shut)))
+    | inr h ↦
+        subst (λ t. Left t now.failures now.is_shut) (sym h.0)
+        (commit_failed change old new before.failures before.is_shut was_open fit (settles before.connection) (settles now.connection) (told_mode mode) both now.failures now.is_shut h.1.shut
+        (subst (λ n. HasRisen n now.failures) same_failures h.1.risen))
+  ]

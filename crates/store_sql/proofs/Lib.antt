@@ -1,0 +1,2 @@
+pub mod CommitLemmas
+pub mod StandLemmas
