@@ -4,6 +4,7 @@ ghost use Rattle.std.specs.Prelude.{◌≡◌};
 
 use crate::Status;
 use building::{BuildingFault, FileFault};
+use holidays::ImportFault;
 use std::alloc::{AllocError, Global};
 use std::io::Write;
 use std::{fmt, io};
@@ -18,12 +19,16 @@ pub enum RunFault<'a> {
     Building(FileFault),
     /// The line of this number, counted from 1, tells no delivery.
     NotDelivery { line: u64 },
+    /// The holiday list is at fault.
+    Holidays(ImportFault),
     /// The output failed.
     OutputFailed,
     /// Memory was refused.
     NoMemory,
     /// The store failed.
     Store(StoreFault),
+    /// The database has other tables than the desk's, or a version of them that is not known.
+    UnknownTables,
 }
 
 impl<'a> RunFault<'a> {
@@ -32,7 +37,7 @@ impl<'a> RunFault<'a> {
         ensures { (result ≡ Status.Done) → ⊥ }
     {
         match self {
-            RunFault::NoMemory | RunFault::Store(_) => Status::Store,
+            RunFault::NoMemory | RunFault::Store(_) | RunFault::UnknownTables => Status::Store,
             _ => Status::Fault,
         }
     }
@@ -91,9 +96,11 @@ impl fmt::Display for RunFault<'_> {
             RunFault::CannotRead { path } => write!(f, "desk: cannot read {path}"),
             RunFault::Building(fault) => write!(f, "desk: {fault}"),
             RunFault::NotDelivery { line } => write!(f, "desk: line {line} is not a delivery"),
+            RunFault::Holidays(fault) => write!(f, "desk: {fault}"),
             RunFault::OutputFailed => f.write_str("desk: cannot write"),
             RunFault::NoMemory => f.write_str("desk: out of memory"),
             RunFault::Store(fault) => write!(f, "desk: store fault {fault}"),
+            RunFault::UnknownTables => f.write_str("desk: store fault S4"),
         }
     }
 }

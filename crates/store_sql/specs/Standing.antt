@@ -1,11 +1,12 @@
 -- How a store in a database stands.
-use Rattle.std.specs.Prelude.{◌≡◌, ℕ, Bool, false, IsTrue, refl}
+use Rattle.std.specs.Prelude.{◌≡◌, ℕ, Bool, false, refl}
 use Rattle.std.specs.Coded.{Coded, code_by, coded×, coded_bool, coded_ℕ}
 use Rattle.sqlite_trees.specs.declared.store.Store.{Ghosts}
 use Rattle.sqlite_trees.specs.Tree.{Trees}
 use Rattle.sqlite.specs.Held.{Held, held_code, state}
 use Rattle.sqlite.specs.State.{HasCleanDisk, State}
-use Rattle.sql_rows.specs.Ours.{IsOurs, content_of}
+use Rattle.sql_opening.specs.Opening.{Stands}
+use Rattle.sql_rows.specs.Ours.{content_of}
 use Rattle.store.specs.Standing.{Standing}
 use Rattle.store_sql.specs.declared.session.Session.{Session}
 
@@ -13,12 +14,6 @@ abbrev pub session_code : {S : Type 0} → Coded S → Coded (Session S)
 session_code {S} store =
     code_by (Held S × (ℕ × Bool)) (coded× (held_code store) (coded× coded_ℕ coded_bool)) (λ o. (o.connection, (o.failures, o.is_shut)))
     (λ p. record { connection = p.0; failures = p.1.0; is_shut = p.1.1 }) (λ _. refl)
-
--- a connection outside a transaction, over the six tables
-pub record Stands (s : State) : Type 0 where
-  pub is_open : IsTrue s.is_open
-  pub ours : IsOurs s.now
-  pub same : s.now ≡ s.committed
 
 -- while no failure has shut it, and the disk has returned what was written, it stands
 pub record IsFit (s : State) (is_shut : Bool) : Type 0 where

@@ -5,7 +5,9 @@
 //! the program stops, a store that no failure has shut leaves what its last commit left.
 #![tactic(auto)]
 
+pub use open_fault::OpenFault;
 pub use sql_store::SqlStore;
 
+mod open_fault;
 mod session;
 mod sql_store;

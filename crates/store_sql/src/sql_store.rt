@@ -1,10 +1,22 @@
 //! A store in a database of SQLite.
-ghost use Rattle.std.specs.Prelude.{◌≡◌};
+ghost use Rattle.std.specs.Prelude.{◌≡◌, ◌↔◌, IfErr, IfOk, IsTrue, false};
+ghost use Rattle.sqlite.specs.Held.{state};
+ghost use Rattle.sqlite.specs.State.{HasCleanDisk};
+ghost use Rattle.sql_create.specs.Creating.{IsAsBefore};
+ghost use Rattle.sql_opening.specs.Opening.{IsBare};
+ghost use Rattle.sql_rows.specs.Ours.{content_of};
+ghost use Rattle.store.specs.Memory.{no_tables};
+ghost use Rattle.store.specs.Standing.{sound};
+ghost use Rattle.store_sql.specs.Standing.{IsFit, standing_of};
+ghost use Rattle.store_sql.specs.declared.open_fault.OpenFault.TheVariants.{UnknownTables};
 
+use crate::open_fault::OpenFault;
 use crate::session::Session;
 use dates::Entry;
 use points::{CommandRow, Name, NumberedRow, PriorityArray};
+use sql_create::has_no_schema;
 use sql_listing::{command_of, commands_run, entries_of, names_of};
+use sql_opening::{make, take_current};
 use sql_reading::{array_of, last_tick, next_of, shown_by};
 use sql_writing::commit_change;
 use sqlite::{Alter, Connection};
@@ -32,6 +44,82 @@ impl<S: Alter + Drop> Model for SqlStore<S> {
     ghost view = { λ store. store.session };
 
     ghost invariant = { λ store. IsFit (state S.Store store.session.connection) store.session.is_shut };
+}
+
+impl<S: Alter + Drop> SqlStore<S> {
+    // A store over a connection that stands over the six tables.
+    fn over(alloc: Global, connection: Connection<S>) -> SqlStore<S>
+        requires fit { IsFit (state S.Store connection) false }
+        ensures session { result ≡ record { connection = connection; failures = 0; is_shut = false } }
+    {
+        SqlStore {
+            alloc,
+            session: Session {
+                connection,
+                failures: 0,
+                is_shut: false,
+            },
+        }
+    }
+
+    /// Makes the six tables, which are empty, in a database that has nothing. S4 where the connection is in a
+    /// transaction or something is in the database. A refusal hands the connection back.
+    pub fn create(
+        alloc: Global,
+        connection: Connection<S>,
+    ) -> Result<SqlStore<S>, (OpenFault, Connection<S>)>
+        ensures empty { IfOk result (λ store. (standing_of S.Store store).is_honest → (standing_of S.Store store).content ≡ sound no_tables) }
+        ensures open { IfOk result (λ store. ((standing_of S.Store store).is_shut ≡ false) × ((standing_of S.Store store).failures ≡ 0)) }
+        ensures unknown { IfErr result (λ refused. (refused.0 ≡ UnknownTables) ↔ (IsBare (state S.Store connection) → ⊥)) }
+        ensures unchanged { IfErr result (λ refused. HasCleanDisk (state S.Store refused.1) → IsTrue (state S.Store refused.1).is_open → IsAsBefore (state S.Store connection) (state S.Store refused.1)) }
+    {
+        let mut connection = connection;
+        match make(&mut connection) {
+            Ok(()) => Ok(SqlStore::over(alloc, connection)),
+            Err(fault) => Err((OpenFault::of(fault), connection)),
+        }
+    }
+
+    /// Opens the six tables that a connection holds. S4 where the connection is in a transaction, or the tables are
+    /// others, or their version is not 2; S5 where the version is no number. A refusal hands the connection back.
+    pub fn open(
+        alloc: Global,
+        connection: Connection<S>,
+    ) -> Result<SqlStore<S>, (OpenFault, Connection<S>)>
+        ensures content { IfOk result (λ store. (standing_of S.Store store).is_honest → (standing_of S.Store store).content ≡ content_of (state S.Store connection).committed.trees) }
+        ensures open { IfOk result (λ store. ((standing_of S.Store store).is_shut ≡ false) × ((standing_of S.Store store).failures ≡ 0)) }
+        ensures unchanged { IfErr result (λ refused. HasCleanDisk (state S.Store refused.1) → IsTrue (state S.Store refused.1).is_open → IsAsBefore (state S.Store connection) (state S.Store refused.1)) }
+    {
+        let mut connection = connection;
+        match take_current(&mut connection) {
+            Ok(()) => Ok(SqlStore::over(alloc, connection)),
+            Err(fault) => Err((OpenFault::of(fault), connection)),
+        }
+    }
+
+    /// Makes the tables where nothing is in the database, and else opens those that it has.
+    pub fn create_or_open(
+        alloc: Global,
+        connection: Connection<S>,
+    ) -> Result<SqlStore<S>, (OpenFault, Connection<S>)>
+        ensures empty { IsBare (state S.Store connection) → IfOk result (λ store. (standing_of S.Store store).is_honest → (standing_of S.Store store).content ≡ sound no_tables) }
+        ensures content { (IsBare (state S.Store connection) → ⊥) → IfOk result (λ store. (standing_of S.Store store).is_honest → (standing_of S.Store store).content ≡ content_of (state S.Store connection).committed.trees) }
+        ensures open { IfOk result (λ store. ((standing_of S.Store store).is_shut ≡ false) × ((standing_of S.Store store).failures ≡ 0)) }
+        ensures unchanged { IfErr result (λ refused. HasCleanDisk (state S.Store refused.1) → IsTrue (state S.Store refused.1).is_open → IsAsBefore (state S.Store connection) (state S.Store refused.1)) }
+    {
+        if connection.is_autocommit() && has_no_schema(&connection) {
+            SqlStore::create(alloc, connection)
+        } else {
+            SqlStore::open(alloc, connection)
+        }
+    }
+
+    /// The connection, also of a store that a failure has shut.
+    pub fn into_connection(self) -> Connection<S>
+        ensures { result ≡ self.connection }
+    {
+        self.session.connection
+    }
 }
 
 impl<S: Alter + Drop> Store for SqlStore<S> {

@@ -1,6 +1,7 @@
 //! What is imported into calendars.
 ghost use Rattle.store.specs.Change.{CanStand};
 
+use crate::stores::sql_store;
 use dates::Entry;
 use points::Name;
 use std::alloc::{AllocError, Global};
@@ -30,9 +31,9 @@ fn imported(rt: &impl Abort, calendar: Name, text: &str) -> ImportedEntry {
 }
 
 /// Imports the 25th of December, the first of January, and the first of these again.
-fn import_holidays(
+fn import_holidays<S: Store>(
     rt: &impl Abort,
-    store: &mut MemStore,
+    store: &mut S,
     alloc: Global,
     calendar: Name,
 ) -> Result<(), StoreFault> {
@@ -43,7 +44,7 @@ fn import_holidays(
 }
 
 /// The texts of a calendar's entries, in their order, each with a space after it.
-fn texts(store: &mut MemStore, alloc: Global, calendar: &Name) -> Result<String, StoreFault> {
+fn texts<S: Store>(store: &mut S, alloc: Global, calendar: &Name) -> Result<String, StoreFault> {
     let mut texts = String::new(alloc);
     for entry in &store.entries(calendar)? {
         texts.push_str(entry.write(alloc)?.as_str())?;
@@ -52,9 +53,7 @@ fn texts(store: &mut MemStore, alloc: Global, calendar: &Name) -> Result<String,
     Ok(texts)
 }
 
-#[test]
-fn entries_are_imported_once_and_told_in_order(rt: HostRuntime) -> Result<(), Fail> {
-    let mut store = MemStore::new(rt.alloc());
+fn try_imports<S: Store + Drop>(rt: HostRuntime, mut store: S) -> Result<(), Fail> {
     let calendar = Name::read("HOLIDAYS")?;
     import_holidays(&rt, &mut store, rt.alloc(), calendar)?;
     let told = texts(&mut store, rt.alloc(), &calendar)?;
@@ -65,4 +64,16 @@ fn entries_are_imported_once_and_told_in_order(rt: HostRuntime) -> Result<(), Fa
     assert_eq!(rt; names.calendars.len(), 1);
     assert_eq!(rt; names.calendars[0].as_str(), "HOLIDAYS");
     Ok(())
+}
+
+#[test]
+fn entries_are_imported_once_and_told_in_order_in_memory(rt: HostRuntime) -> Result<(), Fail> {
+    let store = MemStore::new(rt.alloc());
+    try_imports(rt, store)
+}
+
+#[test]
+fn entries_are_imported_once_and_told_in_order_in_sql(rt: HostRuntime) -> Result<(), Fail> {
+    let store = sql_store(rt.alloc())?;
+    try_imports(rt, store)
 }

@@ -1,5 +1,5 @@
-//! Tests of the store in memory: each call once, with values worked out by hand. There is no code here but
-//! tests, so that `store` is not proved twice for them.
+//! Tests of the stores, in memory and in a database: each call once, with values worked out by hand. There is no code
+//! here but tests, so that the stores are not proved twice for them.
 #![tactic(auto)]
 
 #[cfg(test)]
@@ -8,3 +8,7 @@ mod calendars;
 mod panels;
 #[cfg(test)]
 mod points_and_schedules;
+#[cfg(test)]
+mod reopened;
+#[cfg(test)]
+mod stores;

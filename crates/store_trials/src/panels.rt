@@ -1,13 +1,12 @@
 //! What is kept of panels.
 ghost use Rattle.store.specs.Change.{IsKeptRow, IsNumber};
 
+use crate::stores::sql_store;
 use points::{Answer, CommandRow, CommandState, Content, Name};
 use std::test::Fail;
 use store::{Change, KeptRow, MemStore, NextNumber, RowsBelow, Store};
 
-#[test]
-fn nothing_is_kept_at_first(rt: HostRuntime) -> Result<(), Fail> {
-    let mut store = MemStore::new(rt.alloc());
+fn try_nothing<S: Store + Drop>(rt: HostRuntime, mut store: S) -> Result<(), Fail> {
     let panel = Name::read("P1")?;
     assert_eq!(rt; store.panel_next(&panel)?, 1);
     assert!(rt; store.command(&panel, 1)?.is_none());
@@ -37,9 +36,7 @@ fn row_of(panel: Name, point: Name, number: u64) -> KeptRow
     }
 }
 
-#[test]
-fn next_numbers_are_kept(rt: HostRuntime) -> Result<(), Fail> {
-    let mut store = MemStore::new(rt.alloc());
+fn try_next_numbers<S: Store + Drop>(rt: HostRuntime, mut store: S) -> Result<(), Fail> {
     let panel = Name::read("P1")?;
     let mut change = Change::new(rt.alloc());
     change.nexts.push(NextNumber { panel, next: 2 })?;
@@ -49,9 +46,7 @@ fn next_numbers_are_kept(rt: HostRuntime) -> Result<(), Fail> {
     Ok(())
 }
 
-#[test]
-fn rows_stand_under_their_numbers(rt: HostRuntime) -> Result<(), Fail> {
-    let mut store = MemStore::new(rt.alloc());
+fn try_rows<S: Store + Drop>(rt: HostRuntime, mut store: S) -> Result<(), Fail> {
     let panel = Name::read("P1")?;
     let point = Name::read("R101-SET")?;
     let mut change = Change::new(rt.alloc());
@@ -71,9 +66,7 @@ fn rows_stand_under_their_numbers(rt: HostRuntime) -> Result<(), Fail> {
     Ok(())
 }
 
-#[test]
-fn rows_below_a_number_go(rt: HostRuntime) -> Result<(), Fail> {
-    let mut store = MemStore::new(rt.alloc());
+fn try_dropped_rows<S: Store + Drop>(rt: HostRuntime, mut store: S) -> Result<(), Fail> {
     let panel = Name::read("P1")?;
     let other = Name::read("P2")?;
     let point = Name::read("R101-SET")?;
@@ -90,4 +83,52 @@ fn rows_below_a_number_go(rt: HostRuntime) -> Result<(), Fail> {
     assert_eq!(rt; names.panels.len(), 2);
     assert_eq!(rt; names.panels[0].as_str(), "P1");
     Ok(())
+}
+
+#[test]
+fn nothing_is_kept_at_first_in_memory(rt: HostRuntime) -> Result<(), Fail> {
+    let store = MemStore::new(rt.alloc());
+    try_nothing(rt, store)
+}
+
+#[test]
+fn nothing_is_kept_at_first_in_sql(rt: HostRuntime) -> Result<(), Fail> {
+    let store = sql_store(rt.alloc())?;
+    try_nothing(rt, store)
+}
+
+#[test]
+fn next_numbers_are_kept_in_memory(rt: HostRuntime) -> Result<(), Fail> {
+    let store = MemStore::new(rt.alloc());
+    try_next_numbers(rt, store)
+}
+
+#[test]
+fn next_numbers_are_kept_in_sql(rt: HostRuntime) -> Result<(), Fail> {
+    let store = sql_store(rt.alloc())?;
+    try_next_numbers(rt, store)
+}
+
+#[test]
+fn rows_stand_under_their_numbers_in_memory(rt: HostRuntime) -> Result<(), Fail> {
+    let store = MemStore::new(rt.alloc());
+    try_rows(rt, store)
+}
+
+#[test]
+fn rows_stand_under_their_numbers_in_sql(rt: HostRuntime) -> Result<(), Fail> {
+    let store = sql_store(rt.alloc())?;
+    try_rows(rt, store)
+}
+
+#[test]
+fn rows_below_a_number_go_in_memory(rt: HostRuntime) -> Result<(), Fail> {
+    let store = MemStore::new(rt.alloc());
+    try_dropped_rows(rt, store)
+}
+
+#[test]
+fn rows_below_a_number_go_in_sql(rt: HostRuntime) -> Result<(), Fail> {
+    let store = sql_store(rt.alloc())?;
+    try_dropped_rows(rt, store)
 }

@@ -1,11 +1,10 @@
 //! What is kept of points and schedules, and the last tick.
+use crate::stores::sql_store;
 use points::Name;
 use std::test::Fail;
 use store::{Change, MemStore, PlaceValue, ShownValue, Store};
 
-#[test]
-fn values_stand_in_places(rt: HostRuntime) -> Result<(), Fail> {
-    let mut store = MemStore::new(rt.alloc());
+fn try_places<S: Store + Drop>(rt: HostRuntime, mut store: S) -> Result<(), Fail> {
     let point = Name::read("LIGHT")?;
     let mut change = Change::new(rt.alloc());
     change.places.push(PlaceValue {
@@ -39,9 +38,7 @@ fn values_stand_in_places(rt: HostRuntime) -> Result<(), Fail> {
     Ok(())
 }
 
-#[test]
-fn schedules_show_values(rt: HostRuntime) -> Result<(), Fail> {
-    let mut store = MemStore::new(rt.alloc());
+fn try_schedules<S: Store + Drop>(rt: HostRuntime, mut store: S) -> Result<(), Fail> {
     let schedule = Name::read("OFFICE")?;
     let quiet = Name::read("HALL")?;
     let mut change = Change::new(rt.alloc());
@@ -68,4 +65,28 @@ fn schedules_show_values(rt: HostRuntime) -> Result<(), Fail> {
     assert_eq!(rt; names.schedules.len(), 1);
     assert_eq!(rt; names.schedules[0].as_str(), "OFFICE");
     Ok(())
+}
+
+#[test]
+fn values_stand_in_places_in_memory(rt: HostRuntime) -> Result<(), Fail> {
+    let store = MemStore::new(rt.alloc());
+    try_places(rt, store)
+}
+
+#[test]
+fn values_stand_in_places_in_sql(rt: HostRuntime) -> Result<(), Fail> {
+    let store = sql_store(rt.alloc())?;
+    try_places(rt, store)
+}
+
+#[test]
+fn schedules_show_values_in_memory(rt: HostRuntime) -> Result<(), Fail> {
+    let store = MemStore::new(rt.alloc());
+    try_schedules(rt, store)
+}
+
+#[test]
+fn schedules_show_values_in_sql(rt: HostRuntime) -> Result<(), Fail> {
+    let store = sql_store(rt.alloc())?;
+    try_schedules(rt, store)
 }

@@ -1,0 +1,3 @@
+pub mod Stepping
+pub mod Texts
+pub mod Naming

@@ -1,0 +1,24 @@
+//! Lists that grow.
+ghost use Rattle.std.specs.Prelude.{◌≡◌, ◌++◌, IfErr, OnOk, [], ◌∷◌, Some};
+ghost use Rattle.std.specs.Bool.{IsTrue};
+ghost use Rattle.sql_reading.specs.Asking.{is_sql};
+
+use stored_rows::ReadFault;
+
+/// The fault of memory that is refused.
+pub fn no_memory() -> ReadFault
+    ensures { IsTrue (is_sql (Some result)) }
+{
+    ReadFault::Sql(sqlite::Error::SqliteFailure(sqlite::ErrorCode::OutOfMemory))
+}
+
+/// Puts an item at the end of a list.
+pub fn push<T: Drop>(list: &mut Vec<T>, item: T) -> Result<(), ReadFault>
+    ensures items { OnOk result (list.new.items ≡ list.old.items ++ item ∷ []) }
+    ensures fault { IfErr result (λ fault. IsTrue (is_sql (Some fault))) }
+{
+    match list.push(item) {
+        Ok(()) => Ok(()),
+        Err(_) => Err(no_memory()),
+    }
+}

@@ -1,0 +1,77 @@
+//! A database that has the six tables.
+ghost use Rattle.std.specs.Prelude.{◌≡◌, ◌↔◌, IfOk, IsTrue, OnErr, OnOk, false};
+ghost use Rattle.sqlite.specs.Held.{state};
+ghost use Rattle.sqlite.specs.State.{HasCleanDisk, IsUnchanged, Survives};
+ghost use Rattle.sql_create.specs.Creating.{IsAsBefore};
+ghost use Rattle.sql_rows.specs.Looking.{Rests};
+ghost use Rattle.sql_opening.specs.Opening.{IsFound, IsJudged, IsSettled, IsShaped, IsTaken};
+
+use crate::open_fault::OpenFault;
+use crate::version::version_of;
+use sql_checks::are_own;
+use sql_create::{VERSION, has_desk_schema};
+use sqlite::{Alter, Connection, Error};
+
+// Whether the connection is outside a transaction, over the schema of the six tables.
+fn has_shape<S: Alter>(connection: &Connection<S>) -> bool
+    ensures shaped { IsTrue result ↔ IsShaped (state S.Store connection.now) }
+    ensures settled { IsTrue result → IsSettled (state S.Store connection.now) }
+{
+    // An open connection's database obeys its schema.
+    let _schema = connection.schema();
+    connection.is_autocommit() && has_desk_schema(connection)
+}
+
+// Whether the connection answers, so that it was open and is.
+fn answers<S: Alter>(connection: &mut Connection<S>) -> Result<(), Error>
+    ensures mode { connection.old.in_transaction ≡ false → connection.new.in_transaction ≡ false }
+    ensures same { HasCleanDisk (state S.Store connection.new) → OnOk result (IsUnchanged (state S.Store connection.old) (state S.Store connection.new)) }
+    ensures rests { HasCleanDisk (state S.Store connection.new) → Rests (state S.Store connection.old) (state S.Store connection.new) }
+    ensures survives { Survives (state S.Store connection.old) (state S.Store connection.new) (λ _. ⊥) }
+{
+    connection.prepare("")?;
+    Ok(())
+}
+
+// Whether the rows are as a store writes them.
+fn rows_are_own<S: Alter>(connection: &mut Connection<S>) -> Result<bool, Error>
+    requires shaped { IsShaped (state S.Store connection.old) }
+    requires settled { IsSettled (state S.Store connection.old) }
+    ensures mode { connection.new.in_transaction ≡ false }
+    ensures judged { HasCleanDisk (state S.Store connection.new) → IfOk result (λ own. IsJudged own (state S.Store connection.old) (state S.Store connection.new)) }
+    ensures kept { HasCleanDisk (state S.Store connection.new) → IsTrue (state S.Store connection.new).is_open → IsAsBefore (state S.Store connection.old) (state S.Store connection.new) }
+    ensures survives { Survives (state S.Store connection.old) (state S.Store connection.new) (λ _. ⊥) }
+{
+    answers(connection)?;
+    are_own(connection)
+}
+
+// The version of a database that has the six tables, with rows as a store writes them.
+fn find_version<S: Alter>(connection: &mut Connection<S>) -> Result<i64, OpenFault>
+    ensures mode { OnOk result (connection.new.in_transaction ≡ false) }
+    ensures found { HasCleanDisk (state S.Store connection.new) → IfOk result (λ version. IsFound version (state S.Store connection.old) (state S.Store connection.new)) }
+    ensures kept { HasCleanDisk (state S.Store connection.new) → IsTrue (state S.Store connection.new).is_open → IsAsBefore (state S.Store connection.old) (state S.Store connection.new) }
+    ensures survives { Survives (state S.Store connection.old) (state S.Store connection.new) (λ _. ⊥) }
+{
+    if !has_shape(connection) {
+        return Err(OpenFault::NotOurs);
+    }
+    if !rows_are_own(connection)? {
+        return Err(OpenFault::NotOurs);
+    }
+    Ok(version_of(connection)?)
+}
+
+/// Takes a database whose tables are of this version, and changes nothing.
+pub fn take_current<S: Alter>(connection: &mut Connection<S>) -> Result<(), OpenFault>
+    ensures mode { OnOk result (connection.new.in_transaction ≡ false) }
+    ensures taken { HasCleanDisk (state S.Store connection.new) → OnOk result (IsTaken (state S.Store connection.old) (state S.Store connection.new)) }
+    ensures kept { HasCleanDisk (state S.Store connection.new) → IsTrue (state S.Store connection.new).is_open → OnErr result (IsAsBefore (state S.Store connection.old) (state S.Store connection.new)) }
+    ensures survives { Survives (state S.Store connection.old) (state S.Store connection.new) (λ _. ⊥) }
+{
+    if find_version(connection)? == VERSION {
+        Ok(())
+    } else {
+        Err(OpenFault::NotOurs)
+    }
+}
