@@ -1,22 +1,21 @@
 -- What one delivery to a store that is opened for it prints and leaves.
-use Rattle.std.specs.Prelude.{◌≡◌, ℕ, ℤ, List, [], ◌∷◌, ◌++◌, Option, Result, Ok, OnOk, IfOk}
+use Rattle.std.specs.Prelude.{◌≡◌, ℕ, ℤ, List, [], ◌∷◌, ◌++◌, Option, Result, Ok, IfOk}
 use Rattle.std.specs.Io.KnownBytes.{Appends}
 use Rattle.building.specs.Building.{Building, contents_of}
 use Rattle.building.specs.BuildingFile.{building_of}
 use Rattle.deliveries.specs.declared.delivery.Delivery.{Delivery}
 use Rattle.deliveries.specs.declared.delivery.Delivery.TheVariants.{Tick}
-use Rattle.deliveries.specs.declared.reply.Reply.{Reply}
 use Rattle.deliveries.specs.Delivered.{Holds}
 use Rattle.deliveries.specs.Reply.{reply}
 use Rattle.delivery_lines.specs.ClockLine.{import_of}
 use Rattle.delivery_lines.specs.declared.told.Told.TheVariants as told
 use Rattle.delivery_lines.specs.ReplyText.{reply_line}
-use Rattle.desk_console.specs.declared.run_fault.RunFault.{RunFault}
 use Rattle.store.specs.Standing.{Standing}
+use Rattle.store_sql.specs.declared.open_fault.OpenFault.{OpenFault}
 
 -- whatever a call may open, if it is a store, it is such a one
-abbrev pub Opens : {S : Type 0} → (Result S RunFault → Type 0) → (S → Type 0) → Type 0
-Opens {S} may_open IsSuch = (opened : Result S RunFault) → may_open opened → IfOk opened IsSuch
+abbrev pub Opens : {S : Type 0} → (Result S OpenFault → Type 0) → (S → Type 0) → Type 0
+Opens {S} may_open IsSuch = (opened : Result S OpenFault) → may_open opened → IfOk opened IsSuch
 
 -- after the list E the reply of the definition was printed, and the store holds the tables of E and this delivery
 pub record Answers (b : Building) (E : List Delivery) (delivery : Delivery) (left : Standing) (old new : Option (List ℕ)) : Type 0 where
@@ -32,7 +31,7 @@ IsImport bytes b delivery = import_of b bytes ≡ told.Delivery delivery
 
 -- The file is a building, and the delivery that is asked of it was answered: after whatever list of deliveries the store
 -- that was opened holds the tables of.
-pub record IsAnswered {S : Type 0} (standing : S → Standing) (may_open : Result S RunFault → Type 0) (IsAsked : Building → Delivery → Type 0) (file : List ℕ) (left : S) (old new : Option (List ℕ)) : Type 0 where
+pub record IsAnswered {S : Type 0} (standing : S → Standing) (may_open : Result S OpenFault → Type 0) (IsAsked : Building → Delivery → Type 0) (file : List ℕ) (left : S) (old new : Option (List ℕ)) : Type 0 where
   pub building : Building
   pub building_is : building_of file ≡ Ok (contents_of building)
   pub delivery : Delivery

@@ -1,5 +1,7 @@
 //! One delivery to a store, answered.
-ghost use Rattle.std.specs.Prelude.{◌≡◌, List, ◌∷◌, [], IfOk, OnOk};
+ghost use Rattle.std.specs.Prelude.{◌≡◌, List, IfOk, OnOk, string_bytes};
+ghost use Rattle.std.specs.Io.KnownBytes.{Appends};
+ghost use Rattle.delivery_lines.specs.ReplyText.{reply_line};
 ghost use Rattle.deliveries.specs.declared.delivery.Delivery.{Delivery as a_delivery};
 ghost use Rattle.deliveries.specs.Delivered.{Holds};
 ghost use Rattle.one_delivery.specs.Answered.{Answers, Opens};
@@ -9,9 +11,10 @@ use deliveries::{Delivery, Reply};
 use delivery_lines::ReplyText;
 use desk::Desk;
 use desk_console::{RunFault, flush, print_text};
-use std::alloc::Global;
+use std::alloc::{AllocError, Global};
 use std::io::Write;
-use store::Store;
+use store::{Store, StoreFault};
+use store_sql::OpenFault;
 
 /// What was answered, and the store as it stands then.
 #[derive(Drop)]
@@ -20,45 +23,73 @@ pub struct Answered<S> {
     pub store: S,
 }
 
+/// What ends a run whose store is not opened.
+fn fault_of<'a>(fault: OpenFault) -> RunFault<'a> {
+    match fault {
+        OpenFault::NoMemory => RunFault::NoMemory,
+        OpenFault::Failed => RunFault::Store(StoreFault::Failed),
+        OpenFault::UnknownTables => RunFault::UnknownTables,
+        OpenFault::BadRow => RunFault::Store(StoreFault::BadRow),
+    }
+}
+
 /// A desk over the store that is opened.
 fn open_desk<'a, S: Store + Drop, O>(
     alloc: Global,
     building: Building,
-    open: O,
+    opener: O,
 ) -> Result<Desk<S>, RunFault<'a>>
 where
-    O: FnOnce() -> Result<S, RunFault<'a>>,
-    requires { O.IsAlwaysCallable open }
+    O: FnOnce() -> Result<S, OpenFault>,
+    requires { O.IsAlwaysCallable opener }
     ensures building { IfOk result (λ desk. desk.building ≡ building) }
-    ensures holds { (earlier : List a_delivery) → Opens (O.post open.entry) (λ store. Holds building earlier (S.standing store))
-        → OnOk result ((S.standing desk.store).is_honest → Holds building earlier (S.standing desk.store)) }
+    ensures holds { (earlier : List a_delivery) → Opens (O.post opener) (λ store. Holds building earlier (S.standing store))
+        → IfOk result (λ it. (S.standing it.store).is_honest → Holds building earlier (S.standing it.store)) }
 {
-    match Desk::open(alloc, building, open()?) {
-        Ok(desk) => Ok(desk),
-        Err((fault, _store)) => Err(RunFault::from(fault)),
+    match opener() {
+        Ok(store) => match Desk::open(alloc, building, store) {
+            Ok(desk) => Ok(desk),
+            Err((fault, _store)) => Err(RunFault::from(fault)),
+        },
+        Err(fault) => Err(fault_of(fault)),
     }
+}
+
+/// Prints a reply as a line.
+fn print_reply<'a, W: Write>(alloc: Global, reply: Reply, out: &mut W) -> Result<(), RunFault<'a>>
+    ensures { OnOk result (Appends (W.contents out.old) (W.contents out.new) (reply_line reply)) }
+{
+    let line = reply_line(alloc, reply)?;
+    print_text(out, line.as_bytes())?;
+    flush(out)
+}
+
+/// The text of a reply with its line end (LF).
+fn reply_line(alloc: Global, reply: Reply) -> Result<String, AllocError>
+    ensures { IfOk result (λ line. string_bytes line ≡ reply_line reply) }
+{
+    format!(in alloc; "{}\n", ReplyText(reply))
 }
 
 /// Delivers to the store that is opened, and prints the reply as a line.
 pub fn answer<'a, S: Store + Drop, O, W: Write>(
     alloc: Global,
     building: Building,
-    open: O,
+    opener: O,
     delivery: &Delivery,
     out: &mut W,
 ) -> Result<Answered<S>, RunFault<'a>>
 where
-    O: FnOnce() -> Result<S, RunFault<'a>>,
-    requires { O.IsAlwaysCallable open }
-    ensures { (earlier : List a_delivery) → Opens (O.post open.entry) (λ store. Holds building earlier (S.standing store))
-        → IfOk result (λ told. (S.standing told.store).is_honest
+    O: FnOnce() -> Result<S, OpenFault>,
+    requires { O.IsAlwaysCallable opener }
+    ensures { IfOk result (λ told. (earlier : List a_delivery)
+        → Opens (O.post opener) (λ store. Holds building earlier (S.standing store))
+        → (S.standing told.store).is_honest
         → Answers building earlier delivery.now (S.standing told.store) (W.contents out.old) (W.contents out.new)) }
 {
-    let mut desk = open_desk(alloc, building, open)?;
+    let mut desk = open_desk(alloc, building, opener)?;
     let reply = desk.deliver(delivery)?;
-    let line = format!(in alloc; "{}\n", ReplyText(reply))?;
-    print_text(out, line.as_bytes())?;
-    flush(out)?;
+    print_reply(alloc, reply, out)?;
     Ok(Answered {
         reply,
         store: desk.into_store(),

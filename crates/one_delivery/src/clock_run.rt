@@ -13,6 +13,7 @@ use listing::Listing;
 use std::alloc::Global;
 use std::io::{Read, Write};
 use store::Store;
+use store_sql::OpenFault;
 
 /// How a run ended, and the store that it opened, as it stands then, if the delivery was answered.
 #[derive(Drop)]
@@ -29,21 +30,21 @@ pub struct Ended<S> {
 pub fn tick<'a, B: Read + Drop, S: Store + Drop, O, W: Write, F: Write>(
     alloc: Global,
     file: Input<'a, B>,
-    open: O,
+    opener: O,
     at: i64,
     out: &mut W,
     fault: &mut F,
 ) -> Ended<S>
 where
-    O: FnOnce() -> Result<S, RunFault<'a>>,
-    requires { O.IsAlwaysCallable open }
+    O: FnOnce() -> Result<S, OpenFault>,
+    requires { O.IsAlwaysCallable opener }
     ensures done { result.status ≡ Status.Done → (file_bytes : List ℕ)
         → bytes_of B.remaining file.entry.reader ≡ Some file_bytes
         → (left : S) × (result.store ≡ Some left)
-        × IsAnswered S.standing (O.post open.entry) (IsTick at) file_bytes left (W.contents out.old) (W.contents out.new) }
+        × IsAnswered S.standing (O.post opener) (IsTick at) file_bytes left (W.contents out.old) (W.contents out.new) }
     ensures quiet { result.status ≡ Status.Done → Keeps (F.contents fault.old) (F.contents fault.new) }
 {
-    match tick_over(alloc, file, open, at, out) {
+    match tick_over(alloc, file, opener, at, out) {
         Ok(Answered { reply, store }) => Ended {
             status: status_of(reply),
             store: Some(store),
@@ -61,19 +62,19 @@ where
 fn tick_over<'a, B: Read + Drop, S: Store + Drop, O, W: Write>(
     alloc: Global,
     file: Input<'a, B>,
-    open: O,
+    opener: O,
     at: i64,
     out: &mut W,
 ) -> Result<Answered<S>, RunFault<'a>>
 where
-    O: FnOnce() -> Result<S, RunFault<'a>>,
-    requires { O.IsAlwaysCallable open }
+    O: FnOnce() -> Result<S, OpenFault>,
+    requires { O.IsAlwaysCallable opener }
     ensures { IfOk result (λ told. (file_bytes : List ℕ)
         → bytes_of B.remaining file.entry.reader ≡ Some file_bytes
-        → IsAnswered S.standing (O.post open.entry) (IsTick at) file_bytes told.store (W.contents out.old) (W.contents out.new)) }
+        → IsAnswered S.standing (O.post opener) (IsTick at) file_bytes told.store (W.contents out.old) (W.contents out.new)) }
 {
     let building = read_building(alloc, file)?;
-    answer(alloc, building, open, &Delivery::Tick { at }, out)
+    answer(alloc, building, opener, &Delivery::Tick { at }, out)
 }
 
 /// The status of a tick that was answered.
@@ -92,21 +93,21 @@ pub fn import<'a, B: Read + Drop, L: Read + Drop, S: Store + Drop, O, W: Write, 
     alloc: Global,
     file: Input<'a, B>,
     list: Input<'a, L>,
-    open: O,
+    opener: O,
     out: &mut W,
     fault: &mut F,
 ) -> Ended<S>
 where
-    O: FnOnce() -> Result<S, RunFault<'a>>,
-    requires { O.IsAlwaysCallable open }
+    O: FnOnce() -> Result<S, OpenFault>,
+    requires { O.IsAlwaysCallable opener }
     ensures done { result.status ≡ Status.Done → (file_bytes list_bytes : List ℕ)
         → bytes_of B.remaining file.entry.reader ≡ Some file_bytes
         → bytes_of L.remaining list.entry.reader ≡ Some list_bytes
         → (left : S) × (result.store ≡ Some left)
-        × IsAnswered S.standing (O.post open.entry) (IsImport list_bytes) file_bytes left (W.contents out.old) (W.contents out.new) }
+        × IsAnswered S.standing (O.post opener) (IsImport list_bytes) file_bytes left (W.contents out.old) (W.contents out.new) }
     ensures quiet { result.status ≡ Status.Done → Keeps (F.contents fault.old) (F.contents fault.new) }
 {
-    match import_over(alloc, file, list, open, out) {
+    match import_over(alloc, file, list, opener, out) {
         Ok(Answered { reply: _, store }) => Ended {
             status: Status::Done,
             store: Some(store),
@@ -125,23 +126,24 @@ fn import_over<'a, B: Read + Drop, L: Read + Drop, S: Store + Drop, O, W: Write>
     alloc: Global,
     file: Input<'a, B>,
     list: Input<'a, L>,
-    open: O,
+    opener: O,
     out: &mut W,
 ) -> Result<Answered<S>, RunFault<'a>>
 where
-    O: FnOnce() -> Result<S, RunFault<'a>>,
-    requires { O.IsAlwaysCallable open }
+    O: FnOnce() -> Result<S, OpenFault>,
+    requires { O.IsAlwaysCallable opener }
     ensures { IfOk result (λ told. (file_bytes list_bytes : List ℕ)
         → bytes_of B.remaining file.entry.reader ≡ Some file_bytes
         → bytes_of L.remaining list.entry.reader ≡ Some list_bytes
-        → IsAnswered S.standing (O.post open.entry) (IsImport list_bytes) file_bytes told.store (W.contents out.old) (W.contents out.new)) }
+        → IsAnswered S.standing (O.post opener) (IsImport list_bytes) file_bytes told.store (W.contents out.old) (W.contents out.new)) }
 {
     let building = read_building(alloc, file)?;
     let delivery = read_import(alloc, &building, list)?;
-    answer(alloc, building, open, &delivery, out)
+    answer(alloc, building, opener, &delivery, out)
 }
 
 /// The import of the holiday list of a file.
+#[tactic(auto, unfolding(delivery_lines::specs::ClockLine::import_of))]
 fn read_import<'a, L: Read + Drop>(
     alloc: Global,
     building: &Building,
@@ -161,10 +163,7 @@ fn read_import<'a, L: Read + Drop>(
 }
 
 /// The bytes of a file.
-fn read_all<'a, L: Read + Drop>(
-    alloc: Global,
-    list: Input<'a, L>,
-) -> Result<Vec<u8>, RunFault<'a>>
+fn read_all<'a, L: Read + Drop>(alloc: Global, list: Input<'a, L>) -> Result<Vec<u8>, RunFault<'a>>
     ensures { IfOk result (λ it. (bytes : List ℕ)
         → bytes_of L.remaining list.entry.reader ≡ Some bytes → it.items ≡ bytes) }
 {

@@ -1,5 +1,5 @@
 -- What the answers of the queries on names tell, and which names stand.
-use Rattle.std.proofs.Common.{◌≡◌, ◌≤◌, ◌<◌, ◌&&◌, ◌==◌, ◌⊎◌, ◌+◌, ℕ, ℤ, List, [], ◌∷◌, inl, inr, Option, Some, None, filter, is_some, Bool, true, false, refl, sym, ap, ◌∙◌, subst, arith, true≢false, nat_cmp}
+use Rattle.std.proofs.Common.{◌≡◌, ◌≤◌, ◌<◌, ◌&&◌, ◌==◌, ◌⊎◌, ◌+◌, ℕ, ℤ, List, [], ◌∷◌, inl, inr, Option, Some, None, is_some, Bool, true, false, refl, sym, ap, ◌∙◌, subst, arith, true≢false, nat_cmp}
 use Rattle.std.specs.Cmp.{nat_cmp_total}
 use Rattle.std.specs.FinMap.{empty, get, get-empty, nat_cmp-IsAntisymmetric, same_map}
 use Rattle.std.specs.Ordering.{is_lt}

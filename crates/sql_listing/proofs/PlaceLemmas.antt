@@ -1,9 +1,8 @@
 -- What the answer of the query on the least priority of a point tells.
-use Rattle.std.proofs.Common.{◌≡◌, ◌≤◌, ◌<◌, ◌&&◌, ℕ, pos, List, [], ◌∷◌, Option, Some, None, filter, Bool, true, false, Result, Ok, Err, IfErr, IfOk, refl, sym, ap, ◌∙◌, subst, arith}
+use Rattle.std.proofs.Common.{◌≡◌, ℕ, pos, List, [], ◌∷◌, Some, None, false, Result, Ok, Err, IfErr, IfOk, refl, sym, ap, ◌∙◌, subst}
 use Rattle.std.specs.Ordering.{is_lt}
 use Rattle.std.proofs.lemmas.Bool.{and_parts}
 use Rattle.points.specs.Name.{IsName}
-use Rattle.sqlite_rules.specs.Lists.{Has}
 use Rattle.sqlite_rules.proofs.ListLemmas.{contains_had}
 use Rattle.sqlite_value.specs.declared.value.Value.TheVariants.{Int}
 use Rattle.sqlite_value.specs.Order.{Row, column, value_cmp}
@@ -29,9 +28,9 @@ module _ (point : List ℕ) (kept : Kept) (answer : List Row) (named : IsName po
       let cell : column shown 0 ≡ column it.0 2 = ap (λ r. column r 0) it.3 in
       let count = count-cell 1 16 (column it.0 2) priority (ap (count_in 1 16) (sym cell) ∙ reads) in
       no_place point q kept (nothing_passes (of_place point q) kept.place (λ row h passes.
-          let lowest = it.5 row h (count_of_row point kept 1 q row passes low) in
-          let other = count_here q (column row 2) (and_parts (is_text point (column row 1)) (is_count q (column row 2)) passes).1 in
-          not_less q priority (subst (λ v. is_lt (value_cmp v (Int (pos priority))) ≡ false) other (subst (λ v. is_lt (value_cmp (column row 2) v) ≡ false) count.cell lowest)) high))
+      let lowest = it.5 row h (count_of_row point kept 1 q row passes low) in
+      let other = count_here q (column row 2) (and_parts (is_text point (column row 1)) (is_count q (column row 2)) passes).1 in
+      not_less q priority (subst (λ v. is_lt (value_cmp v (Int (pos priority))) ≡ false) other (subst (λ v. is_lt (value_cmp (column row 2) v) ≡ false) count.cell lowest)) high))
 
   pub priority_bad : (shown : Row) (more : List Row) → answer ≡ shown ∷ more → count_in 1 16 (column shown 0) ≡ None → is_sound_in kept ≡ false
   priority_bad shown more is reads =

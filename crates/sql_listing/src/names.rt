@@ -1,20 +1,17 @@
 //! The names that stand in the tables.
-ghost use Rattle.std.specs.Prelude.{◌≡◌, ◌⊎◌, false, Err, IfOk};
+ghost use Rattle.std.specs.Prelude.{◌≡◌, ◌≤◌, ◌⊎◌, ◌&&◌, ◌++◌, [], ◌∷◌, false, if◌then◌else◌, unwrap_or, Err, IfErr, IfOk, IsTrue, OnOk, Some};
 ghost use Rattle.std.specs.Result.{result_err};
 ghost use Rattle.sqlite.specs.Held.{state};
 ghost use Rattle.sqlite.specs.State.{HasCleanDisk, Survives};
-ghost use Rattle.sql_rows.specs.Ours.{IsOurs, kept_in};
-ghost use Rattle.sql_reading.specs.Asking.{Asks, is_sql};
-ghost use Rattle.store.specs.Tables.{Text};
-ghost use Rattle.stored_rows.specs.declared.read_fault.ReadFault.TheVariants.{BadRow};
-ghost use Rattle.stored_rows.specs.Stored.{is_sound_in, tables_in};
-ghost use Rattle.std.specs.Prelude.{[], ◌∷◌, ◌++◌, if◌then◌else◌, unwrap_or, IfErr, OnOk, IsTrue, Some};
-ghost use Rattle.store.specs.Listed.{AreNames, AreTexts, HasCalendar, HasPanel, HasPoint, HasSchedule};
-ghost use Rattle.std.specs.Prelude.{◌≤◌, ◌&&◌, IfErr};
 ghost use Rattle.sqlite_value.specs.Order.{column};
 ghost use Rattle.sql_rows.specs.Looking.{FindsLeast, is_from};
+ghost use Rattle.sql_rows.specs.Ours.{IsOurs, kept_in};
+ghost use Rattle.sql_reading.specs.Asking.{Asks, is_sql};
+ghost use Rattle.store.specs.Listed.{AreNames, AreTexts, HasCalendar, HasPanel, HasPoint, HasSchedule};
+ghost use Rattle.store.specs.Tables.{Text};
 ghost use Rattle.stored_rows.specs.Cells.{is_text};
-ghost use Rattle.stored_rows.specs.Stored.{Kept};
+ghost use Rattle.stored_rows.specs.declared.read_fault.ReadFault.TheVariants.{BadRow};
+ghost use Rattle.stored_rows.specs.Stored.{Kept, is_sound_in, tables_in};
 ghost use Rattle.sql_listing.specs.Naming.{AreNoneBelow, IsLesser, StandsIn, Tells};
 ghost use Rattle.sql_listing.specs.Texts.{IsNextText};
 
