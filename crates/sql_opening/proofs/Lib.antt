@@ -1,1 +1,4 @@
+pub mod EarlyLemmas
 pub mod OpenLemmas
+pub mod RaiseLemmas
+pub mod VersionLemmas

@@ -1,5 +1,5 @@
 -- What the steps of an opening leave.
-use Rattle.std.proofs.Common.{◌≡◌, inl, inr, ℕ, Bool, true, None, true≢false, List, [], ◌∷◌, Some, Ok, Err, Result, ℤ, slice_get, refl, sym, ap, subst, ◌∙◌, IfOk}
+use Rattle.std.proofs.Common.{◌≡◌, inl, inr, ℕ, Bool, true, None, true≢false, List, [], ◌∷◌, Some, Ok, Err, Result, ℤ, slice_get, refl, sym, ap, subst, ◌∙◌, IfErr, IfOk}
 use Rattle.sqlite_value.specs.Order.{Row, column}
 use Rattle.sqlite.specs.declared.error.Error.{Error}
 use Rattle.sqlite.specs.State.{IsNotRun, IsUnchanged, State}
@@ -24,16 +24,32 @@ not_run_rests sql params old new e (inr h) =
     let back = h.3 in
     record { was_open = back.was_open; same = λ alike stands. ((back.undone stands).0 ∙ sym alike, (back.undone stands).1) }
 
+-- the answer on `desk` is the cells of its one row
+one_answer : (kept answer : List Row) (one : IsOne kept) → Finds (λ row. true) (λ row. column row 2 ∷ column row 3 ∷ []) kept answer → answer ≡ (column one.row 2 ∷ column one.row 3 ∷ []) ∷ []
+one_answer kept answer one found = one_permutation (column one.row 2 ∷ column one.row 3 ∷ []) answer (rw one.is at found.shown)
+
+first_cell : (kept answer : List Row) (row : Row) (one : IsOne kept) → Finds (λ row. true) (λ row. column row 2 ∷ column row 3 ∷ []) kept answer → Some row ≡ slice_get answer 0 → version_in kept ≡ number_in (column row 0)
+first_cell kept answer row one found first =
+    let same : Some row ≡ Some (column one.row 2 ∷ column one.row 3 ∷ []) = first ∙ ap (λ l. slice_get l 0) (one_answer kept answer one found) in
+    let row_is : row ≡ column one.row 2 ∷ column one.row 3 ∷ [] = cc in
+    ap version_in one.is ∙ ap (λ r. number_in (column r 0)) (sym row_is)
+
 -- the first row of the answer on `desk` tells what the one row of `desk` tells
 pub version_told : (kept answer : List Row) (row : Row) → IsOne kept → Finds (λ row. true) (λ row. column row 2 ∷ column row 3 ∷ []) kept answer → Some row ≡ slice_get answer 0
     → (r : Result ℤ ReadFault) → IfOk r (λ n. number_in (column row 0) ≡ Some n) → IfOk r (λ n. version_in kept ≡ Some n)
 version_told kept answer row one found first (Err e) told = tt
-version_told kept answer row one found first (Ok n) told =
-    let show : Row → Row = λ row. column row 2 ∷ column row 3 ∷ [] in
-    let is : answer ≡ show one.row ∷ [] = one_permutation (show one.row) answer (rw one.is at found.shown) in
-    let same : Some row ≡ Some (show one.row) = first ∙ ap (λ l. slice_get l 0) is in
-    let row_is : row ≡ show one.row = cc in
-    ap version_in one.is ∙ ap (λ r. number_in (column r 0)) (sym row_is) ∙ told
+version_told kept answer row one found first (Ok n) told = first_cell kept answer row one found first ∙ told
+
+pub version_untold : (kept answer : List Row) (row : Row) → IsOne kept → Finds (λ row. true) (λ row. column row 2 ∷ column row 3 ∷ []) kept answer → Some row ≡ slice_get answer 0
+    → (r : Result ℤ ReadFault) → IfErr r (λ _. number_in (column row 0) ≡ None) → IfErr r (λ _. version_in kept ≡ None)
+version_untold kept answer row one found first (Ok n) untold = tt
+version_untold kept answer row one found first (Err e) untold = first_cell kept answer row one found first ∙ untold
+
+-- the answer on `desk` has a row
+pub never_empty : (kept answer : List Row) → IsOne kept → Finds (λ row. true) (λ row. column row 2 ∷ column row 3 ∷ []) kept answer → None ≡ slice_get answer 0 → ⊥
+never_empty kept answer one found none =
+    let same : None ≡ Some (column one.row 2 ∷ column one.row 3 ∷ []) = none ∙ ap (λ l. slice_get l 0) (one_answer kept answer one found) in
+    let e = same in cc
 
 -- what was looked at is a database of the six tables
 pub judged_ours : (old mid : State) → IsSettled old → IsJudged true old mid → IsOurs mid.now

@@ -1,18 +1,23 @@
 -- How a database is made or taken, and how it stands then.
-use Rattle.std.specs.Prelude.{◌≡◌, ◌↔◌, ℤ, pos, Bool, false, IsTrue, List, [], ◌∷◌, Option, Some, None}
+use Rattle.std.specs.Prelude.{◌≡◌, ◌↔◌, ◌⊎◌, ℕ, ◌+◌, ◌-◌, nat_lt, if◌then◌else◌, ℤ, pos, Bool, true, false, IsTrue, List, [], ◌∷◌, Option, Some, None}
 use Rattle.sqlite_trees.specs.Tree.{Trees}
 use Rattle.sqlite_value.specs.Order.{Row, column}
 use Rattle.sqlite.specs.State.{State}
+use Rattle.store.specs.declared.change.Change.{Change}
+use Rattle.store.specs.declared.change.RowsBelow.{RowsBelow}
+use Rattle.store.specs.Change.{with_change}
 use Rattle.store.specs.Memory.{no_tables}
 use Rattle.store.specs.Standing.{sound}
+use Rattle.store.specs.Tables.{Tables, Text}
 use Rattle.stored_rows.specs.Cells.{number_in}
 use Rattle.stored_rows.specs.declared.read_fault.ReadFault.{ReadFault}
 use Rattle.stored_rows.specs.declared.read_fault.ReadFault.TheVariants as read
 use Rattle.sql_schema.specs.Schema.{desk_schema, desk_tree, schema_0}
-use Rattle.sql_rows.specs.Ours.{AreOurs, IsOurs, content_of, kept_in}
+use Rattle.sql_rows.specs.Ours.{AreOurs, IsOurs, Makes, content_of, kept_in}
+use Rattle.sql_writing.specs.Steps.{Turns}
 use Rattle.sql_checks.specs.Fitting.{IsFitting}
 use Rattle.sql_opening.specs.declared.open_fault.OpenFault.{OpenFault}
-use Rattle.sql_opening.specs.declared.open_fault.OpenFault.TheVariants.{BadRow, Sql}
+use Rattle.sql_opening.specs.declared.open_fault.OpenFault.TheVariants.{BadRow, NotOurs, Sql}
 
 -- a fault of a read as one of an opening
 abbrev pub as_open : ReadFault → OpenFault
@@ -39,8 +44,9 @@ pub record IsBegun (new : State) : Type 0 where
   pub empty : content_of new.committed.trees ≡ sound no_tables
   pub version : version_of new.committed.trees ≡ Some (pos 2)
 
--- the tables are taken as they are
+-- tables of this version are taken as they are
 pub record IsTaken (old new : State) : Type 0 where
+  pub was : version_of old.committed.trees ≡ Some (pos 2)
   pub stands : Stands new
   pub content : content_of new.committed.trees ≡ content_of old.committed.trees
   pub version : version_of new.committed.trees ≡ Some (pos 2)
@@ -75,3 +81,79 @@ pub record IsFound (told : ℤ) (old new : State) : Type 0 where
   pub now : new.now ≡ old.now
   pub committed : new.committed ≡ old.committed
   pub version : version_of new.committed.trees ≡ Some told
+
+-- ---- the first version
+
+-- the tables without the rows of each panel that are more than 1,000 below its next number
+abbrev pub without_early_rows : Tables → Tables
+without_early_rows tables = record tables { row = λ panel number. if nat_lt (number + 1_000) (tables.next panel) then None else tables.row panel number }
+
+-- tables of the first version are those of the second, without their early rows
+pub record IsRaised (old new : Trees) : Type 0 where
+  pub was : version_of old ≡ Some (pos 1)
+  pub makes : Makes without_early_rows (kept_in old) (kept_in new)
+  pub version : version_of new ≡ Some (pos 2)
+
+-- the tables of the first version are taken as those of the second
+pub record IsMigrated (old new : State) : Type 0 where
+  pub stands : Stands new
+  pub raised : IsRaised old.committed.trees new.committed.trees
+
+-- a database of the six tables, of the first version
+pub record IsFirst (s : State) : Type 0 where
+  pub stands : Stands s
+  pub version : version_of s.committed.trees ≡ Some (pos 1)
+
+-- ---- what is refused
+
+-- a database of the six tables, of a version that is known
+pub record IsKnown (s : State) : Type 0 where
+  pub mode : s.in_transaction ≡ false
+  pub stands : Stands s
+  pub version : (version_of s.committed.trees ≡ Some (pos 1)) ⊎ (version_of s.committed.trees ≡ Some (pos 2))
+
+-- the database refused or failed
+abbrev pub is_sql : OpenFault → Bool
+is_sql (Sql error) = true
+is_sql NotOurs = false
+is_sql BadRow = false
+
+-- it refused or failed, or a row cannot stand
+abbrev pub IsFaultOf : State → OpenFault → Type 0
+IsFaultOf s fault = IsTrue (is_sql fault) ⊎ ((fault ≡ BadRow) × ((content_of s.committed.trees).is_sound ≡ false))
+
+-- ---- its steps
+
+-- of a panel, the rows that are more than 1,000 below its next number
+abbrev pub early_rows : (Text → ℕ) → Text → RowsBelow
+early_rows next panel = record { panel = panel; number = next panel - 1_000 }
+
+-- in a transaction the row of `desk` tells version 2, and the tables are as they were
+pub record SetsVersion (old new : State) : Type 0 where
+  pub turns : Turns (λ tables. tables) old new
+  pub version : version_of new.now.trees ≡ Some (pos 2)
+
+-- in a transaction the change is made, and the row of `desk` tells version 2
+pub record Raises (change : Change) (old new : State) : Type 0 where
+  pub turns : Turns (with_change change) old new
+  pub version : version_of new.now.trees ≡ Some (pos 2)
+
+-- trees with the change, whose row of `desk` tells version 2
+pub record IsChangedBy (change : Change) (old new : Trees) : Type 0 where
+  pub makes : Makes (with_change change) (kept_in old) (kept_in new)
+  pub version : version_of new ≡ Some (pos 2)
+
+-- the change and the version are committed
+pub record IsWritten (change : Change) (old new : State) : Type 0 where
+  pub stands : Stands new
+  pub changed : IsChangedBy change old.now.trees new.now.trees
+
+-- the connection shows what was committed
+pub record ShowsCommitted (old new : State) : Type 0 where
+  pub was_open : IsTrue old.is_open
+  pub now : new.now ≡ old.committed
+  pub committed : new.committed ≡ old.committed
+
+-- the change drops the early rows, and changes nothing else
+pub record DropsEarly (tables : Tables) (change : Change) : Type 0 where
+  pub makes : with_change change tables ≡ without_early_rows tables

@@ -1,13 +1,16 @@
 //! How are the desk's six tables made in a database, and how is a database that has them taken?
 //!
-//! `make` makes the tables in an empty database. `take_current` takes a database whose tables are of this version.
+//! `make` makes the tables in an empty database. `take` takes a database whose tables are of this version, or of the
+//! first, which it makes those of this one.
 #![tactic(auto)]
 
 pub use making::make;
 pub use open_fault::OpenFault;
-pub use taking::take_current;
+pub use taking::take;
 
+mod early;
 mod making;
 mod open_fault;
+mod raising;
 mod taking;
 mod version;

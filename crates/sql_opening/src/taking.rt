@@ -1,16 +1,22 @@
 //! A database that has the six tables.
-ghost use Rattle.std.specs.Prelude.{◌≡◌, ◌↔◌, IfOk, IsTrue, OnErr, OnOk, false};
+ghost use Rattle.std.specs.Prelude.{◌≡◌, ◌↔◌, ◌⊎◌, IfErr, IfOk, IsTrue, OnErr, OnOk, false};
 ghost use Rattle.sqlite.specs.Held.{state};
 ghost use Rattle.sqlite.specs.State.{HasCleanDisk, IsUnchanged, Survives};
 ghost use Rattle.sql_create.specs.Creating.{IsAsBefore};
 ghost use Rattle.sql_rows.specs.Looking.{Rests};
-ghost use Rattle.sql_opening.specs.Opening.{IsFound, IsJudged, IsSettled, IsShaped, IsTaken};
+ghost use Rattle.sql_opening.specs.Opening.{IsFaultOf, IsFirst, IsFound, IsJudged, IsKnown, IsMigrated, IsRaised, IsSettled, IsShaped, IsTaken, is_sql};
 
+use crate::early::dropping;
 use crate::open_fault::OpenFault;
+use crate::raising::commit_raised;
 use crate::version::version_of;
 use sql_checks::are_own;
 use sql_create::{VERSION, has_desk_schema};
 use sqlite::{Alter, Connection, Error};
+use std::alloc::Global;
+
+// The version before this one, with rows that this one drops.
+const FIRST_VERSION: i64 = 1;
 
 // Whether the connection is outside a transaction, over the schema of the six tables.
 fn has_shape<S: Alter>(connection: &Connection<S>) -> bool
@@ -48,6 +54,7 @@ fn rows_are_own<S: Alter>(connection: &mut Connection<S>) -> Result<bool, Error>
 
 // The version of a database that has the six tables, with rows as a store writes them.
 fn find_version<S: Alter>(connection: &mut Connection<S>) -> Result<i64, OpenFault>
+    ensures known { HasCleanDisk (state S.Store connection.new) → IsKnown (state S.Store connection.old) → IfErr result (λ fault. IsTrue (is_sql fault)) }
     ensures mode { OnOk result (connection.new.in_transaction ≡ false) }
     ensures found { HasCleanDisk (state S.Store connection.new) → IfOk result (λ version. IsFound version (state S.Store connection.old) (state S.Store connection.new)) }
     ensures kept { HasCleanDisk (state S.Store connection.new) → IsTrue (state S.Store connection.new).is_open → IsAsBefore (state S.Store connection.old) (state S.Store connection.new) }
@@ -62,16 +69,32 @@ fn find_version<S: Alter>(connection: &mut Connection<S>) -> Result<i64, OpenFau
     Ok(version_of(connection)?)
 }
 
-/// Takes a database whose tables are of this version, and changes nothing.
-pub fn take_current<S: Alter>(connection: &mut Connection<S>) -> Result<(), OpenFault>
-    ensures mode { OnOk result (connection.new.in_transaction ≡ false) }
-    ensures taken { HasCleanDisk (state S.Store connection.new) → OnOk result (IsTaken (state S.Store connection.old) (state S.Store connection.new)) }
-    ensures kept { HasCleanDisk (state S.Store connection.new) → IsTrue (state S.Store connection.new).is_open → OnErr result (IsAsBefore (state S.Store connection.old) (state S.Store connection.new)) }
-    ensures survives { Survives (state S.Store connection.old) (state S.Store connection.new) (λ _. ⊥) }
+// Drops the early rows of the tables of the first version, and sets the version, in one transaction.
+fn migrate<S: Alter>(alloc: Global, connection: &mut Connection<S>) -> Result<(), OpenFault>
+    requires { (state S.Store connection.old).in_transaction ≡ false }
+    ensures mode { connection.new.in_transaction ≡ false }
+    ensures fault { HasCleanDisk (state S.Store connection.new) → IsFirst (state S.Store connection.old) → IfErr result (IsFaultOf (state S.Store connection.old)) }
+    ensures made { HasCleanDisk (state S.Store connection.new) → IsFirst (state S.Store connection.old) → OnOk result (IsMigrated (state S.Store connection.old) (state S.Store connection.new)) }
+    ensures kept { HasCleanDisk (state S.Store connection.new) → IsFirst (state S.Store connection.old) → IsTrue (state S.Store connection.new).is_open → OnErr result (IsAsBefore (state S.Store connection.old) (state S.Store connection.new)) }
+    ensures survives { Survives (state S.Store connection.old) (state S.Store connection.new) (λ trees. IsFirst (state S.Store connection.old) → IsRaised (state S.Store connection.old).committed.trees trees) }
 {
-    if find_version(connection)? == VERSION {
-        Ok(())
-    } else {
-        Err(OpenFault::NotOurs)
+    let change = dropping(alloc, connection)?;
+    commit_raised(alloc, connection, &change)?;
+    Ok(())
+}
+
+/// Takes a database whose tables are of this version or of the first. Those of the first are without the rows of
+/// each panel more than 1,000 below its next number from then on. A stop leaves the one or the other.
+pub fn take<S: Alter>(alloc: Global, connection: &mut Connection<S>) -> Result<(), OpenFault>
+    ensures mode { OnOk result (connection.new.in_transaction ≡ false) }
+    ensures known { HasCleanDisk (state S.Store connection.new) → IsKnown (state S.Store connection.old) → IfErr result (IsFaultOf (state S.Store connection.old)) }
+    ensures taken { HasCleanDisk (state S.Store connection.new) → OnOk result (IsTaken (state S.Store connection.old) (state S.Store connection.new) ⊎ IsMigrated (state S.Store connection.old) (state S.Store connection.new)) }
+    ensures kept { HasCleanDisk (state S.Store connection.new) → IsTrue (state S.Store connection.new).is_open → OnErr result (IsAsBefore (state S.Store connection.old) (state S.Store connection.new)) }
+    ensures survives { Survives (state S.Store connection.old) (state S.Store connection.new) (λ trees. IsRaised (state S.Store connection.old).committed.trees trees) }
+{
+    match find_version(connection)? {
+        VERSION => Ok(()),
+        FIRST_VERSION => migrate(alloc, connection),
+        _ => Err(OpenFault::NotOurs),
     }
 }

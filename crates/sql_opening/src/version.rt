@@ -1,5 +1,5 @@
 //! The version that the row of `desk` tells.
-ghost use Rattle.std.specs.Prelude.{◌≡◌, false, true, IfErr, IfOk, Some, List, [], ◌∷◌};
+ghost use Rattle.std.specs.Prelude.{◌≡◌, false, true, Err, IfErr, IfOk, None, Some, List, [], ◌∷◌};
 ghost use Rattle.std.specs.Result.{result_err};
 ghost use Rattle.sqlite.specs.Held.{state};
 ghost use Rattle.sqlite.specs.State.{HasCleanDisk, Survives};
@@ -17,6 +17,7 @@ use stored_rows::{ReadFault, number_at};
 // What the answer of the query on `desk` tells.
 fn told_version(rows: &[Row]) -> Result<i64, ReadFault>
     ensures value { (kept : List Cells) → IsOne kept → Finds (λ row. true) (λ row. column row 2 ∷ column row 3 ∷ []) kept rows.now → IfOk result (λ version. version_in kept ≡ Some version) }
+    ensures bad { (kept : List Cells) → IsOne kept → Finds (λ row. true) (λ row. column row 2 ∷ column row 3 ∷ []) kept rows.now → IfErr result (λ _. version_in kept ≡ None) }
     ensures fault { IfErr result (λ fault. fault ≡ BadRow) }
 {
     match rows.first() {
@@ -31,6 +32,7 @@ pub fn version_of<S: Alter>(connection: &mut Connection<S>) -> Result<i64, ReadF
     ensures mode { connection.old.in_transaction ≡ false → connection.new.in_transaction ≡ false }
     ensures asks { HasCleanDisk (state S.Store connection.new) → IsOurs (state S.Store connection.old).now → Asks (result_err result) (state S.Store connection.old) (state S.Store connection.new) }
     ensures value { HasCleanDisk (state S.Store connection.new) → IsOurs (state S.Store connection.old).now → IfOk result (λ version. version_of (state S.Store connection.old).now.trees ≡ Some version) }
+    ensures bad { HasCleanDisk (state S.Store connection.new) → IsOurs (state S.Store connection.old).now → result ≡ Err BadRow → version_of (state S.Store connection.old).now.trees ≡ None }
     ensures survives { Survives (state S.Store connection.old) (state S.Store connection.new) (λ _. IsOurs (state S.Store connection.old).now → ⊥) }
 {
     let rows = desk_row::find(connection)?;

@@ -4,9 +4,9 @@ ghost use Rattle.sqlite.specs.Held.{state};
 ghost use Rattle.sqlite.specs.State.{HasCleanDisk};
 ghost use Rattle.sql_create.specs.Creating.{IsAsBefore};
 ghost use Rattle.sql_opening.specs.Opening.{IsBare};
-ghost use Rattle.sql_rows.specs.Ours.{content_of};
 ghost use Rattle.store.specs.Memory.{no_tables};
 ghost use Rattle.store.specs.Standing.{sound};
+ghost use Rattle.store_sql.specs.Opening.{IsOpened};
 ghost use Rattle.store_sql.specs.Standing.{IsFit, standing_of};
 ghost use Rattle.store_sql.specs.declared.open_fault.OpenFault.TheVariants.{UnknownTables};
 
@@ -16,7 +16,7 @@ use dates::Entry;
 use points::{CommandRow, Name, NumberedRow, PriorityArray};
 use sql_create::has_no_schema;
 use sql_listing::{command_of, commands_run, entries_of, names_of};
-use sql_opening::{make, take_current};
+use sql_opening::{make, take};
 use sql_reading::{array_of, last_tick, next_of, shown_by};
 use sql_writing::commit_change;
 use sqlite::{Alter, Connection};
@@ -80,18 +80,20 @@ impl<S: Alter + Drop> SqlStore<S> {
         }
     }
 
-    /// Opens the six tables that a connection holds. S4 where the connection is in a transaction, or the tables are
-    /// others, or their version is not 2; S5 where the version is no number. A refusal hands the connection back.
+    /// Opens the six tables that a connection holds. Tables of version 1 are of version 2 from then on, without the rows
+    /// of each panel more than 1,000 below its next number: in one transaction, so that a stop leaves the one or the
+    /// other. S4 where the connection is in a transaction, or the tables are others, or of another version; S5 where a
+    /// row that has to be read cannot stand. A refusal hands the connection back.
     pub fn open(
         alloc: Global,
         connection: Connection<S>,
     ) -> Result<SqlStore<S>, (OpenFault, Connection<S>)>
-        ensures content { IfOk result (λ store. (standing_of S.Store store).is_honest → (standing_of S.Store store).content ≡ content_of (state S.Store connection).committed.trees) }
+        ensures opened { IfOk result (λ store. (standing_of S.Store store).is_honest → IsOpened (state S.Store connection) (state S.Store store.connection)) }
         ensures open { IfOk result (λ store. ((standing_of S.Store store).is_shut ≡ false) × ((standing_of S.Store store).failures ≡ 0)) }
         ensures unchanged { IfErr result (λ refused. HasCleanDisk (state S.Store refused.1) → IsTrue (state S.Store refused.1).is_open → IsAsBefore (state S.Store connection) (state S.Store refused.1)) }
     {
         let mut connection = connection;
-        match take_current(&mut connection) {
+        match take(alloc, &mut connection) {
             Ok(()) => Ok(SqlStore::over(alloc, connection)),
             Err(fault) => Err((OpenFault::of(fault), connection)),
         }
@@ -103,7 +105,7 @@ impl<S: Alter + Drop> SqlStore<S> {
         connection: Connection<S>,
     ) -> Result<SqlStore<S>, (OpenFault, Connection<S>)>
         ensures empty { IsBare (state S.Store connection) → IfOk result (λ store. (standing_of S.Store store).is_honest → (standing_of S.Store store).content ≡ sound no_tables) }
-        ensures content { (IsBare (state S.Store connection) → ⊥) → IfOk result (λ store. (standing_of S.Store store).is_honest → (standing_of S.Store store).content ≡ content_of (state S.Store connection).committed.trees) }
+        ensures opened { (IsBare (state S.Store connection) → ⊥) → IfOk result (λ store. (standing_of S.Store store).is_honest → IsOpened (state S.Store connection) (state S.Store store.connection)) }
         ensures open { IfOk result (λ store. ((standing_of S.Store store).is_shut ≡ false) × ((standing_of S.Store store).failures ≡ 0)) }
         ensures unchanged { IfErr result (λ refused. HasCleanDisk (state S.Store refused.1) → IsTrue (state S.Store refused.1).is_open → IsAsBefore (state S.Store connection) (state S.Store refused.1)) }
     {
