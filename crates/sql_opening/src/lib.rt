@@ -4,7 +4,7 @@
 //! first, which it makes those of this one.
 #![tactic(auto)]
 
-pub use making::make;
+pub use making::{is_bare, make};
 pub use open_fault::OpenFault;
 pub use taking::take;
 

@@ -11,8 +11,8 @@ use crate::open_fault::OpenFault;
 use sql_create::{has_no_schema, make_tables};
 use sqlite::{Alter, Connection, Error};
 
-// Whether the connection is outside a transaction, over a database in which nothing is.
-fn is_bare<S: Alter>(connection: &Connection<S>) -> bool
+/// Whether the connection is outside a transaction, over a database in which nothing is.
+pub fn is_bare<S: Alter>(connection: &Connection<S>) -> bool
     ensures { IsTrue result ↔ IsBare (state S.Store connection.now) }
 {
     connection.is_autocommit() && has_no_schema(connection)

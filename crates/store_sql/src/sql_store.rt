@@ -14,9 +14,8 @@ use crate::open_fault::OpenFault;
 use crate::session::Session;
 use dates::Entry;
 use points::{CommandRow, Name, NumberedRow, PriorityArray};
-use sql_create::has_no_schema;
 use sql_listing::{command_of, commands_run, entries_of, names_of};
-use sql_opening::{make, take};
+use sql_opening::{is_bare, make, take};
 use sql_reading::{array_of, last_tick, next_of, shown_by};
 use sql_writing::commit_change;
 use sqlite::{Alter, Connection};
@@ -109,7 +108,7 @@ impl<S: Alter + Drop> SqlStore<S> {
         ensures open { IfOk result (λ store. ((standing_of S.Store store).is_shut ≡ false) × ((standing_of S.Store store).failures ≡ 0)) }
         ensures unchanged { IfErr result (λ refused. HasCleanDisk (state S.Store refused.1) → IsTrue (state S.Store refused.1).is_open → IsAsBefore (state S.Store connection) (state S.Store refused.1)) }
     {
-        if connection.is_autocommit() && has_no_schema(&connection) {
+        if is_bare(&connection) {
             SqlStore::create(alloc, connection)
         } else {
             SqlStore::open(alloc, connection)
