@@ -7,6 +7,7 @@ import json
 import os
 import pathlib
 import socket
+import sqlite3
 import subprocess
 import time
 
@@ -177,7 +178,94 @@ def a_line_of_100000_bytes_is_read(program, folder):
     expect((ran.returncode, ran.stdout.startswith(DONE), ran.stderr), (0, True, ""))
 
 
+def ticked(program, folder, at, **more):
+    words = [program, "tick", "building.toml", "desk.db", str(at)]
+    return subprocess.run(words, cwd=folder, timeout=SECONDS, **{"capture_output": True, **more})
+
+
+TICKED, OLD = b'{"answer":"tick","writes":1}\n', b'{"answer":"old","writes":0}\n'
+REFUSED = (3, b"", b"desk: store fault S2\n")
+
+
+def a_database_that_another_process_holds_is_refused(program, folder):
+    files(folder)
+    expect(ticked(program, folder, 174884399999).stdout, TICKED)
+    before = (folder / "desk.db").read_bytes()
+    holder = sqlite3.connect(folder / "desk.db", isolation_level=None)
+    holder.execute("BEGIN EXCLUSIVE")
+    try:
+        ran = ticked(program, folder, 174884400000)
+    finally:
+        holder.close()
+    expect((ran.returncode, ran.stdout, ran.stderr), REFUSED)
+    expect((folder / "desk.db").read_bytes(), before)
+    expect(ticked(program, folder, 174884400000).stdout, TICKED)
+
+
+def full_pipe():
+    """A pipe that takes no more, and what was put in it."""
+    reader, writer = os.pipe()
+    os.set_blocking(writer, False)
+    put = 0
+    try:
+        while True:
+            put += os.write(writer, b"x" * 4096)
+    except BlockingIOError:
+        os.set_blocking(writer, True)
+    return reader, writer, put
+
+
+def has_open(desk, path):
+    """Whether the process has the file open and waits."""
+    waits = pathlib.Path(f"/proc/{desk.pid}/stat").read_text().rpartition(") ")[2].startswith("S")
+    opened = [os.readlink(link) for link in pathlib.Path(f"/proc/{desk.pid}/fd").iterdir()]
+    return waits and str(path.resolve()) in opened
+
+
+def a_database_that_a_desk_holds_is_refused(program, folder):
+    files(folder)
+    expect(ticked(program, folder, 174884399999).stdout, TICKED)
+    reader, writer, put = full_pipe()
+    words = [program, "tick", "building.toml", "desk.db", "174884400000"]
+    with subprocess.Popen(words, cwd=folder, stdout=writer, stderr=subprocess.PIPE) as desk:
+        try:
+            os.close(writer)
+            end = time.monotonic() + SECONDS
+            while not has_open(desk, folder / "desk.db") and time.monotonic() < end:
+                time.sleep(0.02)
+            time.sleep(0.1)
+            ran = ticked(program, folder, 174884400100)
+            expect((ran.returncode, ran.stdout, ran.stderr), REFUSED)
+            with os.fdopen(reader, "rb") as printed:
+                expect(printed.read()[put:], TICKED)
+            expect((desk.wait(timeout=SECONDS), desk.stderr.read()), (0, b""))
+        finally:
+            desk.kill()
+    expect(ticked(program, folder, 174884400000).stdout, OLD)
+
+
+def a_tick_whose_reply_is_lost_stands(program, folder):
+    files(folder)
+    with open("/dev/full", "wb") as full:
+        ran = ticked(program, folder, 174884399999, stdout=full, stderr=subprocess.PIPE, capture_output=False)
+    expect((ran.returncode, ran.stderr), (1, b"desk: cannot write\n"))
+    expect(ticked(program, folder, 174884399999).stdout, OLD)
+
+
+def words_at_fault_make_no_database(program, folder):
+    files(folder)
+    before = sorted(os.listdir(folder))
+    for words in (["tick", "building.toml", "desk.db", "noon"], ["tick", "building.toml", "desk.db"],
+                  ["import", "building.toml", "desk.db"], ["tick", "building.toml", b"\xff", "0"]):
+        ran = subprocess.run([program, *words], cwd=folder, capture_output=True, timeout=SECONDS)
+        expect((ran.returncode, ran.stdout, sorted(os.listdir(folder))), (2, b"", before))
+
+
 TESTS = [
+    a_database_that_another_process_holds_is_refused,
+    a_database_that_a_desk_holds_is_refused,
+    a_tick_whose_reply_is_lost_stands,
+    words_at_fault_make_no_database,
     a_full_device_is_told,
     a_full_device_is_told_before_a_bad_line,
     a_closed_pipe_is_told,

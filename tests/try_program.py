@@ -4,12 +4,20 @@ Usage: try_program.py PROGRAM
 
 A case is a folder of cases/, named for what it shows: building.toml (without one, the worked building),
 deliveries.jsonl, words (a word a line; without it, replay of these two), and what is wanted: stdout, stderr
-(without it, nothing) and status (without it, 0). The last line printed is `N passed, M failed`.
+(without it, nothing) and status (without it, 0). Or it has a transcript in place of all these: commands that are
+run one after the other, each after `$ `, and under it what is wanted. A command is `desk` with its words, or `sql`
+with a database and a statement, which the C library of SQLite runs; its rows are shown with `|` between the
+columns. Of a `desk`, a line `desk: ..` is wanted on the standard error, a last line `status N` is the status
+(without it, 0), and where a fault is told each file has to be as it was before.
+The last line printed is `N passed, M failed`.
 """
+import contextlib
 import pathlib
 import random
 import re
+import shlex
 import shutil
+import sqlite3
 import subprocess
 import sys
 import tempfile
@@ -38,10 +46,51 @@ def wanted(case, name, default):
     return (case / name).read_bytes() if (case / name).exists() else default
 
 
+def files_of(room):
+    """What each file of the folder holds, but for empty ones."""
+    held = {path.name: path.read_bytes() for path in room.iterdir() if path.is_file()}
+    return {name: content for name, content in held.items() if content}
+
+
+def rows_of(database, statement):
+    """Runs a statement, and shows its rows."""
+    with contextlib.closing(sqlite3.connect(database, isolation_level=None)) as connection:
+        rows = connection.execute(statement).fetchall()
+    return "".join("|".join("NULL" if cell is None else str(cell) for cell in row) + "\n" for row in rows)
+
+
+def desk_differs(program, words, shown, room):
+    """What differs from what a transcript shows of a run of the desk, or nothing."""
+    lines = shown.splitlines(keepends=True)
+    status = int(lines.pop().split()[1]) if lines and lines[-1].startswith("status ") else 0
+    told = "".join(line for line in lines if line.startswith("desk: "))
+    printed = "".join(line for line in lines if not line.startswith("desk: "))
+    before = files_of(room)
+    found = difference(run(program, words, room), status, printed.encode(), told.encode())
+    changed = told and files_of(room) != before
+    return found or ("a file was changed though a fault was told" if changed else "")
+
+
+def try_transcript(program, transcript, room):
+    """Runs the commands of a transcript, to the first that differs."""
+    for command, shown in re.findall(r"^\$ (.*)\n((?:[^$].*\n)*)", transcript, re.M):
+        name, *words = shlex.split(command)
+        if name == "sql":
+            rows = rows_of(room / words[0], words[1])
+            wrong = "" if rows == shown else f"rows {rows!r}, wanted {shown!r}"
+        else:
+            wrong = desk_differs(program, words, shown, room)
+        if wrong:
+            return f"{command}: {wrong}"
+    return ""
+
+
 def try_case(program, case, room):
     shutil.copytree(case, room, dirs_exist_ok=True)
     if not (room / "building.toml").exists():
         (room / "building.toml").write_text(tables.WORKED)
+    if (case / "transcript").exists():
+        return try_transcript(program, (case / "transcript").read_text(), room)
     words = wanted(case, "words", b"replay\nbuilding.toml\ndeliveries.jsonl\n").split(b"\n")[:-1]
     status = int(wanted(case, "status", b"0"))
     return difference(run(program, words, room), status, wanted(case, "stdout", b""), wanted(case, "stderr", b""))

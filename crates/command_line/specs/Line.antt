@@ -1,10 +1,13 @@
 -- What the words of a command line ask of the program, by `clap`'s own reading of them.
-use Rattle.std.specs.Prelude.{true, List, Option, None, codes}
+use Rattle.std.specs.Prelude.{◌&&◌, true, ℤ, negsuc, pos, List, Option, None, Some, codes}
 use Rattle.std.specs.Prelude.{if◌then◌else◌, option_and_then, option_map}
 use Rattle.std.specs.Str.{bytes_eq}
+use Rattle.std.specs.Str.Parse.{signed_digits_value, without_leading_sign}
+use Rattle.clap.specs.ValueTests.{fits_i64, is_numeral}
 use Rattle.clap.specs.Words.{App, Row, Rule, Text, first_of, new_app, new_rule, subcommand_of}
 use Rattle.clap.specs.Words.{with_rule, with_subcommand}
 use Rattle.clap.specs.Simple.{on_top}
+use Rattle.clap.specs.declared.builder.value_parser.ValueParser.TheVariants as vp
 use Rattle.command_line.specs.declared.line.Line.{Line}
 use Rattle.command_line.specs.declared.line.Line.TheVariants as line
 
@@ -13,6 +16,12 @@ use Rattle.command_line.specs.declared.line.Line.TheVariants as line
 -- an argument that has to be there, by its place among the words; its value has a name in the help
 abbrev pub needed_rule : Text → Rule
 needed_rule id = record (new_rule id) { required = true; value_names = 1 }
+
+-- the same, whose value `clap` has to read as an i64
+abbrev pub number_rule : Text → Rule
+number_rule id = record (needed_rule id) {
+  parser = Some (vp.Signed (negsuc 9223372036854775807) (pos 9223372036854775807));
+}
 
 -- `check FILE`
 abbrev pub check_app : App
@@ -24,10 +33,26 @@ replay_app =
     with_rule (with_rule (new_app (codes "replay")) (needed_rule (codes "file")))
     (needed_rule (codes "deliveries"))
 
--- `desk`, which needs a subcommand
-abbrev pub desk_app : App
-desk_app = with_subcommand (with_subcommand
+-- `import FILE DB CSV`
+abbrev pub import_app : App
+import_app =
+    with_rule (with_rule (with_rule (new_app (codes "import")) (needed_rule (codes "file")))
+    (needed_rule (codes "database"))) (needed_rule (codes "holidays"))
+
+-- `tick FILE DB AT`
+abbrev pub tick_app : App
+tick_app =
+    with_rule (with_rule (with_rule (new_app (codes "tick")) (needed_rule (codes "file")))
+    (needed_rule (codes "database"))) (number_rule (codes "at"))
+
+-- `desk`, which needs a subcommand, with those that use no database
+abbrev pub memory_app : App
+memory_app = with_subcommand (with_subcommand
     (on_top (λ s. record s { subcommand_required = true }) (new_app (codes "desk"))) check_app.top) replay_app.top
+
+-- `desk`
+abbrev pub desk_app : App
+desk_app = with_subcommand (with_subcommand memory_app import_app.top) tick_app.top
 
 -- ---- what they ask
 
@@ -35,10 +60,20 @@ desk_app = with_subcommand (with_subcommand
 pub data Asked : Type 0 where
   Check : (file : Text) → Asked
   Replay : (file : Text) → (deliveries : Text) → Asked
+  Import : (file : Text) → (database : Text) → (holidays : Text) → Asked
+  Tick : (file : Text) → (database : Text) → (at : ℤ) → Asked
 
 abbrev pub asked_of : Line → Asked
 asked_of (line.Check file) = Check file.now
 asked_of (line.Replay file deliveries) = Replay file.now deliveries.now
+asked_of (line.Import file database holidays) = Import file.now database.now holidays.now
+asked_of (line.Tick file database at) = Tick file.now database.now at
+
+-- the number that a text writes in decimal digits, if it is an i64
+abbrev pub moment_in : Text → Option ℤ
+moment_in text =
+    let at = signed_digits_value 10 text in
+    if is_numeral (without_leading_sign text) && fits_i64 at then Some at else None
 
 abbrev pub check_in : List Row → Option Asked
 check_in rows = option_map Check (first_of (codes "file") rows)
@@ -47,11 +82,24 @@ abbrev pub replay_in : List Row → Option Asked
 replay_in rows = option_and_then (λ file. option_map (λ deliveries. Replay file deliveries)
     (first_of (codes "deliveries") rows)) (first_of (codes "file") rows)
 
+abbrev pub import_in : List Row → Option Asked
+import_in rows = option_and_then (λ file. option_and_then (λ database.
+    option_map (λ holidays. Import file database holidays)
+    (first_of (codes "holidays") rows)) (first_of (codes "database") rows)) (first_of (codes "file") rows)
+
+abbrev pub tick_in : List Row → Option Asked
+tick_in rows = option_and_then (λ file. option_and_then (λ database.
+    option_map (λ at. Tick file database at)
+    (option_and_then moment_in (first_of (codes "at") rows)))
+    (first_of (codes "database") rows)) (first_of (codes "file") rows)
+
 -- what a subcommand's name and the rows of its arguments ask
 abbrev pub asked_in : Text × List Row → Option Asked
 asked_in (name, rows) =
     if bytes_eq name (codes "check") then check_in rows
-    else (if bytes_eq name (codes "replay") then replay_in rows else None)
+    else (if bytes_eq name (codes "replay") then replay_in rows
+    else (if bytes_eq name (codes "import") then import_in rows
+    else (if bytes_eq name (codes "tick") then tick_in rows else None)))
 
 -- what the words ask, the program's name first
 abbrev pub asked : List Text → Option Asked

@@ -7,7 +7,9 @@ ghost use Rattle.clap.specs.Words.{rows_of, rule_of, subcommand_rows_of};
 ghost use Rattle.clap.specs.declared.builder.command.Command.TheViews.{out-Command as fields_of};
 ghost use Rattle.command_line.specs.ArgFault.{IsRefusedBy};
 ghost use Rattle.command_line.specs.Line.{asked, asked_in, asked_of, check_app, check_in, desk_app};
-ghost use Rattle.command_line.specs.Line.{needed_rule, replay_app, replay_in};
+ghost use Rattle.command_line.specs.Line.{import_app, import_in, memory_app, moment_in};
+ghost use Rattle.command_line.specs.Line.{needed_rule, number_rule};
+ghost use Rattle.command_line.specs.Line.{replay_app, replay_in, tick_app, tick_in};
 
 use crate::ArgFault;
 use clap::error::ErrorKind;
@@ -28,6 +30,24 @@ pub enum Line<'a> {
         file: &'a str,
         /// The path of the list of deliveries.
         deliveries: &'a str,
+    },
+    /// `import FILE DB CSV`: delivers the import of a holiday list to the desk of a database.
+    Import {
+        /// The path of the building file.
+        file: &'a str,
+        /// The path of the database.
+        database: &'a str,
+        /// The path of the holiday list.
+        holidays: &'a str,
+    },
+    /// `tick FILE DB AT`: delivers a tick to the desk of a database.
+    Tick {
+        /// The path of the building file.
+        file: &'a str,
+        /// The path of the database.
+        database: &'a str,
+        /// The moment, in hundredths of a second since 1970.
+        at: i64,
     },
 }
 
@@ -53,6 +73,15 @@ impl<'a> Line<'a> {
 /// The command `desk` with its subcommands.
 fn desk_command<'a>(alloc: Global) -> Result<Command<'a>, AllocError>
     ensures { IfOk result (λ c. app_of c ≡ desk_app) }
+{
+    memory_command(alloc)?
+        .subcommand(import_command(alloc)?)?
+        .subcommand(tick_command(alloc)?)
+}
+
+/// The command `desk` with the subcommands that use no database.
+fn memory_command<'a>(alloc: Global) -> Result<Command<'a>, AllocError>
+    ensures { IfOk result (λ c. app_of c ≡ memory_app) }
 {
     Command::new(alloc, "desk")
         .about("The operating desk of a building: BACnet schedules and command priorities")
@@ -82,6 +111,30 @@ fn replay_command<'a>(alloc: Global) -> Result<Command<'a>, AllocError>
         .arg(deliveries_argument(alloc))
 }
 
+/// The subcommand `import FILE DB CSV`.
+fn import_command<'a>(alloc: Global) -> Result<Command<'a>, AllocError>
+    ensures app { IfOk result (λ c. app_of c ≡ import_app) }
+    ensures local { IfOk result (λ c. (fields_of c).has_globals ≡ false) }
+{
+    Command::new(alloc, "import")
+        .about("Adds a list of holidays to the calendars of a database, and prints the reply")
+        .arg(file_argument(alloc))?
+        .arg(database_argument(alloc))?
+        .arg(holidays_argument(alloc))
+}
+
+/// The subcommand `tick FILE DB AT`.
+fn tick_command<'a>(alloc: Global) -> Result<Command<'a>, AllocError>
+    ensures app { IfOk result (λ c. app_of c ≡ tick_app) }
+    ensures local { IfOk result (λ c. (fields_of c).has_globals ≡ false) }
+{
+    Command::new(alloc, "tick")
+        .about("Settles the schedules in a database at a moment, and prints the reply")
+        .arg(file_argument(alloc))?
+        .arg(database_argument(alloc))?
+        .arg(moment_argument(alloc))
+}
+
 /// The path of the building file.
 fn file_argument<'a>(alloc: Global) -> Arg<'a>
     ensures rule { rule_of result ≡ needed_rule (codes "file") }
@@ -104,6 +157,40 @@ fn deliveries_argument<'a>(alloc: Global) -> Arg<'a>
         .help("The deliveries, one JSON object a line")
 }
 
+/// The path of the database.
+fn database_argument<'a>(alloc: Global) -> Arg<'a>
+    ensures rule { rule_of result ≡ needed_rule (codes "database") }
+    ensures local { result.global ≡ false }
+{
+    Arg::new(alloc, "database")
+        .required(true)
+        .value_name("DB")
+        .help("The database of the desk, which is made where there is none")
+}
+
+/// The path of the holiday list.
+fn holidays_argument<'a>(alloc: Global) -> Arg<'a>
+    ensures rule { rule_of result ≡ needed_rule (codes "holidays") }
+    ensures local { result.global ≡ false }
+{
+    Arg::new(alloc, "holidays")
+        .required(true)
+        .value_name("CSV")
+        .help("The holidays, as CSV with the header calendar,entry")
+}
+
+/// The moment of a tick.
+fn moment_argument<'a>(alloc: Global) -> Arg<'a>
+    ensures rule { rule_of result ≡ number_rule (codes "at") }
+    ensures local { result.global ≡ false }
+{
+    Arg::new(alloc, "at")
+        .required(true)
+        .value_name("AT")
+        .value_parser(clap::value_parser!(i64))
+        .help("The moment, in hundredths of a second since 1970-01-01T00:00:00Z")
+}
+
 /// What the subcommand that was met asks, or `None` where a value is missing.
 fn line_in<'a>(matches: &ArgMatches<'a>) -> Option<Line<'a>>
     ensures { option_map asked_of result ≡ option_and_then asked_in (subcommand_rows_of matches.now) }
@@ -112,6 +199,8 @@ fn line_in<'a>(matches: &ArgMatches<'a>) -> Option<Line<'a>>
     match name {
         "check" => check_line(inner),
         "replay" => replay_line(inner),
+        "import" => import_line(inner),
+        "tick" => tick_line(inner),
         _ => None,
     }
 }
@@ -131,6 +220,45 @@ fn replay_line<'a>(matches: &ArgMatches<'a>) -> Option<Line<'a>>
     let file = text_at(matches, "file")?;
     let deliveries = text_at(matches, "deliveries")?;
     Some(Line::Replay { file, deliveries })
+}
+
+/// What the arguments of `import` ask.
+fn import_line<'a>(matches: &ArgMatches<'a>) -> Option<Line<'a>>
+    ensures { option_map asked_of result ≡ import_in (rows_of (found_of matches.now)) }
+{
+    let file = text_at(matches, "file")?;
+    let database = text_at(matches, "database")?;
+    let holidays = text_at(matches, "holidays")?;
+    Some(Line::Import {
+        file,
+        database,
+        holidays,
+    })
+}
+
+/// What the arguments of `tick` ask.
+fn tick_line<'a>(matches: &ArgMatches<'a>) -> Option<Line<'a>>
+    ensures { option_map asked_of result ≡ tick_in (rows_of (found_of matches.now)) }
+{
+    let file = text_at(matches, "file")?;
+    let database = text_at(matches, "database")?;
+    let at = moment_at(matches, "at")?;
+    Some(Line::Tick { file, database, at })
+}
+
+/// The value of an argument, as a moment.
+fn moment_at(matches: &ArgMatches<'_>, id: &str) -> Option<i64>
+    ensures { result ≡ option_and_then moment_in (first_of id.now (rows_of (found_of matches.now))) }
+{
+    moment_in(text_at(matches, id)?)
+}
+
+/// The number that a text writes.
+#[tactic(auto, using(crate::proofs::MomentLemmas::moment_read))]
+fn moment_in(text: &str) -> Option<i64>
+    ensures { result ≡ moment_in text.now }
+{
+    text.parse::<i64>().ok()
 }
 
 /// The value of an argument.

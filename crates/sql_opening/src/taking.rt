@@ -83,8 +83,9 @@ fn migrate<S: Alter>(alloc: Global, connection: &mut Connection<S>) -> Result<()
     Ok(())
 }
 
-/// Takes a database whose tables are of this version or of the first. Those of the first are without the rows of
-/// each panel more than 1,000 below its next number from then on. A stop leaves the one or the other.
+/// Takes a database whose tables are of this version, or of the first. From those of the first it drops each panel's
+/// rows that are more than 1,000 below its next number, and a stop leaves the old tables or the new. It answers
+/// `NotOurs` for another version or schema, for rows that share a number, and in a transaction.
 pub fn take<S: Alter>(alloc: Global, connection: &mut Connection<S>) -> Result<(), OpenFault>
     ensures mode { OnOk result (connection.new.in_transaction ≡ false) }
     ensures known { HasCleanDisk (state S.Store connection.new) → IsKnown (state S.Store connection.old) → IfErr result (IsFaultOf (state S.Store connection.old)) }

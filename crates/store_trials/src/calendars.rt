@@ -53,12 +53,12 @@ fn texts<S: Store>(store: &mut S, alloc: Global, calendar: &Name) -> Result<Stri
     Ok(texts)
 }
 
-fn try_imports<S: Store + Drop>(rt: HostRuntime, mut store: S) -> Result<(), Fail> {
+fn try_imports<S: Store + Drop>(rt: &impl Abort, alloc: Global, mut store: S) -> Result<(), Fail> {
     let calendar = Name::read("HOLIDAYS")?;
-    import_holidays(&rt, &mut store, rt.alloc(), calendar)?;
-    let told = texts(&mut store, rt.alloc(), &calendar)?;
+    import_holidays(rt, &mut store, alloc, calendar)?;
+    let told = texts(&mut store, alloc, &calendar)?;
     assert_eq!(rt; told.as_str(), "2025-01-01 2025-12-25 ");
-    let other = texts(&mut store, rt.alloc(), &Name::read("BREAKS")?)?;
+    let other = texts(&mut store, alloc, &Name::read("BREAKS")?)?;
     assert_eq!(rt; other.as_str(), "");
     let names = store.names()?;
     assert_eq!(rt; names.calendars.len(), 1);
@@ -69,11 +69,11 @@ fn try_imports<S: Store + Drop>(rt: HostRuntime, mut store: S) -> Result<(), Fai
 #[test]
 fn entries_are_imported_once_and_told_in_order_in_memory(rt: HostRuntime) -> Result<(), Fail> {
     let store = MemStore::new(rt.alloc());
-    try_imports(rt, store)
+    try_imports(&rt, rt.alloc(), store)
 }
 
 #[test]
 fn entries_are_imported_once_and_told_in_order_in_sql(rt: HostRuntime) -> Result<(), Fail> {
     let store = sql_store(rt.alloc())?;
-    try_imports(rt, store)
+    try_imports(&rt, rt.alloc(), store)
 }

@@ -3,10 +3,12 @@ ghost use Rattle.store.specs.Change.{IsKeptRow, IsNumber};
 
 use crate::stores::sql_store;
 use points::{Answer, CommandRow, CommandState, Content, Name};
+use std::alloc::Global;
+use std::process::Abort;
 use std::test::Fail;
 use store::{Change, KeptRow, MemStore, NextNumber, RowsBelow, Store};
 
-fn try_nothing<S: Store + Drop>(rt: HostRuntime, mut store: S) -> Result<(), Fail> {
+fn try_nothing<S: Store + Drop>(rt: &impl Abort, alloc: Global, mut store: S) -> Result<(), Fail> {
     let panel = Name::read("P1")?;
     assert_eq!(rt; store.panel_next(&panel)?, 1);
     assert!(rt; store.command(&panel, 1)?.is_none());
@@ -36,9 +38,13 @@ fn row_of(panel: Name, point: Name, number: u64) -> KeptRow
     }
 }
 
-fn try_next_numbers<S: Store + Drop>(rt: HostRuntime, mut store: S) -> Result<(), Fail> {
+fn try_next_numbers<S: Store + Drop>(
+    rt: &impl Abort,
+    alloc: Global,
+    mut store: S,
+) -> Result<(), Fail> {
     let panel = Name::read("P1")?;
-    let mut change = Change::new(rt.alloc());
+    let mut change = Change::new(alloc);
     change.nexts.push(NextNumber { panel, next: 2 })?;
     store.commit(&change)?;
     assert_eq!(rt; store.panel_next(&panel)?, 2);
@@ -46,10 +52,10 @@ fn try_next_numbers<S: Store + Drop>(rt: HostRuntime, mut store: S) -> Result<()
     Ok(())
 }
 
-fn try_rows<S: Store + Drop>(rt: HostRuntime, mut store: S) -> Result<(), Fail> {
+fn try_rows<S: Store + Drop>(rt: &impl Abort, alloc: Global, mut store: S) -> Result<(), Fail> {
     let panel = Name::read("P1")?;
     let point = Name::read("R101-SET")?;
-    let mut change = Change::new(rt.alloc());
+    let mut change = Change::new(alloc);
     change.rows.push(row_of(panel, point, 1))?;
     change.rows.push(row_of(panel, point, 3))?;
     change.rows.push(row_of(panel, point, 5))?;
@@ -66,11 +72,15 @@ fn try_rows<S: Store + Drop>(rt: HostRuntime, mut store: S) -> Result<(), Fail> 
     Ok(())
 }
 
-fn try_dropped_rows<S: Store + Drop>(rt: HostRuntime, mut store: S) -> Result<(), Fail> {
+fn try_dropped_rows<S: Store + Drop>(
+    rt: &impl Abort,
+    alloc: Global,
+    mut store: S,
+) -> Result<(), Fail> {
     let panel = Name::read("P1")?;
     let other = Name::read("P2")?;
     let point = Name::read("R101-SET")?;
-    let mut change = Change::new(rt.alloc());
+    let mut change = Change::new(alloc);
     change.rows.push(row_of(panel, point, 1))?;
     change.rows.push(row_of(panel, point, 2))?;
     change.rows.push(row_of(other, point, 1))?;
@@ -88,47 +98,47 @@ fn try_dropped_rows<S: Store + Drop>(rt: HostRuntime, mut store: S) -> Result<()
 #[test]
 fn nothing_is_kept_at_first_in_memory(rt: HostRuntime) -> Result<(), Fail> {
     let store = MemStore::new(rt.alloc());
-    try_nothing(rt, store)
+    try_nothing(&rt, rt.alloc(), store)
 }
 
 #[test]
 fn nothing_is_kept_at_first_in_sql(rt: HostRuntime) -> Result<(), Fail> {
     let store = sql_store(rt.alloc())?;
-    try_nothing(rt, store)
+    try_nothing(&rt, rt.alloc(), store)
 }
 
 #[test]
 fn next_numbers_are_kept_in_memory(rt: HostRuntime) -> Result<(), Fail> {
     let store = MemStore::new(rt.alloc());
-    try_next_numbers(rt, store)
+    try_next_numbers(&rt, rt.alloc(), store)
 }
 
 #[test]
 fn next_numbers_are_kept_in_sql(rt: HostRuntime) -> Result<(), Fail> {
     let store = sql_store(rt.alloc())?;
-    try_next_numbers(rt, store)
+    try_next_numbers(&rt, rt.alloc(), store)
 }
 
 #[test]
 fn rows_stand_under_their_numbers_in_memory(rt: HostRuntime) -> Result<(), Fail> {
     let store = MemStore::new(rt.alloc());
-    try_rows(rt, store)
+    try_rows(&rt, rt.alloc(), store)
 }
 
 #[test]
 fn rows_stand_under_their_numbers_in_sql(rt: HostRuntime) -> Result<(), Fail> {
     let store = sql_store(rt.alloc())?;
-    try_rows(rt, store)
+    try_rows(&rt, rt.alloc(), store)
 }
 
 #[test]
 fn rows_below_a_number_go_in_memory(rt: HostRuntime) -> Result<(), Fail> {
     let store = MemStore::new(rt.alloc());
-    try_dropped_rows(rt, store)
+    try_dropped_rows(&rt, rt.alloc(), store)
 }
 
 #[test]
 fn rows_below_a_number_go_in_sql(rt: HostRuntime) -> Result<(), Fail> {
     let store = sql_store(rt.alloc())?;
-    try_dropped_rows(rt, store)
+    try_dropped_rows(&rt, rt.alloc(), store)
 }

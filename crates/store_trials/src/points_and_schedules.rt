@@ -1,12 +1,14 @@
 //! What is kept of points and schedules, and the last tick.
 use crate::stores::sql_store;
 use points::Name;
+use std::alloc::Global;
+use std::process::Abort;
 use std::test::Fail;
 use store::{Change, MemStore, PlaceValue, ShownValue, Store};
 
-fn try_places<S: Store + Drop>(rt: HostRuntime, mut store: S) -> Result<(), Fail> {
+fn try_places<S: Store + Drop>(rt: &impl Abort, alloc: Global, mut store: S) -> Result<(), Fail> {
     let point = Name::read("LIGHT")?;
-    let mut change = Change::new(rt.alloc());
+    let mut change = Change::new(alloc);
     change.places.push(PlaceValue {
         point,
         priority: 8,
@@ -38,10 +40,14 @@ fn try_places<S: Store + Drop>(rt: HostRuntime, mut store: S) -> Result<(), Fail
     Ok(())
 }
 
-fn try_schedules<S: Store + Drop>(rt: HostRuntime, mut store: S) -> Result<(), Fail> {
+fn try_schedules<S: Store + Drop>(
+    rt: &impl Abort,
+    alloc: Global,
+    mut store: S,
+) -> Result<(), Fail> {
     let schedule = Name::read("OFFICE")?;
     let quiet = Name::read("HALL")?;
-    let mut change = Change::new(rt.alloc());
+    let mut change = Change::new(alloc);
     change.shown.push(ShownValue {
         schedule,
         shown: Some(None),
@@ -52,7 +58,7 @@ fn try_schedules<S: Store + Drop>(rt: HostRuntime, mut store: S) -> Result<(), F
     })?;
     change.last_tick = Some(-60);
     store.commit(&change)?;
-    let mut change = Change::new(rt.alloc());
+    let mut change = Change::new(alloc);
     change.shown.push(ShownValue {
         schedule: quiet,
         shown: None,
@@ -70,23 +76,23 @@ fn try_schedules<S: Store + Drop>(rt: HostRuntime, mut store: S) -> Result<(), F
 #[test]
 fn values_stand_in_places_in_memory(rt: HostRuntime) -> Result<(), Fail> {
     let store = MemStore::new(rt.alloc());
-    try_places(rt, store)
+    try_places(&rt, rt.alloc(), store)
 }
 
 #[test]
 fn values_stand_in_places_in_sql(rt: HostRuntime) -> Result<(), Fail> {
     let store = sql_store(rt.alloc())?;
-    try_places(rt, store)
+    try_places(&rt, rt.alloc(), store)
 }
 
 #[test]
 fn schedules_show_values_in_memory(rt: HostRuntime) -> Result<(), Fail> {
     let store = MemStore::new(rt.alloc());
-    try_schedules(rt, store)
+    try_schedules(&rt, rt.alloc(), store)
 }
 
 #[test]
 fn schedules_show_values_in_sql(rt: HostRuntime) -> Result<(), Fail> {
     let store = sql_store(rt.alloc())?;
-    try_schedules(rt, store)
+    try_schedules(&rt, rt.alloc(), store)
 }
