@@ -190,15 +190,15 @@ REFUSED = (3, b"", b"desk: store fault S2\n")
 def a_database_that_another_process_holds_is_refused(program, folder):
     files(folder)
     expect(ticked(program, folder, 174884399999).stdout, TICKED)
-    before = (folder / "desk.db").read_bytes()
     holder = sqlite3.connect(folder / "desk.db", isolation_level=None)
     holder.execute("BEGIN EXCLUSIVE")
     try:
         ran = ticked(program, folder, 174884400000)
+        last = holder.execute("SELECT last FROM desk").fetchall()
     finally:
         holder.close()
     expect((ran.returncode, ran.stdout, ran.stderr), REFUSED)
-    expect((folder / "desk.db").read_bytes(), before)
+    expect(last, [(174884399999,)])
     expect(ticked(program, folder, 174884400000).stdout, TICKED)
 
 

@@ -27,6 +27,8 @@ import compare
 import edges
 import tables
 
+# The header of a log and that of a frame.
+LEAST_LOG = 32 + 24
 HERE = pathlib.Path(__file__).resolve().parent
 SECONDS = 20
 
@@ -47,9 +49,9 @@ def wanted(case, name, default):
 
 
 def files_of(room):
-    """What each file of the folder holds, but for empty ones."""
+    """What each file of the folder holds, but for empty ones and logs of a database that hold no frame."""
     held = {path.name: path.read_bytes() for path in room.iterdir() if path.is_file()}
-    return {name: content for name, content in held.items() if content}
+    return {name: content for name, content in held.items() if len(content) >= (LEAST_LOG if name.endswith("-wal") else 1)}
 
 
 def rows_of(database, statement):

@@ -23,23 +23,27 @@ fn what_was_committed_is_found_again(rt: HostRuntime) -> Result<(), Fail> {
     }
 }
 
+/// Why no store was opened, if none was.
+fn fault_of<T: Drop, C: Drop>(opened: Result<T, (OpenFault, C)>) -> Option<OpenFault> {
+    match opened {
+        Ok(_store) => None,
+        Err((fault, _connection)) => Some(fault),
+    }
+}
+
 #[test]
 fn a_database_without_tables_is_not_opened(rt: HostRuntime) -> Result<(), Fail> {
     let connection = Connection::open_in_memory(rt.alloc())?;
-    match SqlStore::open(rt.alloc(), connection) {
-        Ok(_) => assert!(rt; false),
-        Err((fault, _connection)) => assert_eq!(rt; fault, OpenFault::UnknownTables),
-    }
+    let fault = fault_of(SqlStore::open(rt.alloc(), connection));
+    assert_eq!(rt; fault, Some(OpenFault::UnknownTables));
     Ok(())
 }
 
 #[test]
 fn tables_are_not_made_twice(rt: HostRuntime) -> Result<(), Fail> {
     let connection = sql_store(rt.alloc())?.into_connection();
-    match SqlStore::create(rt.alloc(), connection) {
-        Ok(_) => assert!(rt; false),
-        Err((fault, _connection)) => assert_eq!(rt; fault, OpenFault::UnknownTables),
-    }
+    let fault = fault_of(SqlStore::create(rt.alloc(), connection));
+    assert_eq!(rt; fault, Some(OpenFault::UnknownTables));
     Ok(())
 }
 
@@ -47,9 +51,7 @@ fn tables_are_not_made_twice(rt: HostRuntime) -> Result<(), Fail> {
 fn another_version_is_not_opened(rt: HostRuntime) -> Result<(), Fail> {
     let mut connection = sql_store(rt.alloc())?.into_connection();
     connection.execute("UPDATE desk SET version = 7", &[])?;
-    match SqlStore::open(rt.alloc(), connection) {
-        Ok(_) => assert!(rt; false),
-        Err((fault, _connection)) => assert_eq!(rt; fault, OpenFault::UnknownTables),
-    }
+    let fault = fault_of(SqlStore::open(rt.alloc(), connection));
+    assert_eq!(rt; fault, Some(OpenFault::UnknownTables));
     Ok(())
 }
