@@ -56,7 +56,7 @@ fn reply<S: Store + Drop>(
     }
 }
 
-fn wanted(rt: &impl Abort, alloc: Global) -> Result<Wanted, Fail> {
+fn told_in_memory(rt: &impl Abort, alloc: Global) -> Result<Wanted, Fail> {
     let mut store = MemStore::new(alloc);
     let mut replies = Vec::new(alloc);
     let mut held = Vec::new(alloc);
@@ -136,7 +136,7 @@ fn stop_each(
     from: u64,
     upto: u64,
 ) -> Result<bool, Fail> {
-    let wanted = wanted(rt, alloc)?;
+    let wanted = told_in_memory(rt, alloc)?;
     for calls in from..upto {
         match run_stopped(rt, alloc, fused, calls, &wanted)? {
             End::Unopened => {}
