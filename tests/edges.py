@@ -2,10 +2,13 @@
 
 Each test takes the path of the program and a folder of its own, and raises where it finds something else.
 """
+import contextlib
 import errno
 import json
 import os
 import pathlib
+import resource
+import signal
 import socket
 import sqlite3
 import subprocess
@@ -185,6 +188,8 @@ def ticked(program, folder, at, **more):
 
 TICKED, OLD = b'{"answer":"tick","writes":1}\n', b'{"answer":"old","writes":0}\n'
 REFUSED = (3, b"", b"desk: store fault S2\n")
+NO_MEMORY = (3, b"", b"desk: out of memory\n")
+MEMORY_STEP = 1 << 16
 
 
 def a_database_that_another_process_holds_is_refused(program, folder):
@@ -252,6 +257,69 @@ def a_tick_whose_reply_is_lost_stands(program, folder):
     expect(ticked(program, folder, 174884399999).stdout, OLD)
 
 
+def rows_of(database):
+    """The rows of each table, as the C library reads them."""
+    names = ("desk", "panel", "command", "place", "shown", "imported")
+    with contextlib.closing(sqlite3.connect(database)) as connection:
+        return [connection.execute(f"SELECT * FROM {name} ORDER BY 1, 2").fetchall() for name in names]
+
+
+def on_a_disk_of(most):
+    """Lets no file of this process grow past so many bytes: a write past them fails, as on a disk that is full."""
+    signal.signal(signal.SIGXFSZ, signal.SIG_IGN)
+    resource.setrlimit(resource.RLIMIT_FSIZE, (most, most))
+
+
+def a_full_disk_is_told_and_changes_nothing(program, folder):
+    files(folder)
+    expect(ticked(program, folder, 174884399999).stdout, TICKED)
+    before = rows_of(folder / "desk.db")
+    ran = ticked(program, folder, 174884400000, preexec_fn=lambda: on_a_disk_of(1000))
+    expect((ran.returncode, ran.stdout, ran.stderr), REFUSED)
+    expect(rows_of(folder / "desk.db"), before)
+    expect(ticked(program, folder, 174884400000).stdout, TICKED)
+
+
+def no_database_is_made_on_a_full_disk(program, folder):
+    files(folder)
+    ran = ticked(program, folder, 174884399999, preexec_fn=lambda: on_a_disk_of(1000))
+    expect((ran.returncode, ran.stdout, ran.stderr), REFUSED)
+    expect(ticked(program, folder, 174884399999).stdout, TICKED)
+
+
+def within(most):
+    """Gives this process no more than so many bytes of memory."""
+    resource.setrlimit(resource.RLIMIT_AS, (most, most))
+
+
+def enough_memory(program, folder):
+    """Bytes of memory within which a tick is done, with little to spare."""
+    enough, scarce, at = 1 << 30, 1 << 20, 174884400000
+    while enough - scarce > MEMORY_STEP:
+        middle, at = (enough + scarce) // 2, at + 1
+        if ticked(program, folder, at, preexec_fn=lambda: within(middle)).returncode == 0:
+            enough = middle
+        else:
+            scarce = middle
+    return enough
+
+
+def want_of_memory_is_told_and_changes_nothing(program, folder):
+    """With ever less memory than enough, a tick tells the want of it and leaves the tables as they were."""
+    files(folder)
+    expect(ticked(program, folder, 174884399999).stdout, TICKED)
+    most, told = enough_memory(program, folder), set()
+    before = rows_of(folder / "desk.db")
+    for steps in range(1, 40):
+        ran = ticked(program, folder, 174888000000, preexec_fn=lambda: within(most - steps * MEMORY_STEP))
+        if ran.returncode not in (0, 3):
+            break  # too little to begin at all
+        told.add((ran.returncode, ran.stdout, ran.stderr))
+        expect(rows_of(folder / "desk.db"), before)
+    expect(told, {NO_MEMORY})
+    expect(ticked(program, folder, 174888000000).stdout, OLD.replace(b"old", b"tick"))
+
+
 def words_at_fault_make_no_database(program, folder):
     files(folder)
     before = sorted(os.listdir(folder))
@@ -265,6 +333,9 @@ TESTS = [
     a_database_that_another_process_holds_is_refused,
     a_database_that_a_desk_holds_is_refused,
     a_tick_whose_reply_is_lost_stands,
+    a_full_disk_is_told_and_changes_nothing,
+    no_database_is_made_on_a_full_disk,
+    want_of_memory_is_told_and_changes_nothing,
     words_at_fault_make_no_database,
     a_full_device_is_told,
     a_full_device_is_told_before_a_bad_line,

@@ -1,6 +1,6 @@
 -- The tables of deliveries to a building have no names but the building's.
 use Rattle.std.proofs.Common.{◌≡◌, ℕ, ◌-◌, Bool, true, false, not, cond, List, [], ◌∷◌, ◌++◌, Option, Some, None, is_some, option_map, nat_lt, refl, sym, ap}
-use Rattle.std.proofs.Common.{◌∙◌, subst, inl, inr}
+use Rattle.std.proofs.Common.{ℤ, ◌∙◌, fold, int_lt, subst, inl, inr}
 use Rattle.std.specs.Bool.{IsTrue}
 use Rattle.std.specs.FinMap.{empty}
 use Rattle.std.specs.List.{flat_map, list_all, list_any}
@@ -26,7 +26,9 @@ use Rattle.window.specs.Window.{remembered}
 use Rattle.building.specs.Building.{Building}
 use Rattle.deliveries.specs.declared.delivery.Delivery.{Delivery}
 use Rattle.deliveries.specs.Accepted.{asks_of, panel_named, panel_of, taken_by}
-use Rattle.deliveries.specs.Events.{events_after, machine}
+use Rattle.deliveries.specs.declared.delivery.Delivery.TheVariants as delivery_of
+use Rattle.deliveries.specs.Events.{events_after, is_moment, later_of, machine, moment_of}
+use Rattle.deliveries.proofs.ClockLemmas.{tables-last_tick}
 use Rattle.deliveries.specs.Machine.{Event, Machine, local_of, opening_machine, places_after, places_under, rule_for, run, settled, step, with_rows}
 use Rattle.deliveries.specs.Machine.Event.{Command, Import, Tick}
 use Rattle.deliveries.specs.Tables.{row_at, row_of, tables}
@@ -34,7 +36,7 @@ use Rattle.deliveries.proofs.StepLemmas.{next-tables}
 use Rattle.deliveries.specs.Delivered.{Holds}
 use Rattle.local_times.specs.declared.local_clock.LocalTime.{LocalTime}
 use Rattle.schedule_tables.specs.ScheduleTable.{is_sound_schedule}
-use Rattle.desk.specs.Opening.{AreKnown, Opens, has_calendar, has_panel, has_point, has_schedule}
+use Rattle.desk.specs.Opening.{AreKnown, Opens, Suits, has_calendar, has_panel, has_point, has_schedule, is_ticked}
 use Rattle.panel_commands.proofs.DeliverLemmas.{none_of}
 use Rattle.desk.proofs.ClockNames.{imported-no_calendar, settled-no_point, settled-no_schedule}
 use Rattle.desk.proofs.OpeningLemmas.{is_some-find}
@@ -188,10 +190,39 @@ known-tables b sound E = record {
   calendars = λ q here. one_of (has_calendar b q) (λ missing. false≢true (sym (no_calendar b E q here.0 missing) ∙ here.1));
 }
 
+-- ---- the last tick
+
+later-ticked : (b : Building) (last : Option ℤ) (moment : Option ℤ) → IsTrue (is_ticked b last) → IsTrue (is_ticked b moment) → IsTrue (is_ticked b (later_of last moment))
+later-ticked b last None was now = was
+later-ticked b None (Some moment) was now = now
+later-ticked b (Some last) (Some moment) was now = elim (cases_Bool (int_lt last moment)) [
+  | inl less ↦ rw less now
+  | inr not ↦ rw not was
+]
+
+moment-ticked : (b : Building) (d : Delivery) → IsTrue (is_ticked b (moment_of b d))
+moment-ticked b (delivery_of.Command panel number content) = refl
+moment-ticked b (delivery_of.Skip panel upto) = refl
+moment-ticked b (delivery_of.Tick moment) = elim (cases_Bool (is_moment b moment)) [
+  | inl is ↦ rw is is
+  | inr not ↦ rw not refl
+]
+moment-ticked b (delivery_of.Import rows) = refl
+
+fold-ticked : (b : Building) (last : Option ℤ) (E : List Delivery) → IsTrue (is_ticked b last) → IsTrue (is_ticked b (fold (λ last delivery. later_of last (moment_of b delivery)) last E))
+fold-ticked b last [] was = was
+fold-ticked b last (d ∷ E) was = fold-ticked b (later_of last (moment_of b d)) E (later-ticked b last (moment_of b d) was (moment-ticked b d))
+
+pub suited-tables : (b : Building) → HasSoundSchedules b → (E : List Delivery) → Suits b (tables b E)
+suited-tables b sound E = record {
+  names = known-tables b sound E;
+  last = ap (is_ticked b) (tables-last_tick b E) ∙ fold-ticked b None E refl;
+}
+
 -- a store of such tables is not refused for what it holds
 pub Opens-own : (b : Building) → HasSoundSchedules b → (E : List Delivery) (fault : StoreFault) (old new : Standing) → Opens b (Some fault) old new → new.is_honest → Holds b E old
     → fault ≡ BadRow → ⊥
 Opens-own b sound E fault old new opens honest held is = elim (opens.bad_row honest (ap Some is)) [
-  | inl unknown ↦ unknown (subst (λ (c : a_holding). AreKnown b c.tables) (sym held) (known-tables b sound E))
+  | inl unknown ↦ unknown (subst (λ (c : a_holding). Suits b c.tables) (sym held) (suited-tables b sound E))
   | inr unsound ↦ false≢true (sym unsound ∙ ap (λ (c : a_holding). c.is_sound) held)
 ]

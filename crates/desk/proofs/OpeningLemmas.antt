@@ -1,6 +1,6 @@
 -- Opening a desk over a store.
 use Rattle.std.proofs.Common.{◌≡◌, ℕ, suc, ◌+◌, Bool, true, false, ◌&&◌, List, [], ◌∷◌, length, Option, Some, None, is_some, nat_lt, cond, Bor}
-use Rattle.std.proofs.Common.{arith, find, position, option_copied, refl, sym, ap, ◌∙◌, inl, inr}
+use Rattle.std.proofs.Common.{ℤ, arith, find, position, option_copied, refl, sym, ap, ◌∙◌, inl, inr}
 use Rattle.std.specs.Bool.{IsTrue}
 use Rattle.std.specs.List.{Contains, list_all, list_any, position_or_len}
 use Rattle.std.proofs.lemmas.Bool.{cases_Bool, false≢true}
@@ -11,11 +11,11 @@ use Rattle.store.specs.declared.fault.StoreFault.{StoreFault}
 use Rattle.store.specs.declared.fault.StoreFault.TheVariants.{Failed, Shut, BadRow}
 use Rattle.store.specs.declared.names.Names.{Names}
 use Rattle.store.specs.Listed.{AreNames, AreTexts, HasCalendar, HasPanel, HasPoint, HasSchedule}
-use Rattle.store.specs.Standing.{Reads, Standing}
+use Rattle.store.specs.Standing.{Content, Reads, Standing}
 use Rattle.store.specs.Tables.{Tables, Text}
 use Rattle.store.proofs.ReadLemmas.{Goes-told, Reads-then}
 use Rattle.building.specs.Building.{Building}
-use Rattle.desk.specs.Opening.{AreKnown, Opens, are_known, has_calendar, has_panel, has_point, has_schedule}
+use Rattle.desk.specs.Opening.{AreKnown, Opens, Suits, are_known, has_calendar, has_panel, has_point, has_schedule, is_ticked}
 
 pub is_some-find : {A : Type 0} (test : A → Bool) (xs : List A) → is_some (find test xs) ≡ list_any test xs
 is_some-find test [] = refl
@@ -106,32 +106,58 @@ Opens-failed b fault old new reads = record {
   bad_row = λ honest told. inr (reads.bad_row honest told);
 }
 
--- a name that the building lacks
-pub Opens-unknown : (b : Building) (old new : Standing) (names : Names) → Reads None old new → (new.is_honest → AreNames old.content.tables names)
-    → are_known b names ≡ false → Opens b (Some BadRow) old new
-Opens-unknown b old new names reads are unknown = record {
+not_shut : Some BadRow ≡ Some Shut → ⊥
+not_shut e = cc
+
+not_failed : Some BadRow ≡ Some Failed → ⊥
+not_failed e = cc
+
+-- tables that do not suit the building
+Opens-unsuited : (b : Building) (old new : Standing) → Reads None old new → (new.is_honest → Suits b old.content.tables → ⊥) → Opens b (Some BadRow) old new
+Opens-unsuited b old new reads unsuited = record {
   goes = Goes-told BadRow old new reads.goes not_shut not_failed;
   kept = λ honest told. reads.kept honest (λ e. cc);
   left = reads.left;
   known = λ honest none. absurd (some_none BadRow none);
-  bad_row = λ honest told. inl (λ known. false≢true (sym unknown ∙ names-known b old.content.tables names (are honest) known));
+  bad_row = λ honest told. inl (unsuited honest);
 }
-  where
-    not_shut : Some BadRow ≡ Some Shut → ⊥
-    not_shut e = cc
 
-    not_failed : Some BadRow ≡ Some Failed → ⊥
-    not_failed e = cc
+-- a name that the building lacks
+pub Opens-unknown : (b : Building) (old new : Standing) (names : Names) → Reads None old new → (new.is_honest → AreNames old.content.tables names)
+    → are_known b names ≡ false → Opens b (Some BadRow) old new
+Opens-unknown b old new names reads are unknown =
+    Opens-unsuited b old new reads (λ honest suits. false≢true (sym unknown ∙ names-known b old.content.tables names (are honest) suits.names))
 
--- names that the building has, and what is read behind them
-pub Opens-read : (b : Building) (fault : Option StoreFault) (first second third : Standing) (names : Names) → Reads None first second
-    → (second.is_honest → AreNames first.content.tables names) → are_known b names ≡ true → Reads fault second third → Opens b fault first third
-Opens-read b fault first second third names before are known after =
-    let whole = Reads-then fault first second third before after in
-    record {
-      goes = whole.goes;
-      kept = whole.kept;
-      left = whole.left;
-      known = λ honest none. known-names b first.content.tables names (are (after.goes.honest honest)) known;
-      bad_row = λ honest told. inr (whole.bad_row honest told);
-    }
+-- The names are the building's, and the last tick was read.
+module _ (b : Building) (first second third : Standing) (last : Option ℤ) (before : Reads None first second) (reads : Reads None second third)
+    (value : third.is_honest → last ≡ second.content.tables.last_tick) where
+  last-first : third.is_honest → last ≡ first.content.tables.last_tick
+  last-first honest = value honest ∙ ap (λ (c : Content). c.tables.last_tick) (before.kept (reads.goes.honest honest) (λ e. cc))
+
+  -- it was at no moment
+  pub Opens-unticked : is_ticked b last ≡ false → Opens b (Some BadRow) first third
+  Opens-unticked unticked =
+      Opens-unsuited b first third (Reads-then None first second third before reads)
+      (λ honest suits. false≢true (sym unticked ∙ (ap (is_ticked b) (last-first honest) ∙ suits.last)))
+
+  -- what is read behind it
+  pub Opens-read : (fault : Option StoreFault) (fourth : Standing) (names : Names) → (second.is_honest → AreNames first.content.tables names) → are_known b names ≡ true
+      → is_ticked b last ≡ true → Reads fault third fourth → Opens b fault first fourth
+  Opens-read fault fourth names are known ticked after =
+      let whole = Reads-then fault first third fourth (Reads-then None first second third before reads) after in
+      record {
+        goes = whole.goes;
+        kept = whole.kept;
+        left = whole.left;
+        known = λ honest none.
+            let honest_third = after.goes.honest honest in
+            record {
+              names = known-names b first.content.tables names (are (reads.goes.honest honest_third)) known;
+              last = sym (ap (is_ticked b) (last-first honest_third)) ∙ ticked;
+            };
+        bad_row = λ honest told. inr (whole.bad_row honest told);
+      }
+
+-- the last tick is not read
+pub Opens-unread : (b : Building) (fault : StoreFault) (first second third : Standing) → Reads None first second → Reads (Some fault) second third → Opens b (Some fault) first third
+Opens-unread b fault first second third before after = Opens-failed b fault first third (Reads-then (Some fault) first second third before after)

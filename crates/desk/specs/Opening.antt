@@ -1,5 +1,5 @@
 -- What opening a desk over a store looks at, and tells.
-use Rattle.std.specs.Prelude.{◌≡◌, ◌⊎◌, Bool, false, ◌&&◌, Option, Some, None}
+use Rattle.std.specs.Prelude.{◌≡◌, ◌⊎◌, ℤ, Bool, true, false, ◌&&◌, Option, Some, None}
 use Rattle.std.specs.Bool.{IsTrue}
 use Rattle.std.specs.List.{list_all, list_any}
 use Rattle.std.specs.Str.{bytes_eq}
@@ -10,6 +10,7 @@ use Rattle.store.specs.Listed.{HasCalendar, HasPanel, HasPoint, HasSchedule}
 use Rattle.store.specs.Standing.{Content, Goes, Standing}
 use Rattle.store.specs.Tables.{Tables, Text}
 use Rattle.building.specs.Building.{Building}
+use Rattle.deliveries.specs.Events.{is_moment}
 
 abbrev pub has_panel : Building → Text → Bool
 has_panel building name = list_any (λ panel. bytes_eq panel.name name) building.panels
@@ -36,11 +37,21 @@ are_known building names =
     list_all (has_panel building) names.panels.items && (list_all (has_point building) names.points.items
     && (list_all (has_schedule building) names.schedules.items && list_all (has_calendar building) names.calendars.items))
 
--- A desk is opened over a store, or a fault is told. Nothing changes. Where it is opened each name in the tables is
--- one of the building's; S5 is told where one is not, or where a row is kept that cannot stand.
+-- there was no tick, or the last one was at a moment at which the building's clock shows a time
+abbrev pub is_ticked : Building → Option ℤ → Bool
+is_ticked building None = true
+is_ticked building (Some moment) = is_moment building moment
+
+-- the names are the building's, and so is the moment of the last tick
+pub record Suits (building : Building) (tables : Tables) : Type 0 where
+  pub names : AreKnown building tables
+  pub last : IsTrue (is_ticked building tables.last_tick)
+
+-- A desk is opened over a store, or a fault is told. Nothing changes. Where it is opened the tables suit the building; S5
+-- is told where they don't, or where a row is kept that cannot stand.
 pub record Opens (building : Building) (fault : Option StoreFault) (old new : Standing) : Type 0 where
   pub goes : Goes fault old new
   pub kept : new.is_honest → (fault ≡ Some Failed → ⊥) → new.content ≡ old.content
   pub left : new.is_honest → old.is_shut ≡ false → (content : Content) → new.may_leave content → content ≡ old.content
-  pub known : new.is_honest → fault ≡ None → AreKnown building old.content.tables
-  pub bad_row : new.is_honest → fault ≡ Some BadRow → (AreKnown building old.content.tables → ⊥) ⊎ (old.content.is_sound ≡ false)
+  pub known : new.is_honest → fault ≡ None → Suits building old.content.tables
+  pub bad_row : new.is_honest → fault ≡ Some BadRow → (Suits building old.content.tables → ⊥) ⊎ (old.content.is_sound ≡ false)

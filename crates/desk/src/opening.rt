@@ -3,9 +3,10 @@ ghost use Rattle.std.specs.Prelude.{◌≡◌};
 ghost use Rattle.std.specs.List.{list_all};
 ghost use Rattle.std.specs.Result.{result_err};
 ghost use Rattle.store.specs.Standing.{IsOpen, Reads};
-ghost use Rattle.desk.specs.Opening.{Opens, are_known, has_calendar, has_panel, has_point, has_schedule};
+ghost use Rattle.desk.specs.Opening.{Opens, are_known, has_calendar, has_panel, has_point, has_schedule, is_ticked};
 
 use building::{Building, NamedCalendar};
+use local_times::local_time;
 use points::Name;
 use store::{Names, Store, StoreFault};
 
@@ -89,7 +90,17 @@ fn read_nexts<S: Store>(store: &mut S, panels: &[Name]) -> Result<(), StoreFault
     Ok(())
 }
 
-// Reads what a desk rests on beside the names.
+// Whether the building's clock shows a time at the moment of the last tick, if there was one.
+fn is_ticked(building: &Building, last: Option<i64>) -> bool
+    ensures { result ≡ is_ticked building.now last }
+{
+    match last {
+        None => true,
+        Some(moment) => local_time(building.zone(), moment).is_some(),
+    }
+}
+
+// Reads what a desk rests on beside the names and the last tick.
 fn read_rows<S: Store>(
     store: &mut S,
     building: &Building,
@@ -99,18 +110,21 @@ fn read_rows<S: Store>(
     ensures { Reads (result_err result) (S.standing store.old) (S.standing store.new) }
 {
     read_entries(store, building.calendars())?;
-    let _last = store.last_tick()?;
     read_nexts(store, panels)
 }
 
 /// Looks over a store before a desk of a building is opened on it: that each name in its tables is one of the
-/// building's, and that the rows of entries, of the last tick and of next numbers can stand. Else S5, or as
-/// the store answers. The store is only read.
+/// building's, that the last tick was at a moment, and that the rows of entries and of next numbers can stand. Else
+/// S5, or as the store answers. The store is only read.
 pub fn look_over<S: Store>(store: &mut S, building: &Building) -> Result<(), StoreFault>
     ensures { Opens building.now (result_err result) (S.standing store.old) (S.standing store.new) }
 {
     let names = store.names()?;
     if !are_known(building, &names) {
+        return Err(StoreFault::BadRow);
+    }
+    let last = store.last_tick()?;
+    if !is_ticked(building, last) {
         return Err(StoreFault::BadRow);
     }
     read_rows(store, building, names.panels.as_slice())

@@ -1,10 +1,13 @@
 //! The desk.
-ghost use Rattle.std.specs.Prelude.{◌≡◌, List, None, Some, IfErr, IfOk};
+ghost use Rattle.std.specs.Prelude.{◌≡◌, List, None, Some, IfErr, IfOk, string_bytes};
 ghost use Rattle.std.specs.Result.{result_err};
+ghost use Rattle.day_reports.specs.DayReport.{report_text};
 ghost use Rattle.points.specs.Rights.{point_named};
+ghost use Rattle.settling.specs.Calendars.{Tells};
 ghost use Rattle.store.specs.declared.fault.StoreFault.TheVariants.{BadRow};
 ghost use Rattle.store.specs.Memory.{no_tables};
 ghost use Rattle.store.specs.Standing.{Goes, Reads, sound};
+ghost use Rattle.store.specs.Tables.{Text};
 ghost use Rattle.deliveries.specs.declared.delivery.Delivery.{Delivery as a_delivery};
 ghost use Rattle.deliveries.specs.Delivered.{Delivers, Holds};
 ghost use Rattle.desk.specs.Headline.{Runs, Stands};
@@ -15,6 +18,8 @@ use crate::opening::look_over;
 use crate::point_state::PointState;
 use building::Building;
 use clock::{deliver_import, deliver_tick};
+use dates::Day;
+use day_reports::day_report;
 use deliveries::{Delivery, Reply};
 use panel_commands::{deliver_command, deliver_skip};
 use points::Name;
@@ -161,5 +166,17 @@ impl<S: Store + Drop> Desk<S> {
             present,
             priority,
         }))
+    }
+
+    /// The report of a day over the tables as they are: when each schedule has which value, and how each point is.
+    pub fn report(&mut self, day: Day) -> Result<String, StoreFault>
+        ensures reads { Reads (result_err result) (S.standing self.old.store) (S.standing self.new.store) }
+        ensures text { (S.standing self.new.store).is_honest → (imported : Text → List Text)
+            → Tells (S.standing self.old.store).content.tables.imported imported
+            → IfOk result (λ text. string_bytes text
+            ≡ report_text self.old.building imported (S.standing self.old.store).content.tables.places day) }
+        ensures building { self.new.building ≡ self.old.building }
+    {
+        day_report(self.alloc, &mut self.store, &self.building, day)
     }
 }

@@ -1,2 +1,1 @@
-pub mod PointLine
 pub mod Replay

@@ -19,7 +19,7 @@ use Rattle.delivery_lines.specs.declared.told.Told.{Told}
 use Rattle.delivery_lines.specs.declared.told.Told.TheVariants as of
 use Rattle.delivery_lines.specs.DeliveryLine.{told_of}
 use Rattle.desk_console.specs.Printed.{AppendsStart}
-use Rattle.desk_cli.specs.PointLine.{point_line}
+use Rattle.point_lines.specs.PointLine.{point_line}
 use Rattle.delivery_lines.specs.ReplyText.{refusal_line, reply_line}
 use Rattle.texts.specs.Steps.{◌>>=◌}
 

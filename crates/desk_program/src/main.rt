@@ -5,13 +5,11 @@ use command_line::{ArgFault, Line};
 use desk_check::check;
 use desk_cli::replay;
 use desk_console::{Input, Listed, Status};
-use one_delivery::{import, tick};
-use sqlite::{Connection, Error, ErrorCode, FileStore};
+use desk_database::{run_import, run_tick};
 use std::env;
 use std::fs::{self, File};
 use std::io::{self, BufReader, BufWriter, Write};
 use std::process::ExitCode;
-use store_sql::{OpenFault, SqlStore};
 
 /// Opens the null device, for reading, on each standard descriptor that is closed, so that no other file
 /// gets its number. A write to such a descriptor fails, as it should.
@@ -37,21 +35,6 @@ fn open_list(rt: &HostRuntime, path: &str) -> io::Result<BufReader<File>> {
     BufReader::new(rt.alloc(), fs::open(rt, path)?)
 }
 
-/// The store in the database of a path, whose tables are made where nothing is in it.
-fn open_store(
-    rt: &HostRuntime,
-    path: &str,
-) -> Result<SqlStore<FileStore<sqlite::File>>, OpenFault> {
-    match Connection::open(rt, path) {
-        Ok(connection) => match SqlStore::create_or_open(rt.alloc(), connection) {
-            Ok(store) => Ok(store),
-            Err((fault, _connection)) => Err(fault),
-        },
-        Err(Error::SqliteFailure(ErrorCode::OutOfMemory)) => Err(OpenFault::NoMemory),
-        Err(_) => Err(OpenFault::Failed),
-    }
-}
-
 fn run_check(rt: &HostRuntime, file: &str) -> io::Result<Status> {
     let alloc = rt.alloc();
     let mut out = BufWriter::new(alloc, io::writer(rt))?;
@@ -74,32 +57,6 @@ fn run_replay(rt: &HostRuntime, file: &str, deliveries: &str) -> io::Result<Stat
         open: || open_list(rt, deliveries),
     };
     Ok(replay(alloc, building, list, &mut out, &mut rt.stderr()))
-}
-
-fn run_import(rt: &HostRuntime, file: &str, database: &str, holidays: &str) -> io::Result<Status> {
-    let alloc = rt.alloc();
-    let mut out = BufWriter::new(alloc, io::writer(rt))?;
-    let building = Input {
-        path: file,
-        reader: fs::open(rt, file),
-    };
-    let list = Input {
-        path: holidays,
-        reader: fs::open(rt, holidays),
-    };
-    let opener = || open_store(rt, database);
-    Ok(import(alloc, building, list, opener, &mut out, &mut rt.stderr()).status)
-}
-
-fn run_tick(rt: &HostRuntime, file: &str, database: &str, at: i64) -> io::Result<Status> {
-    let alloc = rt.alloc();
-    let mut out = BufWriter::new(alloc, io::writer(rt))?;
-    let building = Input {
-        path: file,
-        reader: fs::open(rt, file),
-    };
-    let opener = || open_store(rt, database);
-    Ok(tick(alloc, building, opener, at, &mut out, &mut rt.stderr()).status)
 }
 
 /// The status of words that ask nothing, once their text is told.

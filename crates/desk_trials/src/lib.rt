@@ -3,4 +3,6 @@
 #![tactic(auto)]
 
 #[cfg(test)]
+mod reports;
+#[cfg(test)]
 mod tests;

@@ -46,7 +46,7 @@ speaks-same : (day : Date) (time : ℕ) (cs ds : List Calendar) → hold_on day 
 speaks-same day time cs ds same = fun_ext (λ (x : Exception).
     ap (λ b. b && is_some (list_value x.times time)) (in_period-same day cs ds same x.period))
 
-schedule_value-same : (day : Date) (time : ℕ) (cs ds : List Calendar) (s : Schedule) → hold_on day cs ≡ hold_on day ds
+pub schedule_value-same : (day : Date) (time : ℕ) (cs ds : List Calendar) (s : Schedule) → hold_on day cs ≡ hold_on day ds
     → schedule_value s cs day time ≡ schedule_value s ds day time
 unfolding schedule_value exception_now
 schedule_value-same day time cs ds s same =

@@ -6,6 +6,7 @@
 #![tactic(auto)]
 
 pub use settlement::{Settlement, settle};
+pub use today::calendars_today;
 
-mod calendars_today;
 mod settlement;
+mod today;

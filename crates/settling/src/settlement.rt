@@ -11,7 +11,7 @@ ghost use Rattle.store.specs.Standing.{IsOpen, Reads};
 ghost use Rattle.store.specs.Tables.{Text};
 ghost use Rattle.toml_fields.specs.Priority.{is_write_priority};
 
-use crate::calendars_today::calendars_today;
+use crate::today::calendars_today;
 use building::Building;
 use local_times::LocalTime;
 use sched::Calendar;

@@ -1,6 +1,8 @@
 //! Why no store is opened over a connection.
-ghost use Rattle.std.specs.Prelude.{◌≡◌};
+ghost use Rattle.std.specs.Prelude.{◌≡◌, ◌⊎◌, IsTrue};
+ghost use Rattle.sql_opening.specs.Opening.{is_sql};
 ghost use Rattle.store_sql.specs.Opening.{told_of};
+ghost use Rattle.store_sql.specs.declared.open_fault.OpenFault.TheVariants.{Failed, NoMemory};
 
 use sqlite::{Error, ErrorCode};
 use std::{error, fmt};
@@ -22,7 +24,8 @@ pub enum OpenFault {
 impl OpenFault {
     /// How a refusal of the tables is told.
     pub fn of(refusal: sql_opening::OpenFault) -> OpenFault
-        ensures { result ≡ told_of refusal }
+        ensures told { result ≡ told_of refusal }
+        ensures sql { IsTrue (is_sql refusal) → (result ≡ NoMemory) ⊎ (result ≡ Failed) }
     {
         match refusal {
             sql_opening::OpenFault::Sql(Error::SqliteFailure(ErrorCode::OutOfMemory)) => {

@@ -2,6 +2,9 @@
 ghost use Rattle.std.specs.Prelude.{◌≡◌, IsTrue, false};
 ghost use Rattle.sqlite.specs.Held.{state};
 ghost use Rattle.sqlite.specs.State.{HasCleanDisk, IsUnchanged, Survives};
+ghost use Rattle.sqlite.specs.declared.error.Error.TheVariants.{SqliteFailure};
+ghost use Rattle.sqlite.specs.declared.error.ErrorCode.TheVariants.{OutOfMemory};
+ghost use Rattle.store.specs.declared.fault.StoreFault.TheVariants.{NoMemory};
 ghost use Rattle.store_sql.specs.Judging.{IsRefusal, IsTold};
 
 use sqlite::{Alter, Connection, Error, ErrorCode};
@@ -31,6 +34,7 @@ impl<S: Alter + Drop> Session<S> {
     pub fn refuse(&mut self, error: Error) -> StoreFault
         ensures mode { self.old.connection.in_transaction ≡ false → self.new.connection.in_transaction ≡ false }
         ensures told { IsRefusal S.Store self.old self.new result }
+        ensures cause { result ≡ NoMemory → error ≡ SqliteFailure OutOfMemory }
         ensures survives { Survives (state S.Store self.old.connection) (state S.Store self.new.connection) (λ _. ⊥) }
     {
         let wants_memory = matches!(error, Error::SqliteFailure(ErrorCode::OutOfMemory));

@@ -3,10 +3,10 @@ ghost use Rattle.std.specs.Prelude.{◌≡◌, ◌↔◌, IfErr, IfOk, IsTrue, f
 ghost use Rattle.sqlite.specs.Held.{state};
 ghost use Rattle.sqlite.specs.State.{HasCleanDisk};
 ghost use Rattle.sql_create.specs.Creating.{IsAsBefore};
-ghost use Rattle.sql_opening.specs.Opening.{IsBare};
+ghost use Rattle.sql_opening.specs.Opening.{IsBare, IsKnown};
 ghost use Rattle.store.specs.Memory.{no_tables};
 ghost use Rattle.store.specs.Standing.{sound};
-ghost use Rattle.store_sql.specs.Opening.{IsOpened};
+ghost use Rattle.store_sql.specs.Opening.{IsFaultOver, IsOpened, SurvivesMaking, SurvivesTaking, left_by};
 ghost use Rattle.store_sql.specs.Standing.{IsFit, standing_of};
 ghost use Rattle.store_sql.specs.declared.open_fault.OpenFault.TheVariants.{UnknownTables};
 
@@ -71,6 +71,7 @@ impl<S: Alter + Drop> SqlStore<S> {
         ensures open { IfOk result (λ store. ((standing_of S.Store store).is_shut ≡ false) × ((standing_of S.Store store).failures ≡ 0)) }
         ensures unknown { IfErr result (λ refused. (refused.0 ≡ UnknownTables) ↔ (IsBare (state S.Store connection) → ⊥)) }
         ensures unchanged { IfErr result (λ refused. HasCleanDisk (state S.Store refused.1) → IsTrue (state S.Store refused.1).is_open → IsAsBefore (state S.Store connection) (state S.Store refused.1)) }
+        ensures survives { SurvivesMaking (state S.Store connection) (state S.Store (left_by result)) }
     {
         let mut connection = connection;
         match make(&mut connection) {
@@ -90,6 +91,8 @@ impl<S: Alter + Drop> SqlStore<S> {
         ensures opened { IfOk result (λ store. (standing_of S.Store store).is_honest → IsOpened (state S.Store connection) (state S.Store store.connection)) }
         ensures open { IfOk result (λ store. ((standing_of S.Store store).is_shut ≡ false) × ((standing_of S.Store store).failures ≡ 0)) }
         ensures unchanged { IfErr result (λ refused. HasCleanDisk (state S.Store refused.1) → IsTrue (state S.Store refused.1).is_open → IsAsBefore (state S.Store connection) (state S.Store refused.1)) }
+        ensures known { IsKnown (state S.Store connection) → IfErr result (λ refused. HasCleanDisk (state S.Store refused.1) → IsFaultOver (state S.Store connection) refused.0) }
+        ensures survives { SurvivesTaking (state S.Store connection) (state S.Store (left_by result)) }
     {
         let mut connection = connection;
         match take(alloc, &mut connection) {
@@ -107,6 +110,8 @@ impl<S: Alter + Drop> SqlStore<S> {
         ensures opened { (IsBare (state S.Store connection) → ⊥) → IfOk result (λ store. (standing_of S.Store store).is_honest → IsOpened (state S.Store connection) (state S.Store store.connection)) }
         ensures open { IfOk result (λ store. ((standing_of S.Store store).is_shut ≡ false) × ((standing_of S.Store store).failures ≡ 0)) }
         ensures unchanged { IfErr result (λ refused. HasCleanDisk (state S.Store refused.1) → IsTrue (state S.Store refused.1).is_open → IsAsBefore (state S.Store connection) (state S.Store refused.1)) }
+        ensures survives_making { IsBare (state S.Store connection) → SurvivesMaking (state S.Store connection) (state S.Store (left_by result)) }
+        ensures survives_taking { (IsBare (state S.Store connection) → ⊥) → SurvivesTaking (state S.Store connection) (state S.Store (left_by result)) }
     {
         if is_bare(&connection) {
             SqlStore::create(alloc, connection)

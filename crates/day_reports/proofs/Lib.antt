@@ -1,0 +1,4 @@
+pub mod AskedLemmas
+pub mod ReportLemmas
+pub mod SegmentLemmas
+pub mod WeekdayLemmas

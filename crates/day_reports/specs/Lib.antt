@@ -1,0 +1,3 @@
+pub mod AskedDay
+pub mod DayReport
+pub mod ReportLines
