@@ -1,47 +1,207 @@
--- A priority array that is read one priority after the other.
-use Rattle.std.proofs.Common.{◌≡◌, ◌<◌, ◌≤◌, ◌+◌, ◌==◌, ◌⊎◌, inl, inr, ℕ, ℤ, nat_cmp, nat_lt, cond, Some, None, refl, sym, ◌∙◌, arith}
+-- A priority array that is made of the rows of a point, one after the other.
+use Rattle.std.proofs.Common.{◌≡◌, ◌<◌, ◌≤◌, ◌+◌, ◌==◌, ◌++◌, ◌&&◌, ◌||◌, inl, inr, ℕ, ℤ, pos, negsuc, Bool, true, false, not, is_some, nat_le, nat_lt, cond, List, [], ◌∷◌, filter, map, take, drop, get_or, length, take-append-drop, Contains, Option, Some, None, refl, sym, ap, ◌∙◌, subst, arith, IsTrue, true≢false}
 use Rattle.std.specs.FinMap.{empty, get, get-empty, nat_cmp-IsAntisymmetric, same_map}
 use Rattle.std.specs.Cmp.{nat_cmp_total}
-use Rattle.std.proofs.lemmas.Bool.{cases_Bool, eq-eqb, ltb-false, ltb-true, ne_eqb}
-use Rattle.points.specs.PriorityArray.{HasSixteenPlaces, Places, put}
+use Rattle.std.specs.List.Sorted.{IsPermutation}
+use Rattle.std.specs.Ordering.{nat_cmp}
+use Rattle.std.proofs.lemmas.Bool.{cases_Bool, eq-eqb, eqb-true, ltb-false, ltb-true}
+use Rattle.std.proofs.lemmas.List.{take_more}
+use Rattle.std.proofs.lemmas.List.Elements.{filter-append}
+use Rattle.std.proofs.lemmas.List.Sorted.{IsPermutation-map}
+use Rattle.points.specs.Name.{IsName}
+use Rattle.points.specs.PriorityArray.{Places}
+use Rattle.sqlite_rules.specs.Lists.{Has}
+use Rattle.sqlite_rules.proofs.ListLemmas.{all_from, all_has, contains_had, has_at, has_filtered}
+use Rattle.sqlite_rules.proofs.ProbeLemmas.{has_mapped}
+use Rattle.sqlite_trees.proofs.ListLemmas.{IsPermutation-filter, all-permutation, filter-map, map-map}
+use Rattle.sqlite_value.specs.declared.value.Value.{Value}
+use Rattle.sqlite_value.specs.declared.value.Value.TheVariants.{Blob, Int, Null, Real, Text}
+use Rattle.sqlite_value.specs.Order.{Row, column}
+use Rattle.sql_rows.specs.Looking.{Finds}
+use Rattle.sql_reading.specs.Asking.{AreSeveral}
+use Rattle.sql_reading.specs.Placing.{AreTold, IsPlaced, cannot_place, is_taken_in, rows_at}
+use Rattle.sql_reading.proofs.ToldLemmas.{count_given, name_here, place_none, place_one, place_several}
+use Rattle.stored_rows.specs.Cells.{count_in, is_count, is_text, number_in}
+use Rattle.stored_rows.specs.Rows.{of_place}
+use Rattle.stored_rows.specs.Stored.{Kept, is_sound_in, tables_in}
+use Rattle.stored_rows.proofs.StoredLemmas.{bad_place, outside_places}
 use Rattle.stored_rows.proofs.TableLemmas.{get-put_at}
-use Rattle.sql_reading.specs.Asking.{AreBelow}
+
+-- ---- one row more
 
 nothing : (q : ℕ) → get (empty {K = ℕ} {X = ℤ} {R = nat_cmp}) q ≡ None
 nothing q = get-empty nat_cmp q
 
-split : (q n : ℕ) → (q < n) ⊎ (n ≤ q)
-split q n = elim (cases_Bool (nat_lt q n)) [ inl less ↦ inl (ltb-true q n less) | inr more ↦ inr (ltb-false q n more) ]
+none≢some : {X : Type 0} (x : X) → None ≡ Some x → ⊥
+none≢some x same = true≢false (ap is_some (sym same))
 
-split_at : (q n : ℕ) → q < n + 1 → (q < n) ⊎ (q ≡ n)
-split_at q n less = elim (split q n) [ inl below ↦ inl below | inr above ↦ inr (omega (arith, less, above)) ]
-
-below_zero : (q : ℕ) → q < 1 → q ≡ 0
-below_zero q less = omega (arith, less)
-
-pub below_first : (places array : Places) → HasSixteenPlaces places → array ≡ empty → AreBelow 1 places array
-below_first places array sixteen is = rw is (record {
-  same = λ q less. rw (below_zero q less) (nothing 0 ∙ sym sixteen.above);
-  none = λ q more. nothing q;
+pub told_none : (array : Places) → array ≡ empty → AreTold [] array
+told_none array is = rw is (record {
+  none = λ q none. refl;
+  some = λ q x has. absurd (none≢some x (sym (nothing q) ∙ has));
+  within = λ q x has. absurd (none≢some x (sym (nothing q) ∙ has));
 })
 
-pub below_some : (priority : ℕ) (value : ℤ) (places array now : Places) → get places priority ≡ Some value → now ≡ put array priority (Some value) → AreBelow priority places array → AreBelow (priority + 1) places now
-below_some priority value places array now has is below = rw is (record {
-  same = λ q less. get-put_at array priority (Some value) q ∙ here q less;
-  none = λ q more. get-put_at array priority (Some value) q ∙ rw (ne_eqb q priority (λ e. omega (arith, more, e))) (below.none q (omega (arith, more)));
-})
+kept_count : (b : Bool) (n priority : ℕ) → cond b (Some n) None ≡ Some priority → n ≡ priority
+kept_count true n priority is = let whole : Some n ≡ Some priority = is in cc
+kept_count false n priority is = absurd (none≢some priority is)
+
+-- the cell has the number that is read of it, and no other
+count_read : (priority : ℕ) (cell : Value) → count_in 1 16 cell ≡ Some priority → (q : ℕ) → is_count q cell ≡ (q == priority)
+count_read priority (Int (pos n)) is q = ap (λ m. q == m) (kept_count (nat_le 1 n && nat_le n 16) n priority is)
+count_read priority (Int (negsuc n)) is q = absurd (none≢some priority is)
+count_read priority (Text t) is q = absurd (none≢some priority is)
+count_read priority Null is q = absurd (none≢some priority is)
+count_read priority (Real x) is q = absurd (none≢some priority is)
+count_read priority (Blob b) is q = absurd (none≢some priority is)
+
+-- the rows of a priority, with one row more
+one_more : (rows : List Row) (i : ℕ) (row : Row) → i < length rows → row ≡ get_or rows i row → (q : ℕ) → rows_at q (take (i + 1) rows) ≡ rows_at q (take i rows) ++ cond (is_count q (column row 0)) (row ∷ []) []
+one_more rows i row below is q =
+    ap (rows_at q) (take_more rows i row below ∙ ap (λ r. take i rows ++ r ∷ []) (sym is)) ∙ filter-append (λ r. is_count q (column r 0)) (take i rows) (row ∷ [])
+
+module _ (rows : List Row) (i : ℕ) (row : Row) (old new : Places) (below : i < length rows) (here : row ≡ get_or rows i row) (told : AreTold (take i rows) old) (placed : IsPlaced row old new) where
+  value_now : (q : ℕ) (b : Bool) → (q == placed.priority) ≡ b → get new q ≡ cond b (Some placed.value) (get old q)
+  value_now q b is = ap (λ m. get m q) placed.is ∙ get-put_at old placed.priority (Some placed.value) q ∙ ap (λ t. cond t (Some placed.value) (get old q)) is
+
+  rows_now : (q : ℕ) (b : Bool) → (q == placed.priority) ≡ b → rows_at q (take (i + 1) rows) ≡ rows_at q (take i rows) ++ cond b (row ∷ []) []
+  rows_now q b is = one_more rows i row below here q ∙ ap (λ t. rows_at q (take i rows) ++ cond t (row ∷ []) []) (count_read placed.priority (column row 0) placed.at q ∙ is)
+
+  none_before : (q : ℕ) → (q == placed.priority) ≡ true → rows_at q (take i rows) ≡ []
+  none_before q is = told.none q (ap (get old) (eqb-true q placed.priority is) ∙ placed.was)
+
+  none_now : (q : ℕ) → get new q ≡ None → rows_at q (take (i + 1) rows) ≡ []
+  none_now q none = elim (cases_Bool (q == placed.priority)) [
+    | inl holds ↦ absurd (none≢some placed.value (sym none ∙ value_now q true holds))
+    | inr fails ↦ rows_now q false fails ∙ ap (λ l. l ++ []) (told.none q (sym (value_now q false fails) ∙ none))
+  ]
+
+  some_now : (q : ℕ) (x : ℤ) → get new q ≡ Some x → (r : Row) × (rows_at q (take (i + 1) rows) ≡ r ∷ []) × (number_in (column r 1) ≡ Some x)
+  some_now q x has = elim (cases_Bool (q == placed.priority)) [
+    | inl holds ↦ (row, rows_now q true holds ∙ ap (λ l. l ++ row ∷ []) (none_before q holds), placed.tells ∙ sym (value_now q true holds) ∙ has)
+    | inr fails ↦ let it = told.some q x (sym (value_now q false fails) ∙ has) in (it.0, rows_now q false fails ∙ ap (λ l. l ++ []) it.1, it.2)
+  ]
+
+  within_now : (q : ℕ) (x : ℤ) → get new q ≡ Some x → (1 ≤ q) × (q ≤ 16)
+  within_now q x has = elim (cases_Bool (q == placed.priority)) [
+    | inl holds ↦ let same = eqb-true q placed.priority holds in (omega (arith, same, placed.least), omega (arith, same, placed.greatest))
+    | inr fails ↦ told.within q x (sym (value_now q false fails) ∙ has)
+  ]
+
+  pub told_more : AreTold (take (i + 1) rows) new
+  told_more = record { none = none_now; some = some_now; within = within_now }
+
+-- ---- what the rows of a point tell
+
+both_filters : {X : Type 0} (p q : X → Bool) (xs : List X) → filter p (filter q xs) ≡ filter (λ x. q x && p x) xs
+both_filters p q [] = refl
+both_filters p q (x ∷ xs) =
+    elim (q x) as (λ b. filter p (cond b (x ∷ filter q xs) (filter q xs)) ≡ cond (b && p x) (x ∷ filter (λ y. q y && p y) xs) (filter (λ y. q y && p y) xs))
+    [ true ↦ ap (λ l. cond (p x) (x ∷ l) l) (both_filters p q xs) | false ↦ both_filters p q xs ]
+
+abbrev both : Row → Row
+both row = column row 2 ∷ column row 3 ∷ []
+
+abbrev second : Row → Row
+second row = column row 1 ∷ []
+
+taken_of : (places : Places) (q : ℕ) → is_some (get places q) ≡ true → (x : ℤ) × (get places q ≡ Some x)
+taken_of places q taken = of (get places q) taken
   where
-    here : (q : ℕ) → q < priority + 1 → cond (q == priority) (Some value) (get array q) ≡ get places q
-    here q less = elim (split_at q priority less) [
-      | inl before ↦ rw (ne_eqb q priority (λ e. omega (arith, before, e))) (below.same q before)
-      | inr same ↦ rw (same, eq-eqb priority priority refl) (sym has)
-    ]
+    of : (o : Option ℤ) → is_some o ≡ true → (x : ℤ) × (o ≡ Some x)
+    of None is = absurd (true≢false (sym is))
+    of (Some x) is = (x, refl)
 
-pub below_none : (priority : ℕ) (places array : Places) → get places priority ≡ None → AreBelow priority places array → AreBelow (priority + 1) places array
-below_none priority places array none below = record {
-  same = λ q less. elim (split_at q priority less) [ inl before ↦ below.same q before | inr is ↦ rw is (below.none priority (omega arith) ∙ sym none) ];
-  none = λ q more. below.none q (omega (arith, more));
-}
+module _ (point : List ℕ) (kept : Kept) (answer : List Row) (named : IsName point) (found : Finds (λ row. is_text point (column row 1)) (λ row. column row 2 ∷ column row 3 ∷ []) kept.place answer) where
+  found_at : (q : ℕ) → Finds (of_place point q) (λ row. column row 3 ∷ []) kept.place (map second (rows_at q answer))
+  found_at q =
+      let here = λ (row : Row). is_text point (column row 1) in
+      let of_q = λ (row : Row). is_count q (column row 0) in
+      let permuted : IsPermutation (filter of_q (map both (filter here kept.place))) (rows_at q answer) = IsPermutation-filter of_q (map both (filter here kept.place)) answer found.shown in
+      let moved : filter of_q (map both (filter here kept.place)) ≡ map both (filter (of_place point q) kept.place) =
+      filter-map of_q both (filter here kept.place) ∙ ap (map both) (both_filters (λ row. is_count q (column row 2)) here kept.place) in
+      let seen : IsPermutation (map both (filter (of_place point q) kept.place)) (rows_at q answer) = subst (λ l. IsPermutation l (rows_at q answer)) moved permuted in
+      let mapped : IsPermutation (map second (map both (filter (of_place point q) kept.place))) (map second (rows_at q answer)) = IsPermutation-map second _ _ seen in
+      record { shown = subst (λ l. IsPermutation l (map second (rows_at q answer))) (map-map second both (filter (of_place point q) kept.place)) mapped }
 
-pub below_all : (places array : Places) → HasSixteenPlaces places → AreBelow 17 places array → array ≡ places
-below_all places array sixteen below = same_map nat_cmp_total nat_cmp-IsAntisymmetric array places (λ q. elim (split q 17) [ inl less ↦ below.same q less | inr more ↦ below.none q more ∙ sym (sixteen.below q (omega (arith, more))) ])
+  inside : (array : Places) → AreTold answer array → (q : ℕ) → 1 ≤ q → q ≤ 16 → (o : Option ℤ) → get array q ≡ o → o ≡ get ((tables_in kept).places point) q
+  inside array told q low high None is =
+      sym (place_none point q kept (map second (rows_at q answer)) (named, count_given 1 16 q low high) (found_at q) (ap (map second) (told.none q is)))
+  inside array told q low high (Some x) is =
+      let it = told.some q x is in
+      sym (place_one point q kept (map second (rows_at q answer)) (named, count_given 1 16 q low high) (found_at q) (second it.0) x (ap (map second) it.1) it.2)
+
+  outside : (array : Places) → AreTold answer array → (q : ℕ) → (1 ≤ q → q ≤ 16 → ⊥) → get ((tables_in kept).places point) q ≡ None → (o : Option ℤ) → get array q ≡ o → o ≡ get ((tables_in kept).places point) q
+  outside array told q apart none None is = sym none
+  outside array told q apart none (Some x) is = let lies = told.within q x is in absurd (apart lies.0 lies.1)
+
+  each : (array : Places) → AreTold answer array → (q : ℕ) → get array q ≡ get ((tables_in kept).places point) q
+  each array told q =
+      let sixteen = outside_places point kept in
+      elim (cases_Bool (nat_lt q 1)) [
+        | inl less ↦ let zero : q ≡ 0 = (let under = ltb-true q 1 less in omega (arith, under)) in
+            outside array told q (λ low high. omega (arith, zero, low)) (ap (get ((tables_in kept).places point)) zero ∙ sixteen.above) (get array q) refl
+        | inr more ↦ elim (cases_Bool (nat_lt 16 q)) [
+          | inl far ↦ let over = ltb-true 16 q far in outside array told q (λ low high. omega (arith, over, high)) (sixteen.below q over) (get array q) refl
+          | inr near ↦ inside array told q (ltb-false q 1 more) (ltb-false 16 q near) (get array q) refl
+        ]
+      ]
+
+  pub told_all : (array : Places) → AreTold answer array → array ≡ (tables_in kept).places point
+  told_all array told = same_map nat_cmp_total nat_cmp-IsAntisymmetric array ((tables_in kept).places point) (each array told)
+
+  -- ---- a row that cannot be placed
+
+  origin : (row : Row) → Has answer row → (r : Row) × Contains kept.place r × (is_text point (column r 1) ≡ true) × (row ≡ both r)
+  origin row had =
+      let picked = filter (λ (r : Row). is_text point (column r 1)) kept.place in
+      let there : Has (map both picked) row = all_has (Has (map both picked)) answer row (all-permutation (Has (map both picked)) (map both picked) answer found.shown (all_from (Has (map both picked)) (map both picked) (λ e h. h))) had in
+      let from = has_mapped both picked row there in
+      let is = has_filtered (λ (r : Row). is_text point (column r 1)) kept.place from.0 from.1 in
+      (from.0, contains_had kept.place from.0 is.0, is.1, from.2)
+
+  no_priority : (row : Row) → Has answer row → count_in 1 16 (column row 0) ≡ None → is_sound_in kept ≡ false
+  no_priority row had unread =
+      let it = origin row had in
+      let reads : count_in 1 16 (column it.0 2) ≡ None = ap (λ r. count_in 1 16 (column r 0)) (sym it.3) ∙ unread in
+      bad_place kept it.0 it.1 (rw (name_here point (column it.0 1) named it.2, reads) refl)
+
+  no_value : (row : Row) (priority : ℕ) → Has answer row → count_in 1 16 (column row 0) ≡ Some priority → number_in (column row 1) ≡ None → is_sound_in kept ≡ false
+  no_value row priority had at unread =
+      let it = origin row had in
+      let counted : count_in 1 16 (column it.0 2) ≡ Some priority = ap (λ r. count_in 1 16 (column r 0)) (sym it.3) ∙ at in
+      let reads : number_in (column it.0 3) ≡ None = ap (λ r. number_in (column r 1)) (sym it.3) ∙ unread in
+      bad_place kept it.0 it.1 (rw (name_here point (column it.0 1) named it.2, counted, reads) refl)
+
+  -- the rows of a priority that two rows tell
+  several : (i : ℕ) (row : Row) (old : Places) → i < length answer → row ≡ get_or answer i row → AreTold (take i answer) old
+      → (priority : ℕ) → count_in 1 16 (column row 0) ≡ Some priority → (x : ℤ) → get old priority ≡ Some x → AreSeveral (map second (rows_at priority answer))
+  several i row old below here told priority at x has =
+      let first = told.some priority x has in
+      let counted : is_count priority (column row 0) ≡ true = count_read priority (column row 0) at priority ∙ eq-eqb priority priority refl in
+      let two : rows_at priority (take (i + 1) answer) ≡ first.0 ∷ row ∷ [] =
+      one_more answer i row below here priority ∙ ap (λ t. rows_at priority (take i answer) ++ cond t (row ∷ []) []) counted ∙ ap (λ l. l ++ row ∷ []) first.1 in
+      let rest = rows_at priority (drop (i + 1) answer) in
+      let whole : rows_at priority answer ≡ first.0 ∷ row ∷ rest =
+      sym (ap (rows_at priority) (take-append-drop (i + 1) answer)) ∙ filter-append (λ r. is_count priority (column r 0)) (take (i + 1) answer) (drop (i + 1) answer) ∙ ap (λ l. l ++ rest) two in
+      record { first = second first.0; second = second row; more = map second rest; is = ap (map second) whole }
+
+  twice : (i : ℕ) (row : Row) (old : Places) → i < length answer → row ≡ get_or answer i row → AreTold (take i answer) old
+      → (priority : ℕ) → count_in 1 16 (column row 0) ≡ Some priority → is_some (get old priority) ≡ true → is_sound_in kept ≡ false
+  twice i row old below here told priority at taken =
+      let has = taken_of old priority taken in
+      let lies = told.within priority has.0 has.1 in
+      place_several point priority kept (map second (rows_at priority answer)) (named, count_given 1 16 priority lies.0 lies.1) (found_at priority)
+      (several i row old below here told priority at has.0 has.1)
+
+  of_parts : (i : ℕ) (row : Row) (old : Places) → i < length answer → row ≡ get_or answer i row → AreTold (take i answer) old
+      → (o : Option ℕ) (v : Option ℤ) → count_in 1 16 (column row 0) ≡ o → number_in (column row 1) ≡ v → (is_taken_in old o || not (is_some v)) ≡ true → is_sound_in kept ≡ false
+  of_parts i row old below here told None v at tells is = no_priority row (has_at answer i row below here) at
+  of_parts i row old below here told (Some priority) None at tells is = no_value row priority (has_at answer i row below here) at tells
+  of_parts i row old below here told (Some priority) (Some x) at tells is = elim (cases_Bool (is_some (get old priority))) [
+    | inl holds ↦ twice i row old below here told priority at holds
+    | inr fails ↦ absurd (true≢false (sym is ∙ ap (λ b. b || false) fails))
+  ]
+
+  pub cannot : (i : ℕ) (row : Row) (old : Places) → i < length answer → row ≡ get_or answer i row → AreTold (take i answer) old → IsTrue (cannot_place row old) → is_sound_in kept ≡ false
+  cannot i row old below here told is = of_parts i row old below here told (count_in 1 16 (column row 0)) (number_in (column row 1)) refl refl is

@@ -25,7 +25,7 @@ text_here text (Int n) is = absurd (true≢false (sym is))
 text_here text (Real x) is = absurd (true≢false (sym is))
 text_here text (Blob b) is = absurd (true≢false (sym is))
 
-name_here : (name : List ℕ) (cell : Value) → IsName name → is_text name cell ≡ true → name_in cell ≡ Some name
+pub name_here : (name : List ℕ) (cell : Value) → IsName name → is_text name cell ≡ true → name_in cell ≡ Some name
 name_here name cell named is = rw (text_here name cell is, named) refl
 
 -- a row that alone is picked is one of the rows, and is picked

@@ -1,8 +1,6 @@
 -- What a read of the tables leaves.
-use Rattle.std.specs.Prelude.{◌≡◌, ◌⊎◌, ◌<◌, ◌≤◌, ℕ, List, ◌∷◌, Option, Some, None, Bool, true, false}
+use Rattle.std.specs.Prelude.{◌≡◌, ◌⊎◌, List, ◌∷◌, Option, Some, None, Bool, true, false}
 use Rattle.std.specs.Bool.{IsTrue}
-use Rattle.std.specs.FinMap.{get}
-use Rattle.points.specs.PriorityArray.{Places}
 use Rattle.sqlite_value.specs.Order.{Row}
 use Rattle.sqlite.specs.State.{HasCleanDisk, State, Survives}
 use Rattle.sql_rows.specs.Looking.{Rests}
@@ -39,8 +37,3 @@ pub record AreSeveral (rows : List Row) : Type 0 where
   pub second : Row
   pub more : List Row
   pub is : rows ≡ first ∷ second ∷ more
-
--- the array has the values of the priorities below one, and no other
-pub record AreBelow (priority : ℕ) (places array : Places) : Type 0 where
-  pub same : (q : ℕ) → q < priority → get array q ≡ get places q
-  pub none : (q : ℕ) → priority ≤ q → get array q ≡ None

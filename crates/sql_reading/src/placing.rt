@@ -1,19 +1,54 @@
 //! The priority array of a point.
-ghost use Rattle.std.specs.Prelude.{◌≡◌, false, Err, IfOk};
+ghost use Rattle.std.specs.Prelude.{◌≡◌, false, Err, IfErr, IfOk, OnOk, IsTrue, [], ◌∷◌};
 ghost use Rattle.std.specs.Result.{result_err};
 ghost use Rattle.sqlite.specs.Held.{state};
 ghost use Rattle.sqlite.specs.State.{HasCleanDisk, Survives};
+ghost use Rattle.sqlite_value.specs.Order.{column};
+ghost use Rattle.sql_rows.specs.Looking.{Finds};
 ghost use Rattle.sql_rows.specs.Ours.{IsOurs, kept_in};
 ghost use Rattle.sql_reading.specs.Asking.{Asks};
+ghost use Rattle.sql_reading.specs.Placing.{IsPlaced, cannot_place};
+ghost use Rattle.stored_rows.specs.Cells.{is_text};
 ghost use Rattle.stored_rows.specs.declared.read_fault.ReadFault.TheVariants.{BadRow};
-ghost use Rattle.stored_rows.specs.Stored.{is_sound_in, tables_in};
+ghost use Rattle.stored_rows.specs.Stored.{Kept, is_sound_in, tables_in};
 
-use crate::finding::value_at;
-use points::{LOWEST_PRIORITY, Name, PriorityArray};
-use sqlite::{Alter, Connection};
-use stored_rows::ReadFault;
+use points::{Name, PriorityArray};
+use sql_rows::places;
+use sqlite::{Alter, Connection, Row};
+use stored_rows::{ReadFault, count_at, number_at};
+
+// Puts the value that a row with the cells of a priority and a value tells, where that place has none.
+fn place(array: &mut PriorityArray, row: &Row) -> Result<(), ReadFault>
+    ensures placed { OnOk result (IsPlaced row.now array.old array.new) }
+    ensures bad { IfErr result (λ _. IsTrue (cannot_place row.now array.old)) }
+    ensures fault { IfErr result (λ fault. fault ≡ BadRow) }
+{
+    let priority = count_at(row, 0, 1, 16)? as u8;
+    let value = number_at(row, 1)?;
+    if array.value_at(priority).is_some() {
+        return Err(ReadFault::BadRow);
+    }
+    array.set(priority, Some(value));
+    Ok(())
+}
+
+// What the answer of the query on the places of a point tells.
+fn told_array(point: &Name, rows: Vec<Row>) -> Result<PriorityArray, ReadFault>
+    ensures value { (kept : Kept) → Finds (λ row. is_text point.now (column row 1)) (λ row. column row 2 ∷ column row 3 ∷ []) kept.place rows.items → IfOk result (λ it. it ≡ (tables_in kept).places point.now) }
+    ensures bad { (kept : Kept) → Finds (λ row. is_text point.now (column row 1)) (λ row. column row 2 ∷ column row 3 ∷ []) kept.place rows.items → IfErr result (λ _. is_sound_in kept ≡ false) }
+    ensures fault { IfErr result (λ fault. fault ≡ BadRow) }
+{
+    // What is asked for is a name, as a row's own has to be.
+    let _name = point.as_str();
+    let mut array = PriorityArray::new();
+    for row in &rows {
+        place(&mut array, row)?;
+    }
+    Ok(array)
+}
 
 /// The priority array of a point: without values where nothing is kept of it.
+#[tactic(auto, using(crate::proofs::ReadLemmas::sees_unchanged))]
 pub fn array_of<S: Alter>(
     connection: &mut Connection<S>,
     point: &Name,
@@ -24,11 +59,6 @@ pub fn array_of<S: Alter>(
     ensures bad { HasCleanDisk (state S.Store connection.new) → IsOurs (state S.Store connection.old).now → result ≡ Err BadRow → is_sound_in (kept_in (state S.Store connection.old).now.trees) ≡ false }
     ensures survives { Survives (state S.Store connection.old) (state S.Store connection.new) (λ _. IsOurs (state S.Store connection.old).now → ⊥) }
 {
-    let mut array = PriorityArray::new();
-    for priority in 1..=LOWEST_PRIORITY {
-        if let Some(value) = value_at(connection, point, u64::from(priority))? {
-            array.set(priority, Some(value));
-        }
-    }
-    Ok(array)
+    let rows = places::of_point(connection, point)?;
+    told_array(point, rows)
 }

@@ -19,7 +19,7 @@ use Rattle.sqlite.specs.State.{ExecutesInside, Shown, State}
 use Rattle.sql_rows.specs.Ours.{Changes, Gains, IsInside, Loses}
 use Rattle.sql_rows.specs.Slot.{On, place_slot}
 use Rattle.sql_rows.proofs.CellLemmas.{after_text, and_true, cast_int, cast_null, equal_count, equal_text, from_count}
-use Rattle.sql_rows.proofs.PlaceTexts.{add_is, add_plain, add_text, clear_is, clear_plain, clear_text, find_is, find_plain, find_text, find_unlisted, next_point_is, next_point_plain, next_point_text, next_point_unlisted, next_priority_is, next_priority_plain, next_priority_text, next_priority_unlisted}
+use Rattle.sql_rows.proofs.PlaceTexts.{add_is, add_plain, add_text, clear_is, clear_plain, clear_text, find_is, find_plain, find_text, find_unlisted, next_point_is, next_point_plain, next_point_text, next_point_unlisted, next_priority_is, next_priority_plain, next_priority_text, next_priority_unlisted, of_point_is, of_point_plain, of_point_text, of_point_unlisted}
 use Rattle.sql_rows.proofs.RestLemmas.{finds, finds_least, finds_same, least_same}
 use Rattle.sql_rows.specs.Looking.{Finds, FindsLeast, is_after, is_from}
 use Rattle.sql_rows.proofs.SlotLemmas.{gains, is_place, loses}
@@ -89,3 +89,15 @@ next_priority_shown items point from old new (Err e) ours shown = tt
 next_priority_shown items point from old new (Ok v) ours shown =
     least_same (passes (given 1 0 ∷ compared_with Ge 2 1 ∷ []) (Text point ∷ Int (pos from) ∷ [])) (λ row. is_text point (column row 1) && is_from from (column row 2)) 2 (old.now.trees place_tree) (items v) (λ row h. passes_next_priority old.now ours point from row h)
     (finds_least next_priority_text next_priority_plain next_priority_unlisted place_tree (given 1 0 ∷ compared_with Ge 2 1 ∷ []) 2 (codes "priority" ∷ []) next_priority_is old new (Text point ∷ Int (pos from) ∷ []) (items v) ours.schema_is shown)
+
+passes_point : (db : Database) → IsOurs db → (point : List ℕ) (row : Row) → Has (db.trees place_tree) row → passes (given 1 0 ∷ []) (Text point ∷ []) row ≡ is_text point (column row 1)
+passes_point db ours point row h =
+    let cells = place_cells db ours row h in
+    rw (equal_text point (column row 1) cells.0.of cells.0.filled, and_true) refl
+
+pub of_point_shown : {V : Type 0} (items : V → List Row) (point : List ℕ) (old new : State) (r : Result V Error) → IsOurs old.now
+    → IfOk r (λ v. Shown of_point_text (Text point ∷ []) old new (items v)) → IfOk r (λ v. Finds (λ row. is_text point (column row 1)) (λ row. column row 2 ∷ column row 3 ∷ []) (old.now.trees place_tree) (items v))
+of_point_shown items point old new (Err e) ours shown = tt
+of_point_shown items point old new (Ok v) ours shown =
+    finds_same (passes (given 1 0 ∷ []) (Text point ∷ [])) (λ row. is_text point (column row 1)) (λ row. column row 2 ∷ column row 3 ∷ []) (old.now.trees place_tree) (items v) (λ row h. passes_point old.now ours point row h)
+    (finds of_point_text of_point_plain of_point_unlisted place_tree (given 1 0 ∷ []) (col 1 2 ∷ col 1 3 ∷ []) (codes "priority" ∷ codes "value" ∷ []) of_point_is old new (Text point ∷ []) (items v) ours.schema_is shown)

@@ -80,3 +80,18 @@ next_priority_plain = (refl, refl)
 pub next_priority_unlisted : reads_listing desk_schema next_priority_text ≡ false
 unfolding everything
 next_priority_unlisted = refl
+
+abbrev pub of_point_text : List ℕ
+of_point_text = codes "SELECT priority, value FROM place WHERE point = ?1"
+
+pub of_point_is : command_of (understood desk_schema of_point_text) ≡ selection place_tree (given 1 0 ∷ []) (col 1 2 ∷ col 1 3 ∷ []) (codes "priority" ∷ codes "value" ∷ [])
+unfolding understood everything
+of_point_is = refl
+
+pub of_point_plain : IsPlain (understood desk_schema of_point_text)
+unfolding understood everything
+of_point_plain = (refl, refl)
+
+pub of_point_unlisted : reads_listing desk_schema of_point_text ≡ false
+unfolding everything
+of_point_unlisted = refl

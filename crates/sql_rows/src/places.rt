@@ -109,3 +109,18 @@ pub fn next_priority<S: Alter>(
         &[text(point), count(from)],
     )
 }
+
+/// The cells `priority` and `value` of the places of a point.
+pub fn of_point<S: Alter>(connection: &mut Connection<S>, point: &Name) -> Result<Vec<Row>, Error>
+    ensures mode { connection.old.in_transaction ≡ false → connection.new.in_transaction ≡ false }
+    ensures same { HasCleanDisk (state S.Store connection.new) → IsOurs (state S.Store connection.old).now → OnOk result (IsUnchanged (state S.Store connection.old) (state S.Store connection.new)) }
+    ensures rests { HasCleanDisk (state S.Store connection.new) → IsOurs (state S.Store connection.old).now → Rests (state S.Store connection.old) (state S.Store connection.new) }
+    ensures found { HasCleanDisk (state S.Store connection.new) → IsOurs (state S.Store connection.old).now → IfOk result (λ rows. Finds (λ row. is_text point.now (column row 1)) (λ row. column row 2 ∷ column row 3 ∷ []) (kept_in (state S.Store connection.old).now.trees).place rows.items) }
+    ensures survives { Survives (state S.Store connection.old) (state S.Store connection.new) (λ _. IsOurs (state S.Store connection.old).now → ⊥) }
+{
+    look(
+        connection,
+        "SELECT priority, value FROM place WHERE point = ?1",
+        &[text(point)],
+    )
+}
