@@ -45,6 +45,12 @@ tick_app =
     with_rule (with_rule (with_rule (new_app (codes "tick")) (needed_rule (codes "file")))
     (needed_rule (codes "database"))) (number_rule (codes "at"))
 
+-- `report FILE DB DATE`
+abbrev pub report_app : App
+report_app =
+    with_rule (with_rule (with_rule (new_app (codes "report")) (needed_rule (codes "file")))
+    (needed_rule (codes "database"))) (needed_rule (codes "date"))
+
 -- `desk`, which needs a subcommand, with those that use no database
 abbrev pub memory_app : App
 memory_app = with_subcommand (with_subcommand
@@ -52,7 +58,7 @@ memory_app = with_subcommand (with_subcommand
 
 -- `desk`
 abbrev pub desk_app : App
-desk_app = with_subcommand (with_subcommand memory_app import_app.top) tick_app.top
+desk_app = with_subcommand (with_subcommand (with_subcommand memory_app import_app.top) tick_app.top) report_app.top
 
 -- ---- what they ask
 
@@ -62,12 +68,14 @@ pub data Asked : Type 0 where
   Replay : (file : Text) → (deliveries : Text) → Asked
   Import : (file : Text) → (database : Text) → (holidays : Text) → Asked
   Tick : (file : Text) → (database : Text) → (at : ℤ) → Asked
+  Report : (file : Text) → (database : Text) → (date : Text) → Asked
 
 abbrev pub asked_of : Line → Asked
 asked_of (line.Check file) = Check file.now
 asked_of (line.Replay file deliveries) = Replay file.now deliveries.now
 asked_of (line.Import file database holidays) = Import file.now database.now holidays.now
 asked_of (line.Tick file database at) = Tick file.now database.now at
+asked_of (line.Report file database date) = Report file.now database.now date.now
 
 -- the number that a text writes in decimal digits, if it is an i64
 abbrev pub moment_in : Text → Option ℤ
@@ -93,13 +101,19 @@ tick_in rows = option_and_then (λ file. option_and_then (λ database.
     (option_and_then moment_in (first_of (codes "at") rows)))
     (first_of (codes "database") rows)) (first_of (codes "file") rows)
 
+abbrev pub report_in : List Row → Option Asked
+report_in rows = option_and_then (λ file. option_and_then (λ database.
+    option_map (λ date. Report file database date)
+    (first_of (codes "date") rows)) (first_of (codes "database") rows)) (first_of (codes "file") rows)
+
 -- what a subcommand's name and the rows of its arguments ask
 abbrev pub asked_in : Text × List Row → Option Asked
 asked_in (name, rows) =
     if bytes_eq name (codes "check") then check_in rows
     else (if bytes_eq name (codes "replay") then replay_in rows
     else (if bytes_eq name (codes "import") then import_in rows
-    else (if bytes_eq name (codes "tick") then tick_in rows else None)))
+    else (if bytes_eq name (codes "tick") then tick_in rows
+    else (if bytes_eq name (codes "report") then report_in rows else None))))
 
 -- what the words ask, the program's name first
 abbrev pub asked : List Text → Option Asked

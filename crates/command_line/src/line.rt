@@ -9,7 +9,7 @@ ghost use Rattle.command_line.specs.ArgFault.{IsRefusedBy};
 ghost use Rattle.command_line.specs.Line.{asked, asked_in, asked_of, check_app, check_in, desk_app};
 ghost use Rattle.command_line.specs.Line.{import_app, import_in, memory_app, moment_in};
 ghost use Rattle.command_line.specs.Line.{needed_rule, number_rule};
-ghost use Rattle.command_line.specs.Line.{replay_app, replay_in, tick_app, tick_in};
+ghost use Rattle.command_line.specs.Line.{replay_app, replay_in, report_app, report_in, tick_app, tick_in};
 
 use crate::ArgFault;
 use clap::error::ErrorKind;
@@ -49,6 +49,15 @@ pub enum Line<'a> {
         /// The moment, in hundredths of a second since 1970.
         at: i64,
     },
+    /// `report FILE DB DATE`: tells a day of the desk of a database.
+    Report {
+        /// The path of the building file.
+        file: &'a str,
+        /// The path of the database.
+        database: &'a str,
+        /// The day, as `YYYY-MM-DD`.
+        date: &'a str,
+    },
 }
 
 impl<'a> Line<'a> {
@@ -76,7 +85,8 @@ fn desk_command<'a>(alloc: Global) -> Result<Command<'a>, AllocError>
 {
     memory_command(alloc)?
         .subcommand(import_command(alloc)?)?
-        .subcommand(tick_command(alloc)?)
+        .subcommand(tick_command(alloc)?)?
+        .subcommand(report_command(alloc)?)
 }
 
 /// The command `desk` with the subcommands that use no database.
@@ -135,6 +145,18 @@ fn tick_command<'a>(alloc: Global) -> Result<Command<'a>, AllocError>
         .arg(moment_argument(alloc))
 }
 
+/// The subcommand `report FILE DB DATE`.
+fn report_command<'a>(alloc: Global) -> Result<Command<'a>, AllocError>
+    ensures app { IfOk result (λ c. app_of c ≡ report_app) }
+    ensures local { IfOk result (λ c. (fields_of c).has_globals ≡ false) }
+{
+    Command::new(alloc, "report")
+        .about("Prints when each schedule has which value on a day, and how each point is now")
+        .arg(file_argument(alloc))?
+        .arg(database_argument(alloc))?
+        .arg(date_argument(alloc))
+}
+
 /// The path of the building file.
 fn file_argument<'a>(alloc: Global) -> Arg<'a>
     ensures rule { rule_of result ≡ needed_rule (codes "file") }
@@ -191,6 +213,17 @@ fn moment_argument<'a>(alloc: Global) -> Arg<'a>
         .help("The moment, in hundredths of a second since 1970-01-01T00:00:00Z")
 }
 
+/// The day of a report.
+fn date_argument<'a>(alloc: Global) -> Arg<'a>
+    ensures rule { rule_of result ≡ needed_rule (codes "date") }
+    ensures local { result.global ≡ false }
+{
+    Arg::new(alloc, "date")
+        .required(true)
+        .value_name("DATE")
+        .help("The day, as YYYY-MM-DD")
+}
+
 /// What the subcommand that was met asks, or `None` where a value is missing.
 fn line_in<'a>(matches: &ArgMatches<'a>) -> Option<Line<'a>>
     ensures { option_map asked_of result ≡ option_and_then asked_in (subcommand_rows_of matches.now) }
@@ -201,6 +234,7 @@ fn line_in<'a>(matches: &ArgMatches<'a>) -> Option<Line<'a>>
         "replay" => replay_line(inner),
         "import" => import_line(inner),
         "tick" => tick_line(inner),
+        "report" => report_line(inner),
         _ => None,
     }
 }
@@ -244,6 +278,20 @@ fn tick_line<'a>(matches: &ArgMatches<'a>) -> Option<Line<'a>>
     let database = text_at(matches, "database")?;
     let at = moment_at(matches, "at")?;
     Some(Line::Tick { file, database, at })
+}
+
+/// What the arguments of `report` ask.
+fn report_line<'a>(matches: &ArgMatches<'a>) -> Option<Line<'a>>
+    ensures { option_map asked_of result ≡ report_in (rows_of (found_of matches.now)) }
+{
+    let file = text_at(matches, "file")?;
+    let database = text_at(matches, "database")?;
+    let date = text_at(matches, "date")?;
+    Some(Line::Report {
+        file,
+        database,
+        date,
+    })
 }
 
 /// The value of an argument, as a moment.

@@ -21,6 +21,8 @@ pub enum RunFault<'a> {
     NotDelivery { line: u64 },
     /// The holiday list is at fault.
     Holidays(ImportFault),
+    /// The day of a report is none.
+    NotDay,
     /// The output failed.
     OutputFailed,
     /// Memory was refused.
@@ -97,6 +99,7 @@ impl fmt::Display for RunFault<'_> {
             RunFault::Building(fault) => write!(f, "desk: {fault}"),
             RunFault::NotDelivery { line } => write!(f, "desk: line {line} is not a delivery"),
             RunFault::Holidays(fault) => write!(f, "desk: {fault}"),
+            RunFault::NotDay => f.write_str("desk: not a day"),
             RunFault::OutputFailed => f.write_str("desk: cannot write"),
             RunFault::NoMemory => f.write_str("desk: out of memory"),
             RunFault::Store(fault) => write!(f, "desk: store fault {fault}"),

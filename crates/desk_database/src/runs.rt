@@ -1,7 +1,7 @@
 //! The runs of the subcommands that take a database.
 use crate::database_file::open_store;
 use desk_console::{Input, Status};
-use one_delivery::{import, tick};
+use one_delivery::{import, report, tick};
 use std::fs;
 use std::io::{self, BufWriter};
 
@@ -37,4 +37,16 @@ pub fn run_tick(rt: &HostRuntime, file: &str, database: &str, at: i64) -> io::Re
     };
     let opener = || open_store(rt, database);
     Ok(tick(alloc, building, opener, at, &mut out, &mut rt.stderr()).status)
+}
+
+/// Runs `desk report`: the building's file and the database by their paths, and the day as `YYYY-MM-DD`.
+pub fn run_report(rt: &HostRuntime, file: &str, database: &str, date: &str) -> io::Result<Status> {
+    let alloc = rt.alloc();
+    let mut out = BufWriter::new(alloc, io::writer(rt))?;
+    let building = Input {
+        path: file,
+        reader: fs::open(rt, file),
+    };
+    let opener = || open_store(rt, database);
+    Ok(report(alloc, building, opener, date, &mut out, &mut rt.stderr()).status)
 }

@@ -5,7 +5,7 @@ use command_line::{ArgFault, Line};
 use desk_check::check;
 use desk_cli::replay;
 use desk_console::{Input, Listed, Status};
-use desk_database::{run_import, run_tick};
+use desk_database::{run_import, run_report, run_tick};
 use std::env;
 use std::fs::{self, File};
 use std::io::{self, BufReader, BufWriter, Write};
@@ -94,6 +94,13 @@ fn run(rt: &HostRuntime, words: &[String]) -> io::Result<Status> {
             },
         ) => run_import(rt, file, database, holidays),
         Ok(Line::Tick { file, database, at }) => run_tick(rt, file, database, at),
+        Ok(
+            Line::Report {
+                file,
+                database,
+                date,
+            },
+        ) => run_report(rt, file, database, date),
         Err(fault) => Ok(refuse(rt, &fault)),
     }
 }

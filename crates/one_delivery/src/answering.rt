@@ -34,7 +34,7 @@ fn fault_of<'a>(fault: OpenFault) -> RunFault<'a> {
 }
 
 /// A desk over the store that is opened.
-fn open_desk<'a, S: Store + Drop, O>(
+pub fn open_desk<'a, S: Store + Drop, O>(
     alloc: Global,
     building: Building,
     opener: O,
@@ -60,7 +60,14 @@ fn print_reply<'a, W: Write>(alloc: Global, reply: Reply, out: &mut W) -> Result
     ensures { OnOk result (Appends (W.contents out.old) (W.contents out.new) (reply_line reply)) }
 {
     let line = reply_line(alloc, reply)?;
-    print_text(out, line.as_bytes())?;
+    print_whole(out, line.as_str())
+}
+
+/// Prints a text whole, and flushes it.
+pub fn print_whole<'a, W: Write>(out: &mut W, text: &str) -> Result<(), RunFault<'a>>
+    ensures { OnOk result (Appends (W.contents out.old) (W.contents out.new) text.now) }
+{
+    print_text(out, text.as_bytes())?;
     flush(out)
 }
 

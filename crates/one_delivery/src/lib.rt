@@ -1,10 +1,12 @@
-//! What do `desk tick` and `desk import` print, and what do they leave?
+//! What do `desk tick`, `desk import` and `desk report` print, and what do they leave?
 //!
-//! Each reads the building of a file, opens a store, delivers one delivery to a desk over it, and prints the reply
-//! as a line. The store is handed back as it stands then.
+//! Each reads the building of a file and opens a store. `tick` and `import` deliver one delivery to a desk over it, and
+//! print the reply as a line; `report` prints the report of a day. The store is handed back as it stands then.
 #![tactic(auto)]
 
 pub use clock_run::{import, tick};
+pub use report_run::report;
 
 mod answering;
 mod clock_run;
+mod report_run;
