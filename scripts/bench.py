@@ -1,4 +1,5 @@
-"""Measures the desk: lines a second of `desk replay`, its peak memory, how both grow, and how long a building is read.
+"""Measures the desk: lines a second of `desk replay`, its peak memory, how both grow, how long a building is read, and
+how long a day is reported.
 
 Writes a building of 20 panels, one of the largest size with calendars and schedules, and lists of deliveries to
 them into build/bench, runs each five times and takes the fastest run. A list is of commands in order; or it came
@@ -236,6 +237,19 @@ def show_reading():
         print(f"a building file of {size:,} bytes: read in {seconds * 1000:.0f} ms, {peak / 1024:.0f} MB at most")
 
 
+def show_report():
+    """The report of a day on which all schedules have exceptions, from a database that has had a tick."""
+    file, _ = written(LARGEST, 0)
+    database = FOLDER / "report.db"
+    for path in FOLDER.glob("report.db*"):
+        path.unlink()
+    run_desk("tick", file, str(database), str(NEW_YEAR))
+    seconds, peak = min(run_desk("report", file, str(database), "2025-01-01") for _ in range(RUNS))
+    around = min(run_desk("tick", file, str(database), str(NEW_YEAR)) for _ in range(RUNS))[0]
+    told = f"{seconds * 1000:.0f} ms, {peak / 1024:.0f} MB at most; an old tick, which opens the same files, {around * 1000:.0f} ms"
+    print(f"the report of a day of {LARGEST.schedules} schedules and {LARGEST.points} points: {told}")
+
+
 def show_growth():
     """How much longer the same list takes over the largest building, its reading included."""
     usual, largest = (measure(building, SIZES[1])[0] for building in (USUAL, LARGEST))
@@ -260,6 +274,7 @@ def show_instructions():
 def main():
     FOLDER.mkdir(parents=True, exist_ok=True)
     show_reading()
+    show_report()
     show_seconds()
     show_growth()
     if shutil.which("valgrind"):
