@@ -8,7 +8,7 @@ use Rattle.deliveries.specs.declared.delivery.Delivery.{Delivery}
 use Rattle.deliveries.specs.declared.delivery.Delivery.TheVariants.{Import, Tick}
 use Rattle.delivery_lines.specs.declared.told.Told.{Told}
 use Rattle.delivery_lines.specs.declared.told.Told.TheVariants as told
-use Rattle.delivery_lines.specs.Members.{has_only, integer_in}
+use Rattle.delivery_lines.specs.Members.{has_only, lone_integer}
 use Rattle.holidays.specs.CalendarNamed.{calendar_of}
 use Rattle.holidays.specs.HolidayList.{holidays_in}
 use Rattle.holidays.specs.declared.import_fault.ImportFault.{ImportFault}
@@ -17,10 +17,7 @@ use Rattle.texts.specs.Steps.{◌>>=◌, where_holds}
 
 -- the tick that an object tells
 unfoldable pub tick_in : Data → Option Delivery
-tick_in d = do
-  ms ← as_object d
-  at ← get (codes "tick") d >>= integer_in
-  where_holds (has_only (codes "tick" ∷ []) ms) (Tick at)
+tick_in d = option_map Tick (lone_integer (codes "tick") d)
 
 -- the text of the holiday list that an object tells
 unfoldable pub list_in : Data → Option (List ℕ)
@@ -35,7 +32,7 @@ import_with (Err fault) = told.RefusedImport fault
 
 -- the import of a holiday list's rows, for the calendars of a building; or the fault of the list
 unfoldable pub import_of : Building → List ℕ → Told
-import_of b text = import_with (holidays_in (calendar_of b.calendars) (records_of text))
+import_of b list = import_with (holidays_in (calendar_of b.calendars) (records_of list))
 
 -- what an object with a holiday list tells
 unfoldable pub import_in : Building → Data → Option Told

@@ -12,6 +12,10 @@ use Rattle.delivery_lines.specs.PanelLine.{panel_delivery_in}
 use Rattle.texts.specs.Steps.{◌>>=◌}
 use Rattle.texts.specs.Texts.{text_of}
 
+-- the value of a JSON text, which is UTF-8
+abbrev pub json_of : List ℕ → Option Data
+json_of bytes = text_of bytes >>= read
+
 abbrev pub delivery_with : Option Data → Data → Option Delivery
 delivery_with None d = tick_in d
 delivery_with (Some panel) d = panel_delivery_in d
@@ -30,7 +34,4 @@ told_in b d = told_with b d (delivery_in d)
 
 -- what a line tells; an import is one of entries for calendars of the building
 unfoldable pub told_of : Building → List ℕ → Option Told
-told_of b line = do
-  text ← text_of line
-  d ← read text
-  told_in b d
+told_of b line = json_of line >>= told_in b

@@ -7,6 +7,7 @@ use Rattle.serde_json.specs.Find.{as_i64, as_object, as_str, get}
 use Rattle.deliveries.specs.declared.delivery.Delivery.{Delivery}
 use Rattle.deliveries.specs.declared.delivery.Delivery.TheVariants.{Command, Skip}
 use Rattle.delivery_lines.specs.Members.{has_only, integer_in}
+use Rattle.delivery_lines.specs.declared.panel_line.NumberedContent.{NumberedContent}
 use Rattle.texts.specs.Steps.{◌>>=◌, where_holds}
 use Rattle.texts.specs.Texts.{name_of}
 
@@ -27,6 +28,15 @@ abbrev pub priority_in : Option Data → Option ℤ
 priority_in None = Some (pos 16)
 priority_in (Some d) = option_map (λ v. unwrap_or v (pos 16)) (value_in d)
 
+-- what an object tells of a command beside its panel
+unfoldable pub numbered_in : Data → Option NumberedContent
+numbered_in d = do
+  number ← get (codes "number") d >>= integer_in
+  point ← get (codes "point") d >>= name_in
+  priority ← priority_in (get (codes "priority") d)
+  value ← get (codes "value") d >>= value_in
+  Some (record { number = number; content = record { point = point; priority = priority; value = value } })
+
 -- the keys that a command's line may have
 abbrev pub command_keys : List (List ℕ)
 command_keys = codes "number" ∷ codes "panel" ∷ codes "point" ∷ codes "priority" ∷ codes "value" ∷ []
@@ -35,13 +45,9 @@ command_keys = codes "number" ∷ codes "panel" ∷ codes "point" ∷ codes "pri
 unfoldable pub command_in : Data → Option Delivery
 command_in d = do
   ms ← as_object d
-  number ← get (codes "number") d >>= integer_in
   panel ← get (codes "panel") d >>= name_in
-  point ← get (codes "point") d >>= name_in
-  priority ← priority_in (get (codes "priority") d)
-  value ← get (codes "value") d >>= value_in
-  where_holds (has_only command_keys ms)
-      (Command panel number (record { point = point; priority = priority; value = value }))
+  told ← numbered_in d
+  where_holds (has_only command_keys ms) (Command panel told.number told.content)
 
 -- the keys that a skip's line has
 abbrev pub skip_keys : List (List ℕ)

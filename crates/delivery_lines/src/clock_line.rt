@@ -6,7 +6,7 @@ ghost use Rattle.serde_json.specs.View.{view};
 ghost use Rattle.delivery_lines.specs.ClockLine.{import_in, import_of, list_in, tick_in};
 ghost use Rattle.delivery_lines.specs.LineFault.{Tells};
 
-use crate::members::{has_only, integer_in};
+use crate::members::{has_only, lone_integer};
 use crate::{LineFault, Told};
 use building::Building;
 use deliveries::Delivery;
@@ -21,13 +21,8 @@ use store::StoreFault;
 pub(crate) fn tick_in(value: &Value) -> Option<Delivery>
     ensures { result ≡ tick_in (view value.now) }
 {
-    let members = value.as_object()?;
-    let at = integer_in(value.get("tick")?)?;
-    if has_only(members, &["tick"]) {
-        Some(Delivery::Tick { at })
-    } else {
-        None
-    }
+    let at = lone_integer(value, "tick")?;
+    Some(Delivery::Tick { at })
 }
 
 /// The text of the holiday list that an object tells.
@@ -54,17 +49,17 @@ pub(crate) fn import_in(
     ensures { Tells (import_in building.now (view value.now)) result }
 {
     match list_in(value) {
-        Some(text) => import_of(alloc, building, text),
+        Some(text) => import_of(alloc, building, text.as_bytes()),
         None => Err(LineFault::NotDelivery),
     }
 }
 
-/// The import of a holiday list, or the fault of the list.
+/// The import of a holiday list for the building, or the fault of the list.
 #[tactic(auto, unfolding(crate::specs::ClockLine::import_of))]
-fn import_of(alloc: Global, building: &Building, text: &str) -> Result<Told, LineFault>
-    ensures { Tells (Some (import_of building.now text.now)) result }
+pub fn import_of(alloc: Global, building: &Building, list: &[u8]) -> Result<Told, LineFault>
+    ensures { Tells (Some (import_of building.now list.now)) result }
 {
-    match read_holidays(alloc, building, text.as_bytes()) {
+    match read_holidays(alloc, building, list) {
         Ok(rows) => Ok(Told::Delivery(Delivery::Import {
             rows: Listing::from_vec(rows),
         })),

@@ -1,11 +1,12 @@
 //! What a line of JSON tells.
 
-ghost use Rattle.std.specs.Prelude.{◌≡◌, Err, IfOk, None, Some};
+ghost use Rattle.std.specs.Prelude.{◌≡◌};
 ghost use Rattle.serde_json.specs.Errors.{IsMemory};
 ghost use Rattle.serde_json.specs.Find.{get};
 ghost use Rattle.serde_json.specs.Read.{read};
 ghost use Rattle.serde_json.specs.View.{view};
-ghost use Rattle.delivery_lines.specs.DeliveryLine.{delivery_in, told_in, told_of};
+ghost use Rattle.delivery_lines.specs.DeliveryLine.{delivery_in, json_of, told_in, told_of};
+ghost use Rattle.holidays.specs.Answers.{result_map};
 ghost use Rattle.delivery_lines.specs.LineFault.{Tells};
 ghost use Rattle.store.specs.declared.StoreFault.{StoreFault as a_fault};
 ghost use Rattle.store.specs.declared.StoreFault.TheVariants.{NoMemory};
@@ -25,16 +26,20 @@ use texts::text_of;
 pub fn told_of(alloc: Global, building: &Building, line: &[u8]) -> Result<Told, LineFault>
     ensures { Tells (told_of building.now line.now) result }
 {
-    let text = text_of(line).ok_or(LineFault::NotDelivery)?;
-    let value = parsed(alloc, text)?;
+    let value = value_of(alloc, line)?;
     told_in(alloc, building, &value)
 }
 
-/// The value of a JSON text.
+/// The value of a JSON text, as `serde_json` reads it.
+pub fn value_of(alloc: Global, bytes: &[u8]) -> Result<Value, LineFault>
+    ensures { Tells (json_of bytes.now) (result_map view result) }
+{
+    let text = text_of(bytes).ok_or(LineFault::NotDelivery)?;
+    parsed(alloc, text)
+}
+
 fn parsed(alloc: Global, text: &str) -> Result<Value, LineFault>
-    ensures ok { IfOk result (λ value. read text.now ≡ Some (view value)) }
-    ensures refused { result ≡ Err LineFault.NotDelivery → read text.now ≡ None }
-    ensures memory { (fault : a_fault) → result ≡ Err (LineFault.NotDone fault) → fault ≡ NoMemory }
+    ensures { Tells (read text.now) (result_map view result) }
 {
     Value::from_str(alloc, text).map_err(fault_of)
 }

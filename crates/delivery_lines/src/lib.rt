@@ -2,11 +2,15 @@
 //!
 //! `told_of` reads a line by `serde_json`: a command or a skip of a panel (`panel_line`), a tick, or the holiday
 //! list of an import, which `holidays` reads for the building (`clock_line`). A list at fault is told as such,
-//! and is no delivery. `ReplyText` is the text of a reply, `RefusedImportText` that of a list at fault.
+//! and is no delivery. Their parts are for whoever reads a delivery of another form: the value of a JSON text, what it
+//! tells of a command, and the import of a list. `ReplyText` is the text of a reply, `RefusedImportText` that of a list at fault.
 #![tactic(auto)]
 
-pub use delivery_line::told_of;
+pub use clock_line::import_of;
+pub use delivery_line::{told_of, value_of};
 pub use line_fault::LineFault;
+pub use members::{has_only, lone_integer};
+pub use panel_line::{NumberedContent, numbered_in};
 pub use reply_text::{RefusedImportText, ReplyText};
 pub use told::Told;
 

@@ -3,14 +3,21 @@
 ghost use Rattle.std.specs.Prelude.{◌≡◌, option_map};
 ghost use Rattle.serde_json.specs.Find.{get};
 ghost use Rattle.serde_json.specs.View.{view};
-ghost use Rattle.delivery_lines.specs.PanelLine.{command_in, name_in, panel_delivery_in, priority_in, skip_in};
-ghost use Rattle.delivery_lines.specs.PanelLine.{value_in};
+ghost use Rattle.delivery_lines.specs.PanelLine.{command_in, name_in, numbered_in, panel_delivery_in, priority_in};
+ghost use Rattle.delivery_lines.specs.PanelLine.{skip_in, value_in};
 
 use crate::members::{has_only, integer_in};
 use deliveries::Delivery;
 use points::{Content, LOWEST_PRIORITY, Name};
 use serde_json::Value;
 use texts::name_of;
+
+/// The content of a command, under its number.
+#[derive(Clone, Copy, Debug)]
+pub struct NumberedContent {
+    pub number: i64,
+    pub content: Content,
+}
 
 /// What a panel sends by an object.
 #[tactic(auto, unfolding(crate::specs::PanelLine::panel_delivery_in))]
@@ -44,15 +51,8 @@ fn command_in(value: &Value) -> Option<Delivery>
     ensures { result ≡ command_in (view value.now) }
 {
     let members = value.as_object()?;
-    let number = integer_in(value.get("number")?)?;
     let panel = name_in(value.get("panel")?)?;
-    let point = name_in(value.get("point")?)?;
-    let priority = priority_in(value.get("priority"))?;
-    let content = Content {
-        point,
-        priority,
-        value: value_in(value.get("value")?)?,
-    };
+    let NumberedContent { number, content } = numbered_in(value)?;
     if has_only(members, &["number", "panel", "point", "priority", "value"]) {
         Some(Delivery::Command {
             panel,
@@ -62,6 +62,22 @@ fn command_in(value: &Value) -> Option<Delivery>
     } else {
         None
     }
+}
+
+/// What an object tells of a command beside its panel, whatever other keys it has.
+#[tactic(auto, unfolding(crate::specs::PanelLine::numbered_in))]
+pub fn numbered_in(value: &Value) -> Option<NumberedContent>
+    ensures { result ≡ numbered_in (view value.now) }
+{
+    let number = integer_in(value.get("number")?)?;
+    let point = name_in(value.get("point")?)?;
+    let priority = priority_in(value.get("priority"))?;
+    let content = Content {
+        point,
+        priority,
+        value: value_in(value.get("value")?)?,
+    };
+    Some(NumberedContent { number, content })
 }
 
 fn name_in(value: &Value) -> Option<Name>

@@ -9,7 +9,7 @@ use Rattle.store.specs.declared.StoreFault.TheVariants as store
 use Rattle.store.specs.FaultCode.{code_of}
 use Rattle.desk_console.specs.declared.run_fault.RunFault.{RunFault}
 use Rattle.holidays.specs.ImportTexts as holidays
-use Rattle.desk_console.specs.declared.run_fault.RunFault.TheVariants.{Building, CannotRead, Holidays}
+use Rattle.desk_console.specs.declared.run_fault.RunFault.TheVariants.{Building, CannotListen, CannotRead, Holidays}
 use Rattle.desk_console.specs.declared.run_fault.RunFault.TheVariants.{NoMemory, NotDay, NotDelivery}
 use Rattle.desk_console.specs.declared.run_fault.RunFault.TheVariants.{OutputFailed, Store, UnknownTables}
 
@@ -20,6 +20,7 @@ line_of (Building fault) = codes "desk: " ++ fault_line fault
 line_of (NotDelivery line) = codes "desk: line " ++ (decimal line ++ codes " is not a delivery")
 line_of (Holidays fault) = codes "desk: " ++ holidays.fault_line fault
 line_of NotDay = codes "desk: not a day"
+line_of (CannotListen address) = codes "desk: cannot listen on " ++ address.now
 line_of OutputFailed = codes "desk: cannot write"
 line_of NoMemory = codes "desk: out of memory"
 line_of (Store fault) = codes "desk: store fault " ++ code_of fault

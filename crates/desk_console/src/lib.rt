@@ -1,11 +1,11 @@
 //! What do the subcommands of the program have in common?
 //!
 //! Each reads the building of a file (`read_building`), prints texts whole or tells that the output failed
-//! (`print_text`, `flush`), tells a fault as one line (`RunFault`), and ends with a `Status`.
+//! (`print_text`, `flush`, or both by `print_whole`), tells a fault as one line (`RunFault`), and ends with a `Status`.
 #![tactic(auto)]
 
 pub use input::{Input, Listed};
-pub use printing::{flush, print_text};
+pub use printing::{flush, print_text, print_whole};
 pub use reading::read_building;
 pub use run_fault::RunFault;
 pub use status::Status;

@@ -32,3 +32,11 @@ pub fn flush<'a, W: Write>(out: &mut W) -> Result<(), RunFault<'a>>
         Err(_) => Err(RunFault::OutputFailed),
     }
 }
+
+/// Prints a text whole, and flushes it.
+pub fn print_whole<'a, W: Write>(out: &mut W, text: &str) -> Result<(), RunFault<'a>>
+    ensures { OnOk result (Appends (W.contents out.old) (W.contents out.new) text.now) }
+{
+    print_text(out, text.as_bytes())?;
+    flush(out)
+}

@@ -23,6 +23,8 @@ pub enum RunFault<'a> {
     Holidays(ImportFault),
     /// The day of a report is none.
     NotDay,
+    /// Nothing can listen on this address.
+    CannotListen { address: &'a str },
     /// The output failed.
     OutputFailed,
     /// Memory was refused.
@@ -100,6 +102,7 @@ impl fmt::Display for RunFault<'_> {
             RunFault::NotDelivery { line } => write!(f, "desk: line {line} is not a delivery"),
             RunFault::Holidays(fault) => write!(f, "desk: {fault}"),
             RunFault::NotDay => f.write_str("desk: not a day"),
+            RunFault::CannotListen { address } => write!(f, "desk: cannot listen on {address}"),
             RunFault::OutputFailed => f.write_str("desk: cannot write"),
             RunFault::NoMemory => f.write_str("desk: out of memory"),
             RunFault::Store(fault) => write!(f, "desk: store fault {fault}"),

@@ -10,7 +10,7 @@ use building::Building;
 use deliveries::{Delivery, Reply};
 use delivery_lines::ReplyText;
 use desk::Desk;
-use desk_console::{RunFault, flush, print_text};
+use desk_console::{RunFault, print_whole};
 use std::alloc::{AllocError, Global};
 use std::io::Write;
 use store::{Store, StoreFault};
@@ -61,14 +61,6 @@ fn print_reply<'a, W: Write>(alloc: Global, reply: Reply, out: &mut W) -> Result
 {
     let line = reply_line(alloc, reply)?;
     print_whole(out, line.as_str())
-}
-
-/// Prints a text whole, and flushes it.
-pub fn print_whole<'a, W: Write>(out: &mut W, text: &str) -> Result<(), RunFault<'a>>
-    ensures { OnOk result (Appends (W.contents out.old) (W.contents out.new) text.now) }
-{
-    print_text(out, text.as_bytes())?;
-    flush(out)
 }
 
 /// The text of a reply with its line end (LF).

@@ -10,12 +10,12 @@ ghost use Rattle.jiff_core.specs.declared.civil.date.Date.{Date};
 ghost use Rattle.one_delivery.specs.Answered.{Opens};
 ghost use Rattle.one_delivery.specs.Reported.{IsReported, Reports};
 
-use crate::answering::{open_desk, print_whole};
+use crate::answering::open_desk;
 use crate::clock_run::Ended;
 use building::Building;
 use dates::Day;
 use day_reports::read_day;
-use desk_console::{Input, RunFault, Status, read_building};
+use desk_console::{Input, RunFault, Status, print_whole, read_building};
 use std::alloc::Global;
 use std::io::{Read, Write};
 use store::Store;

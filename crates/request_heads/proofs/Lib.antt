@@ -1,1 +1,1 @@
-mod HeadLemmas
+pub mod HeadLemmas

@@ -49,20 +49,20 @@ impl Routes {
         })
     }
 
-    /// The route that a method and a target ask.
-    pub fn find<'a>(&self, method: &str, target: &'a str) -> Option<Route<'a>>
+    /// The route that a method and a target ask. A method is the bytes of its token, with regard to case (RFC 9110).
+    pub fn find<'a>(&self, method: &[u8], target: &'a str) -> Option<Route<'a>>
         ensures { option_map asked_of result ≡ route_of method.now target.now }
     {
         find_among(self.rows_of(method)?, target)
     }
 
     /// The routes of a method.
-    fn rows_of(&self, method: &str) -> Option<&Router<Row>>
+    fn rows_of(&self, method: &[u8]) -> Option<&Router<Row>>
         ensures { option_copied result ≡ rows_of method.now }
     {
         match method {
-            "POST" => Some(&self.posts),
-            "GET" => Some(&self.gets),
+            b"POST" => Some(&self.posts),
+            b"GET" => Some(&self.gets),
             _ => None,
         }
     }

@@ -25,7 +25,7 @@ fn assert_asked(
 ) -> Result<(), Fail> {
     let routes = Routes::new(alloc)?;
     for (target, wanted) in rows {
-        let asked = told(alloc, routes.find(method, target))?;
+        let asked = told(alloc, routes.find(method.as_bytes(), target))?;
         assert_eq!(rt; asked.as_str(), *wanted, "at {target}");
     }
     Ok(())
@@ -130,7 +130,9 @@ fn an_import_may_be_longer(rt: HostRuntime) -> Result<(), Fail> {
         ("GET", "/reports/2025-06-02", None),
     ];
     for (method, target, wanted) in &limits {
-        let route = routes.find(method, target).expect(&rt, "there is a route");
+        let route = routes
+            .find(method.as_bytes(), target)
+            .expect(&rt, "there is a route");
         assert_eq!(rt; route.body_limit(), *wanted, "at {target}");
     }
     Ok(())

@@ -1,0 +1,71 @@
+//! What a head asks.
+
+ghost use Rattle.std.specs.Prelude.{◌≡◌, IsUtf8};
+ghost use Rattle.holidays.specs.Answers.{result_map};
+ghost use Rattle.httparse.specs.Grammar.{RequestHead};
+ghost use Rattle.httparse.specs.Spans.{IsRequestAt, IsRequestWithin};
+ghost use Rattle.request_routes.specs.Routes.{asked_of, route_of};
+ghost use Rattle.asked_routes.specs.AskedRoute.{of_length, route_asked, shown, within_limit};
+
+use httparse::spans::{HeaderSpan, RequestSpans};
+use request_fields::body_length;
+use request_routes::{Route, Routes};
+use response_texts::Refusal;
+use texts::text_of;
+
+/// What a head asks.
+#[derive(Clone, Copy, Debug)]
+pub struct AskedRoute<'a> {
+    pub route: Route<'a>,
+    /// The number of bytes of the body: 0 for a route of GET, past whose head nothing is looked at.
+    pub length: u32,
+}
+
+/// What a head at the buffer's front asks, of which the spans tell the parts. It is refused where its fields tell no
+/// plain length (H2), where no route has its method and target, and where the body is longer than the route takes (H4),
+/// the first of these first.
+pub fn route_asked<'a>(
+    routes: &Routes,
+    buffer: &'a [u8],
+    headers: &[HeaderSpan],
+    spans: &RequestSpans,
+) -> Result<AskedRoute<'a>, Refusal>
+    requires { IsRequestWithin buffer.now headers.now spans.now }
+    ensures { (head : RequestHead) → IsRequestAt buffer.now headers.now spans.now head
+        → result_map shown result ≡ route_asked head }
+{
+    let length = body_length(buffer, &headers[..spans.headers]);
+    asked_by(
+        routes,
+        spans.method.of(buffer),
+        spans.path.of(buffer),
+        length,
+    )
+}
+
+/// What a method and a target ask, with the length of the body if the fields tell one.
+fn asked_by<'a>(
+    routes: &Routes,
+    method: &[u8],
+    target: &'a [u8],
+    length: Option<u32>,
+) -> Result<AskedRoute<'a>, Refusal>
+    ensures { IsUtf8 target.now
+        → result_map shown result ≡ of_length length (route_of method.now target.now) }
+{
+    let length = length.ok_or(Refusal::UnclearLength)?;
+    let target = text_of(target).ok_or(Refusal::NoRoute)?;
+    let route = routes.find(method, target).ok_or(Refusal::NoRoute)?;
+    within_limit(route, length)
+}
+
+/// A route, with a body of this length.
+fn within_limit(route: Route<'_>, length: u32) -> Result<AskedRoute<'_>, Refusal>
+    ensures { result_map shown result ≡ within_limit (asked_of route.entry) length }
+{
+    match route.body_limit() {
+        None => Ok(AskedRoute { route, length: 0 }),
+        Some(limit) if length <= limit => Ok(AskedRoute { route, length }),
+        Some(_) => Err(Refusal::TooLong),
+    }
+}

@@ -1,0 +1,297 @@
+//! Databases in two files that are kept in memory, and disks that meet trouble at a call.
+use crate::faulty_disk::{Faulty, Trouble};
+use crate::scripts::{Script, Told, run};
+use sqlite::{Alter, Connection, FileStore, Options, Row};
+use sqlite_disk::{Crash, Disk, Files, Memory};
+use std::alloc::{AllocError, Global};
+use std::fmt::Write;
+use std::io;
+use std::test::Fail;
+use store_sql::{OpenFault, SqlStore};
+
+/// After so many pages the log is copied into the database file: few, so that it happens in the midst of a script.
+const CHECKPOINT_FRAMES: usize = 16;
+
+// A connection to the database in files; the files where they hold none.
+fn connected<D: Disk + Drop>(
+    alloc: Global,
+    files: Files<D>,
+) -> Result<Connection<FileStore<D>>, Files<D>> {
+    if !files.may_be_used() {
+        return Err(files);
+    }
+    let mut options = Options::new(7);
+    options.checkpoint_frames = CHECKPOINT_FRAMES;
+    match Connection::open_files(alloc, files, options) {
+        Ok(connection) => Ok(connection),
+        Err((_error, left)) => Err(left.into_files()),
+    }
+}
+
+// The store in files; the files where none is opened, with the fault of the tables if the files hold a database.
+fn opened<D: Disk + Drop>(
+    alloc: Global,
+    files: Files<D>,
+) -> Result<SqlStore<FileStore<D>>, (Option<OpenFault>, Files<D>)> {
+    let connection = match connected(alloc, files) {
+        Ok(connection) => connection,
+        Err(files) => return Err((None, files)),
+    };
+    match SqlStore::create_or_open(alloc, connection) {
+        Ok(store) => Ok(store),
+        Err((fault, connection)) => Err((Some(fault), connection.into_store().close())),
+    }
+}
+
+/// The bytes of a database's two files.
+#[derive(Clone, Copy)]
+pub(crate) struct Image<'a> {
+    pub(crate) log: &'a [u8],
+    pub(crate) database: &'a [u8],
+}
+
+impl Image<'static> {
+    /// Empty files.
+    pub(crate) fn empty() -> Image<'static> {
+        Image {
+            log: &[],
+            database: &[],
+        }
+    }
+}
+
+/// One of the two files of a database.
+#[derive(Clone, Copy, Debug)]
+pub(crate) enum File {
+    Log,
+    Database,
+}
+
+/// Where a disk meets trouble: in which file, and after how many calls of it.
+#[derive(Clone, Copy, Debug)]
+pub(crate) struct Place {
+    pub(crate) trouble: Trouble,
+    pub(crate) file: File,
+    pub(crate) calls: u64,
+}
+
+impl Place {
+    /// No disk makes so many calls.
+    pub(crate) fn nowhere() -> Place {
+        Place {
+            trouble: Trouble::Stop,
+            file: File::Log,
+            calls: u64::MAX,
+        }
+    }
+
+    // How many calls of a file pass.
+    fn calls_of(self, file: File) -> u64 {
+        match (self.file, file) {
+            (File::Log, File::Log) | (File::Database, File::Database) => self.calls,
+            _ => u64::MAX,
+        }
+    }
+}
+
+/// The bytes of both files, with what was written since they were synced, and without.
+#[derive(Drop)]
+pub(crate) struct Left {
+    /// Whether a call of a file has failed.
+    pub(crate) has_failed: bool,
+    written_log: Vec<u8>,
+    synced_log: Vec<u8>,
+    written_database: Vec<u8>,
+    synced_database: Vec<u8>,
+}
+
+impl Left {
+    /// What a program that is killed leaves.
+    pub(crate) fn written(&self) -> Image<'_> {
+        Image {
+            log: &self.written_log,
+            database: &self.written_database,
+        }
+    }
+
+    /// What a machine without power leaves.
+    pub(crate) fn synced(&self) -> Image<'_> {
+        Image {
+            log: &self.synced_log,
+            database: &self.synced_database,
+        }
+    }
+
+    /// What a stop may leave: each file with what was not synced, or without.
+    pub(crate) fn images(&self) -> [Image<'_>; 4] {
+        let written = self.written();
+        let synced = self.synced();
+        [
+            written,
+            synced,
+            Image {
+                log: written.log,
+                database: synced.database,
+            },
+            Image {
+                log: synced.log,
+                database: written.database,
+            },
+        ]
+    }
+}
+
+fn memory_of(alloc: Global, bytes: &[u8]) -> io::Result<Memory> {
+    let mut memory = Memory::new(alloc);
+    memory.write_at(0, bytes)?;
+    memory.sync()?;
+    Ok(memory)
+}
+
+fn files_of(alloc: Global, image: Image<'_>, place: Place) -> io::Result<Files<Faulty<Memory>>> {
+    let log = memory_of(alloc, image.log)?;
+    let database = memory_of(alloc, image.database)?;
+    Ok(Files {
+        log: Faulty::new(log, place.trouble, place.calls_of(File::Log)),
+        db: Faulty::new(database, place.trouble, place.calls_of(File::Database)),
+    })
+}
+
+// The bytes of a disk, and those that are left when its machine stops.
+fn bytes_of(alloc: Global, disk: Memory) -> Result<(Vec<u8>, Vec<u8>), AllocError> {
+    let mut disk = disk;
+    let written = Vec::from_slice(alloc, disk.bytes())?;
+    disk.crash();
+    Ok((written, Vec::from_slice(alloc, disk.bytes())?))
+}
+
+// What is left of files, whose machine stops.
+fn left_of(alloc: Global, files: Files<Faulty<Memory>>) -> Result<Left, AllocError> {
+    let Files { log, db } = files;
+    let has_failed = log.has_failed() || db.has_failed();
+    let (written_log, synced_log) = bytes_of(alloc, log.into_inner())?;
+    let (written_database, synced_database) = bytes_of(alloc, db.into_inner())?;
+    Ok(Left {
+        has_failed,
+        written_log,
+        synced_log,
+        written_database,
+        synced_database,
+    })
+}
+
+fn push_refusal(fault: Option<OpenFault>, told: &mut Told) -> Result<(), Fail> {
+    match fault {
+        Some(fault) => writeln!(told.printed, "{fault}")?,
+        None => told.printed.push_str("no database\n")?,
+    }
+    Ok(())
+}
+
+// The files of a store.
+fn closed<D: Disk + Drop>(store: SqlStore<FileStore<D>>) -> Files<D> {
+    store.into_connection().into_store().close()
+}
+
+// Runs a script over the store in files.
+fn run_over<D: Disk + Drop>(
+    alloc: Global,
+    files: Files<D>,
+    script: Script<'_>,
+    told: &mut Told,
+) -> Result<Files<D>, Fail> {
+    match opened(alloc, files) {
+        Ok(store) => Ok(closed(run(alloc, store, script, told)?)),
+        Err((fault, files)) => {
+            push_refusal(fault, told)?;
+            Ok(files)
+        }
+    }
+}
+
+/// Runs a script over the store in files that meet trouble at a place. The store is made where there is none; where none
+/// is opened, that is told in place of the replies.
+pub(crate) fn run_on_disk(
+    alloc: Global,
+    image: Image<'_>,
+    place: Place,
+    script: Script<'_>,
+    told: &mut Told,
+) -> Result<Left, Fail> {
+    let files = run_over(alloc, files_of(alloc, image, place)?, script, told)?;
+    Ok(left_of(alloc, files)?)
+}
+
+fn push_rows(rows: &[Row], text: &mut String) -> Result<(), Fail> {
+    let mut mark = "";
+    for row in rows {
+        write!(text, "{mark}{}", row.get::<i64>(0)?)?;
+        mark = " ";
+    }
+    text.push(';')?;
+    Ok(())
+}
+
+// Asks queries whose rows have one number each, and appends these.
+fn push_answers<S: Alter>(
+    connection: &mut Connection<S>,
+    queries: &[&str],
+    text: &mut String,
+) -> Result<(), Fail> {
+    for query in queries {
+        let rows = connection.query_all(query, &[])?;
+        push_rows(rows.as_slice(), text)?;
+    }
+    Ok(())
+}
+
+fn execute_and_ask<S: Alter>(
+    connection: &mut Connection<S>,
+    statements: &str,
+    queries: &[&str],
+    text: &mut String,
+) -> Result<(), Fail> {
+    connection.execute_batch(statements)?;
+    push_answers(connection, queries, text)
+}
+
+// Executes statements and asks queries, and gives the files back.
+fn run_and_close<D: Disk + Drop>(
+    connection: Connection<FileStore<D>>,
+    statements: &str,
+    queries: &[&str],
+    text: &mut String,
+) -> (Result<(), Fail>, Files<D>) {
+    let mut connection = connection;
+    let done = execute_and_ask(&mut connection, statements, queries, text);
+    (done, connection.into_store().close())
+}
+
+// Executes statements and asks queries over the database in files, and gives these back.
+fn run_without_store<D: Disk + Drop>(
+    alloc: Global,
+    files: Files<D>,
+    statements: &str,
+    queries: &[&str],
+    text: &mut String,
+) -> (Result<(), Fail>, Files<D>) {
+    match connected(alloc, files) {
+        Ok(connection) => run_and_close(connection, statements, queries, text),
+        Err(files) => (Err(Fail::new("no database")), files),
+    }
+}
+
+/// Executes statements on the database in files, without a store, and appends what it answers then to queries: their
+/// rows have one number each.
+pub(crate) fn run_statements(
+    alloc: Global,
+    image: Image<'_>,
+    statements: &str,
+    queries: &[&str],
+    text: &mut String,
+) -> Result<Left, Fail> {
+    let files = files_of(alloc, image, Place::nowhere())?;
+    let (done, files) = run_without_store(alloc, files, statements, queries, text);
+    done?;
+    Ok(left_of(alloc, files)?)
+}

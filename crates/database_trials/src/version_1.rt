@@ -1,0 +1,218 @@
+//! A database of version 1, which other statements made, and a disk that meets trouble while it is opened.
+use crate::disks::{File, Image, Left, Place, run_on_disk, run_statements};
+use crate::faulty_disk::Trouble;
+use crate::scripts::{Script, Told};
+use crate::worked_buildings::WITHOUT_SCHEDULE;
+use std::alloc::{AllocError, Global};
+use std::fmt::Write;
+use std::process::Abort;
+use std::test::Fail;
+
+/// The six tables of version 1, and their first row.
+const TABLES: &str = "
+CREATE TABLE desk (id INTEGER PRIMARY KEY CHECK (id = 1), version INTEGER NOT NULL, last INTEGER) STRICT;
+CREATE TABLE panel (name TEXT PRIMARY KEY NOT NULL, next INTEGER NOT NULL CHECK (next >= 1)) STRICT;
+CREATE TABLE command (panel TEXT NOT NULL, number INTEGER NOT NULL, point TEXT NOT NULL, priority INTEGER NOT NULL, value INTEGER, state INTEGER NOT NULL CHECK (state >= 0 AND state <= 2), a INTEGER, b INTEGER, PRIMARY KEY (panel, number)) STRICT;
+CREATE TABLE place (point TEXT NOT NULL, priority INTEGER NOT NULL CHECK (priority >= 1 AND priority <= 16), value INTEGER NOT NULL, PRIMARY KEY (point, priority)) STRICT;
+CREATE TABLE shown (schedule TEXT PRIMARY KEY NOT NULL, value INTEGER) STRICT;
+CREATE TABLE imported (calendar TEXT NOT NULL, entry TEXT NOT NULL, PRIMARY KEY (calendar, entry)) STRICT;
+INSERT INTO desk VALUES (1, 1, NULL);
+INSERT INTO place VALUES ('LIGHT', 8, 1);
+";
+
+/// The version; the next numbers by panel; how many rows of commands are kept; the least and the greatest number of P1.
+const QUERIES: [&str; 5] = [
+    "SELECT version FROM desk",
+    "SELECT next FROM panel ORDER BY name",
+    "SELECT COUNT(*) FROM command",
+    "SELECT MIN(number) FROM command WHERE panel = 'P1'",
+    "SELECT MAX(number) FROM command WHERE panel = 'P1'",
+];
+
+// Done commands of P1 that switched LIGHT on at 8, with the numbers from 1 to 1,001.
+fn push_commands(statements: &mut String) -> Result<(), Fail> {
+    for number in 1..1002u64 {
+        writeln!(
+            statements,
+            "INSERT INTO command VALUES ('P1', {number}, 'LIGHT', 8, 1, 1, 1, 8);"
+        )?;
+    }
+    Ok(())
+}
+
+// A database of version 1 with 1,001 commands of P1.
+fn with_many_commands(alloc: Global) -> Result<String, Fail> {
+    let mut statements = String::from_str(alloc, "BEGIN;")?;
+    statements.push_str(TABLES)?;
+    statements.push_str("INSERT INTO panel VALUES ('P1', 1002);")?;
+    push_commands(&mut statements)?;
+    statements.push_str("COMMIT;")?;
+    Ok(statements)
+}
+
+/// Commands of two panels, of which two are more than 1,000 below the next number of P1.
+const FEW_COMMANDS: &str = "
+INSERT INTO panel VALUES ('P1', 1005), ('P2', 1002);
+INSERT INTO command VALUES ('P1', 3, 'LIGHT', 8, 1, 1, 1, 8), ('P1', 4, 'LIGHT', 8, 1, 1, 1, 8),
+    ('P1', 5, 'LIGHT', 8, 1, 1, 1, 8), ('P1', 1004, 'LIGHT', 8, 1, 1, 1, 8),
+    ('P2', 2, 'R101-SET', 6, 2000, 2, 4, NULL);
+";
+
+fn with_few_commands(alloc: Global) -> Result<String, AllocError> {
+    format!(in alloc; "BEGIN;{TABLES}{FEW_COMMANDS}COMMIT;")
+}
+
+// The files of a database that statements make.
+fn made_by(alloc: Global, statements: &str) -> Result<Left, Fail> {
+    let mut rows = String::new(alloc);
+    run_statements(alloc, Image::empty(), statements, &[], &mut rows)
+}
+
+// What a database answers to the queries.
+fn rows_in(alloc: Global, image: Image<'_>) -> Result<String, Fail> {
+    let mut rows = String::new(alloc);
+    let _left = run_statements(alloc, image, "", &QUERIES, &mut rows)?;
+    Ok(rows)
+}
+
+fn script(lines: &str) -> Script<'_> {
+    Script {
+        building: WITHOUT_SCHEDULE,
+        lines,
+        points: &[],
+    }
+}
+
+#[test]
+fn answers_of_version_1_are_kept_for_1000_numbers(rt: HostRuntime) -> Result<(), Fail> {
+    let made = made_by(rt.alloc(), with_many_commands(rt.alloc())?.as_str())?;
+    let before = rows_in(rt.alloc(), made.written())?;
+    assert_eq!(rt; before.as_str(), "1;1002;1001;1;1001;");
+    let mut told = Told::new(rt.alloc());
+    let lines = r#"{"number":1,"panel":"P1","point":"LIGHT","priority":8,"value":1}
+{"number":2,"panel":"P1","point":"LIGHT","priority":8,"value":1}"#;
+    let wanted = r#"{"answer":"forgotten","number":1}
+{"answer":"done","number":2,"present":1,"priority":8}
+"#;
+    let left = run_on_disk(
+        rt.alloc(),
+        made.written(),
+        Place::nowhere(),
+        script(lines),
+        &mut told,
+    )?;
+    assert_eq!(rt; told.printed.as_str(), wanted);
+    let after = rows_in(rt.alloc(), left.synced())?;
+    assert_eq!(rt; after.as_str(), "2;1002;1000;2;1001;");
+    Ok(())
+}
+
+/// More calls than the opening makes of one file.
+const MOST_CALLS: u64 = 1000;
+
+/// What the queries answer before the database of few commands is opened, and after.
+const BEFORE: &str = "1;1005 1002;5;3;1004;";
+
+const AFTER: &str = "2;1005 1002;3;5;1004;";
+
+const LINES: &str = r#"{"number":4,"panel":"P1","point":"LIGHT","priority":8,"value":1}
+{"number":5,"panel":"P1","point":"LIGHT","priority":8,"value":1}
+{"number":2,"panel":"P2","point":"R101-SET","priority":6,"value":2000}
+{"number":1,"panel":"P2","point":"R101-SET","priority":9,"value":2000}
+{"number":1005,"panel":"P1","point":"LIGHT","priority":8,"value":0}
+{"number":5,"panel":"P1","point":"LIGHT","priority":8,"value":1}"#;
+
+const REPLIES: &str = r#"{"answer":"forgotten","number":4}
+{"answer":"done","number":5,"present":1,"priority":8}
+{"answer":"refused","number":2,"rule":"X4"}
+{"answer":"forgotten","number":1}
+{"answer":"done","number":1005,"present":0,"priority":8}
+{"answer":"forgotten","number":5}
+"#;
+
+// The files hold the tables of version 1 or those of version 2, and are opened as if nothing had been.
+fn assert_whole(
+    rt: &impl Abort,
+    alloc: Global,
+    image: Image<'_>,
+    is_opened: bool,
+    place: Place,
+) -> Result<(), Fail> {
+    let rows = rows_in(alloc, image)?;
+    let is_old = !is_opened && rows.as_str() == BEFORE;
+    assert!(rt; is_old || rows.as_str() == AFTER, "{place:?} leaves {rows}");
+    let mut told = Told::new(alloc);
+    let left = run_on_disk(alloc, image, Place::nowhere(), script(LINES), &mut told)?;
+    assert_eq!(rt; told.printed.as_str(), REPLIES, "{place:?}");
+    let after = rows_in(alloc, left.synced())?;
+    assert_eq!(rt; after.as_str(), "2;1006 1002;3;1004;1005;", "{place:?}");
+    Ok(())
+}
+
+// Opens the database on a disk that meets trouble at a place. Whether it came to the place.
+fn try_place(rt: &impl Abort, alloc: Global, start: Image<'_>, place: Place) -> Result<bool, Fail> {
+    let mut told = Told::new(alloc);
+    let left = run_on_disk(alloc, start, place, script(""), &mut told)?;
+    let is_opened = told.printed.is_empty();
+    assert!(rt; is_opened || left.has_failed, "{place:?}: {}", told.printed);
+    for image in left.images() {
+        assert_whole(rt, alloc, image, is_opened, place)?;
+    }
+    Ok(left.has_failed)
+}
+
+// Opens the database with trouble after none, one, two and more calls of a file, as far as it comes.
+fn try_places(rt: &impl Abort, alloc: Global, trouble: Trouble, file: File) -> Result<(), Fail> {
+    let made = made_by(alloc, with_few_commands(alloc)?.as_str())?;
+    for calls in 0..MOST_CALLS {
+        let place = Place {
+            trouble,
+            file,
+            calls,
+        };
+        if !try_place(rt, alloc, made.written(), place)? {
+            assert!(rt; calls > 0, "{file:?} is not called");
+            return Ok(());
+        }
+    }
+    Err(Fail::new("the database is never opened"))
+}
+
+#[test]
+fn a_stop_of_the_log_leaves_one_version(rt: HostRuntime) -> Result<(), Fail> {
+    try_places(&rt, rt.alloc(), Trouble::Stop, File::Log)
+}
+
+#[test]
+fn a_stop_of_the_database_file_leaves_one_version(rt: HostRuntime) -> Result<(), Fail> {
+    try_places(&rt, rt.alloc(), Trouble::Stop, File::Database)
+}
+
+#[test]
+fn a_fault_of_the_log_leaves_one_version(rt: HostRuntime) -> Result<(), Fail> {
+    try_places(&rt, rt.alloc(), Trouble::Fault, File::Log)
+}
+
+#[test]
+fn a_fault_of_the_database_file_leaves_one_version(rt: HostRuntime) -> Result<(), Fail> {
+    try_places(&rt, rt.alloc(), Trouble::Fault, File::Database)
+}
+
+#[test]
+fn an_unknown_version_is_refused_and_stays(rt: HostRuntime) -> Result<(), Fail> {
+    let mut statements = with_few_commands(rt.alloc())?;
+    statements.push_str("UPDATE desk SET version = 7;")?;
+    let made = made_by(rt.alloc(), statements.as_str())?;
+    let mut told = Told::new(rt.alloc());
+    let left = run_on_disk(
+        rt.alloc(),
+        made.written(),
+        Place::nowhere(),
+        script(LINES),
+        &mut told,
+    )?;
+    assert_eq!(rt; told.printed.as_str(), "S4\n");
+    let rows = rows_in(rt.alloc(), left.written())?;
+    assert_eq!(rt; rows.as_str(), "7;1005 1002;5;3;1004;");
+    Ok(())
+}

@@ -1,0 +1,49 @@
+//! The worked buildings.
+use std::alloc::{AllocError, Global};
+
+/// The worked building without its calendar and schedule.
+pub(crate) const WITHOUT_SCHEDULE: &str = r#"
+zone = "CET-1CEST,M3.5.0,M10.5.0/3"
+[[point]]
+name = "R101-SET"
+kind = "analog"
+low = 500
+high = 3500
+default = 1800
+[[point]]
+name = "LIGHT"
+kind = "binary"
+default = 0
+[[panel]]
+name = "P1"
+points = ["R101-SET", "LIGHT"]
+priorities = [8, 10]
+[[panel]]
+name = "P2"
+points = ["R101-SET"]
+priorities = [9, 15]
+"#;
+
+const SCHEDULE: &str = r#"
+[[calendar]]
+name = "HOLIDAYS"
+entries = ["2025-12-25"]
+[[schedule]]
+name = "R101-DAY"
+priority = 15
+targets = ["R101-SET"]
+default = 1600
+weekly = [["08:00=2100"], [], [], [], [], [], ["02:45=1900"]]
+"#;
+
+const EXCEPTION: &str = r#"
+[[schedule.exception]]
+priority = 5
+calendar = "HOLIDAYS"
+times = ["00:00=1500"]
+"#;
+
+/// The worked building; `period` is the line of the schedule's effective period, or empty.
+pub(crate) fn worked_building(alloc: Global, period: &str) -> Result<String, AllocError> {
+    format!(in alloc; "{WITHOUT_SCHEDULE}{SCHEDULE}{period}{EXCEPTION}")
+}

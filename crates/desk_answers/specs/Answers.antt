@@ -1,0 +1,94 @@
+-- What the desk answers to a request, and which tables it leaves, after a list of deliveries.
+use Rattle.std.specs.Prelude.{◌≡◌, ◌⊎◌, List, [], ◌∷◌, ◌++◌, Option, Some, None, Result, Ok, Err}
+use Rattle.std.specs.Bool.{IsTrue}
+use Rattle.building.specs.Building.{Building}
+use Rattle.day_reports.specs.DayReport.{report_text}
+use Rattle.deliveries.specs.Delivered.{Holds, LeavesEither}
+use Rattle.deliveries.specs.Reply.{reply}
+use Rattle.deliveries.specs.Tables.{tables}
+use Rattle.deliveries.specs.declared.delivery.Delivery.{Delivery}
+use Rattle.deliveries.specs.declared.reply.Reply.TheVariants as reply_of
+use Rattle.desk.specs.PointState.{state_of}
+use Rattle.desk.specs.declared.point_state.PointState.{PointState}
+use Rattle.points.specs.Rights.{point_named}
+use Rattle.request_bodies.specs.declared.told.BodyTold.{BodyTold}
+use Rattle.request_bodies.specs.declared.told.BodyTold.TheVariants as told
+use Rattle.request_reading.specs.declared.request.Request.{Request}
+use Rattle.request_reading.specs.declared.request.Request.TheVariants.{Point, Refused, Report, Told}
+use Rattle.response_texts.specs.Response.{Said, Says}
+use Rattle.response_texts.specs.Responses.{import_refused_said, no_day_said, no_point_said, point_said}
+use Rattle.response_texts.specs.Responses.{refusal_said, reply_said, report_said}
+use Rattle.response_texts.specs.declared.whole_response.Response.{Response}
+use Rattle.settling.specs.Calendars.{Tells}
+use Rattle.store.specs.Standing.{HasRisen, Standing}
+use Rattle.store.specs.Tables.{Tables, Text}
+use Rattle.store.specs.declared.fault.StoreFault.{StoreFault}
+use Rattle.store.specs.declared.fault.StoreFault.TheVariants as fault
+use Rattle.desk_answers.specs.declared.unanswered.Unanswered.{Unanswered}
+use Rattle.desk_answers.specs.declared.unanswered.Unanswered.TheVariants.{NoMemory, NoReply, Store}
+
+-- ---- what is said
+
+abbrev pub told_said : Building → List Delivery → BodyTold → Said
+told_said b earlier (told.Delivery delivery) = reply_said (reply b earlier delivery)
+told_said b earlier told.NoPanel = reply_said reply_of.NoPanel
+told_said b earlier (told.RefusedImport refused) = import_refused_said refused
+
+abbrev pub state_said : Text → Option PointState → Said
+state_said name None = no_point_said
+state_said name (Some state) = point_said name state.places state.present state.priority
+
+abbrev pub IsPointSaid : Building → Tables → Option Text → Said → Type 0
+IsPointSaid b now None said = said ≡ no_point_said
+IsPointSaid b now (Some name) said = said ≡ state_said name (state_of (now.places name) (point_named b.points name))
+
+-- to a request, over the tables of the deliveries before it
+abbrev pub IsSaid : Building → List Delivery → Request → Said → Type 0
+IsSaid b earlier (Refused refusal) said = said ≡ refusal_said refusal
+IsSaid b earlier (Told it) said = said ≡ told_said b earlier it
+IsSaid b earlier (Point name) said = IsPointSaid b (tables b earlier) name said
+IsSaid b earlier (Report None) said = said ≡ no_day_said
+IsSaid b earlier (Report (Some day)) said = (imported : Text → List Text) → Tells (tables b earlier).imported imported
+    → said ≡ report_said (report_text b imported (tables b earlier).places day)
+
+-- ---- what is left
+
+-- the deliveries with what a request delivers, if it delivers something
+abbrev pub with_told : List Delivery → BodyTold → List Delivery
+with_told earlier (told.Delivery delivery) = earlier ++ delivery ∷ []
+with_told earlier told.NoPanel = earlier
+with_told earlier (told.RefusedImport refused) = earlier
+
+abbrev pub after : List Delivery → Request → List Delivery
+after earlier (Refused refusal) = earlier
+after earlier (Told it) = with_told earlier it
+after earlier (Point name) = earlier
+after earlier (Report day) = earlier
+
+-- a store that has failed in this call is shut, and opened again it holds the one or the other; one that was shut
+-- before holds what it held
+pub record HasFailed (b : Building) (earlier later : List Delivery) (old now : Standing) : Type 0 where
+  pub is_shut : IsTrue now.is_shut
+  pub risen : HasRisen old.failures now.failures
+  pub leaves : LeavesEither b earlier later now
+
+abbrev pub StoreEnds : Building → List Delivery → List Delivery → Standing → Standing → Type 0
+StoreEnds b earlier later old now = HasFailed b earlier later old now ⊎ (IsTrue old.is_shut × Holds b earlier now)
+
+abbrev pub of_fault : StoreFault → Unanswered
+of_fault fault.NoMemory = NoMemory
+of_fault fault.Failed = Store
+of_fault fault.Shut = Store
+of_fault fault.BadRow = Store
+
+-- without an answer
+abbrev pub Leaves : Building → List Delivery → List Delivery → Unanswered → Standing → Standing → Type 0
+Leaves b earlier later NoMemory old now = Holds b earlier now
+Leaves b earlier later NoReply old now = Holds b later now
+Leaves b earlier later Store old now = StoreEnds b earlier later old now
+
+-- a request is answered
+abbrev pub Answers : Building → List Delivery → Request → Result Response Unanswered → Standing → Standing → Type 0
+Answers b earlier request (Ok response) old now =
+    (said : Said) × Says said response × IsSaid b earlier request said × Holds b (after earlier request) now
+Answers b earlier request (Err unanswered) old now = Leaves b earlier (after earlier request) unanswered old now

@@ -1,0 +1,75 @@
+//! The answer to a request.
+
+ghost use Rattle.std.specs.Prelude.{◌≡◌, List};
+ghost use Rattle.deliveries.specs.declared.delivery.Delivery.{Delivery as a_delivery};
+ghost use Rattle.deliveries.specs.Delivered.{Holds};
+ghost use Rattle.desk_answers.specs.Answers.{Answers};
+ghost use Rattle.request_bodies.specs.declared.told.BodyTold.TheVariants as told;
+ghost use Rattle.request_reading.specs.declared.request.Request.TheVariants as asked;
+
+use crate::Unanswered;
+use crate::looking::{point_answer, report_answer};
+use deliveries::{Delivery, Reply};
+use desk::Desk;
+use request_bodies::BodyTold;
+use request_reading::Request;
+use response_texts::{Response, import_refused_response, reply_response};
+use std::alloc::Global;
+use store::Store;
+
+/// Answers a request: delivers what it tells, or looks at what it asks for.
+pub fn answer<S: Store + Drop>(
+    alloc: Global,
+    desk: &mut Desk<S>,
+    request: &Request,
+) -> Result<Response, Unanswered>
+    ensures answers { (earlier : List a_delivery) → (S.standing desk.new.store).is_honest
+        → Holds desk.old.building earlier (S.standing desk.old.store)
+        → Answers desk.old.building earlier request.now result (S.standing desk.old.store) (S.standing desk.new.store) }
+    ensures honest { (S.standing desk.new.store).is_honest → (S.standing desk.old.store).is_honest }
+    ensures building { desk.new.building ≡ desk.old.building }
+{
+    match request {
+        Request::Refused(refusal) => refusal.response(alloc).or(Err(Unanswered::NoMemory)),
+        Request::Told(told) => told_answer(alloc, desk, told),
+        Request::Point(name) => point_answer(alloc, desk, *name),
+        Request::Report(day) => report_answer(alloc, desk, *day),
+    }
+}
+
+/// Answers what a body tells.
+fn told_answer<S: Store + Drop>(
+    alloc: Global,
+    desk: &mut Desk<S>,
+    told: &BodyTold,
+) -> Result<Response, Unanswered>
+    ensures answers { (earlier : List a_delivery) → (S.standing desk.new.store).is_honest
+        → Holds desk.old.building earlier (S.standing desk.old.store)
+        → Answers desk.old.building earlier (asked.Told told.now) result (S.standing desk.old.store) (S.standing desk.new.store) }
+    ensures honest { (S.standing desk.new.store).is_honest → (S.standing desk.old.store).is_honest }
+    ensures building { desk.new.building ≡ desk.old.building }
+{
+    match told {
+        BodyTold::Delivery(delivery) => delivery_answer(alloc, desk, delivery),
+        BodyTold::NoPanel => reply_response(alloc, Reply::NoPanel).or(Err(Unanswered::NoMemory)),
+        BodyTold::RefusedImport(fault) => {
+            import_refused_response(alloc, *fault).or(Err(Unanswered::NoMemory))
+        }
+    }
+}
+
+/// Carries out a delivery, and answers its reply.
+fn delivery_answer<S: Store + Drop>(
+    alloc: Global,
+    desk: &mut Desk<S>,
+    delivery: &Delivery,
+) -> Result<Response, Unanswered>
+    ensures answers { (earlier : List a_delivery) → (S.standing desk.new.store).is_honest
+        → Holds desk.old.building earlier (S.standing desk.old.store)
+        → Answers desk.old.building earlier (asked.Told (told.Delivery delivery.now)) result (S.standing desk.old.store) (S.standing desk.new.store) }
+    ensures honest { (S.standing desk.new.store).is_honest → (S.standing desk.old.store).is_honest }
+    ensures building { desk.new.building ≡ desk.old.building }
+{
+    let reply = desk.deliver(delivery)?;
+    reply_response(alloc, reply).or(Err(Unanswered::NoReply))
+}

@@ -1,0 +1,90 @@
+-- What the bytes of an input get of the desk, and which tables are left, after a list of deliveries.
+use Rattle.std.specs.Prelude.{◌≡◌, ◌<◌, ◌⊎◌, ℕ, List, [], length, string_bytes, Option, Some, None, Result, Ok, Err}
+use Rattle.std.specs.Io.KnownBytes.{Appends, Keeps}
+use Rattle.building.specs.Building.{Building}
+use Rattle.counted.specs.Counting.{Lost, Rises}
+use Rattle.deliveries.specs.Delivered.{Holds}
+use Rattle.deliveries.specs.declared.delivery.Delivery.{Delivery}
+use Rattle.desk_answers.specs.Answers.{IsSaid, StoreEnds, after}
+use Rattle.desk_answers.specs.declared.unanswered.Unanswered.{Unanswered}
+use Rattle.desk_answers.specs.declared.unanswered.Unanswered.TheVariants as unanswered
+use Rattle.request_reading.specs.Requests.{IsRequest}
+use Rattle.request_reading.specs.declared.request.Request.{Request}
+use Rattle.response_texts.specs.Response.{Said, response_text}
+use Rattle.response_texts.specs.Responses.{no_memory_said, store_said}
+use Rattle.response_texts.specs.declared.whole_response.Response.{Response}
+use Rattle.store.specs.Standing.{Standing}
+use Rattle.panel_http.specs.declared.served.Served.{Served}
+use Rattle.panel_http.specs.declared.served.Served.TheVariants.{Answered, NoReply, NoRequest, ReplyLost}
+
+abbrev pub Text : Type 0
+Text = List ℕ
+
+-- the status and the text of what is said
+abbrev pub IsOf : Said → ℕ → Text → Type 0
+IsOf said status text = (status ≡ said.status) × (text ≡ response_text said)
+
+-- ---- what is told, and what the store holds then
+
+-- the response of the definitions to what the bytes ask, and the tables with what they deliver
+pub record Responds (b : Building) (earlier : List Delivery) (bytes : Text) (status : ℕ) (text : Text) (now : Standing) : Type 0 where
+  pub request : Request
+  pub is_request : IsRequest b bytes request
+  pub said : Said
+  pub is_said : IsSaid b earlier request said
+  pub is_told : IsOf said status text
+  pub holds : Holds b (after earlier request) now
+
+-- memory was refused, and nothing is delivered
+pub record LacksMemory (b : Building) (earlier : List Delivery) (status : ℕ) (text : Text) (now : Standing) : Type 0 where
+  pub is_told : IsOf no_memory_said status text
+  pub holds : Holds b earlier now
+
+-- the store failed in this call, or was shut
+pub record LacksStore (b : Building) (earlier : List Delivery) (bytes : Text) (status : ℕ) (text : Text) (old now : Standing) : Type 0 where
+  pub request : Request
+  pub is_request : IsRequest b bytes request
+  pub is_told : IsOf store_said status text
+  pub ends : StoreEnds b earlier (after earlier request) old now
+
+abbrev pub Tells : Building → List Delivery → Text → ℕ → Text → Standing → Standing → Type 0
+Tells b earlier bytes status text old now =
+    Responds b earlier bytes status text now
+    ⊎ (LacksMemory b earlier status text now ⊎ LacksStore b earlier bytes status text old now)
+
+-- nothing is told, and the tables are those with what the bytes deliver
+pub record IsSilent (b : Building) (earlier : List Delivery) (bytes : Text) (now : Standing) : Type 0 where
+  pub request : Request
+  pub is_request : IsRequest b bytes request
+  pub holds : Holds b (after earlier request) now
+
+-- ---- what is written
+
+-- One request: a response was written whole; or a write failed, and a beginning of one was; or a read failed, or
+-- there was no byte; or memory for the response was refused. Of the reader the counts of failures before and after,
+-- of the writer what it holds and its counts, and how the store stands.
+abbrev pub Serves : Building → List Delivery → Text → ℕ → ℕ → Option Text → Option Text → ℕ → ℕ → Standing → Standing → Served → Type 0
+Serves b earlier bytes read_before read_after held holds before now old new (Answered status) =
+    (0 < length bytes) × (text : Text) × Appends held holds text × Tells b earlier bytes status text old new
+Serves b earlier bytes read_before read_after held holds before now old new ReplyLost =
+    (0 < length bytes) × (status : ℕ) × (text : Text) × Lost held holds text before now × Tells b earlier bytes status text old new
+Serves b earlier bytes read_before read_after held holds before now old new NoRequest =
+    (Rises read_before read_after ⊎ (bytes ≡ [])) × Keeps held holds × Holds b earlier new
+Serves b earlier bytes read_before read_after held holds before now old new NoReply =
+    (0 < length bytes) × Keeps held holds × IsSilent b earlier bytes new
+
+-- ---- how an answer is written
+
+-- the status and the text of an answer
+abbrev pub written : Result Response Unanswered → Option (ℕ × Text)
+written (Ok response) = Some (response.status, string_bytes response.text)
+written (Err unanswered.NoMemory) = Some (503, response_text no_memory_said)
+written (Err unanswered.Store) = Some (500, response_text store_said)
+written (Err unanswered.NoReply) = None
+
+abbrev pub Writes : Option (ℕ × Text) → Option Text → Option Text → ℕ → ℕ → Served → Type 0
+Writes told held holds before now (Answered status) = (text : Text) × (told ≡ Some (status, text)) × Appends held holds text
+Writes told held holds before now ReplyLost =
+    (status : ℕ) × (text : Text) × (told ≡ Some (status, text)) × Lost held holds text before now
+Writes told held holds before now NoRequest = ⊥
+Writes told held holds before now NoReply = (told ≡ None) × Keeps held holds

@@ -1,0 +1,41 @@
+//! A request, served.
+
+ghost use Rattle.std.specs.Prelude.{◌≡◌, ℕ, List, Some};
+ghost use Rattle.deliveries.specs.declared.delivery.Delivery.{Delivery as a_delivery};
+ghost use Rattle.deliveries.specs.Delivered.{Holds};
+ghost use Rattle.panel_http.specs.Serving.{Serves};
+
+use crate::Served;
+use crate::writing::write_answer;
+use counted::Counted;
+use desk::Desk;
+use desk_answers::{Unanswered, answer};
+use request_reading::{Unread, read_request};
+use std::alloc::Global;
+use std::io::{Read, Write};
+use store::Store;
+
+/// Reads one request, carries out what it tells, and writes one response.
+pub fn serve_one<R: Read, W: Write, S: Store + Drop>(
+    alloc: Global,
+    reader: &mut Counted<R>,
+    writer: &mut Counted<W>,
+    desk: &mut Desk<S>,
+) -> Served
+    ensures serves { (bytes : List ℕ) (earlier : List a_delivery) → R.remaining reader.old.inner ≡ Some bytes
+        → (S.standing desk.new.store).is_honest → Holds desk.old.building earlier (S.standing desk.old.store)
+        → Serves desk.old.building earlier bytes reader.old.failures reader.new.failures
+        (W.contents writer.old.inner) (W.contents writer.new.inner) writer.old.failures writer.new.failures
+        (S.standing desk.old.store) (S.standing desk.new.store) result }
+    ensures honest { (S.standing desk.new.store).is_honest → (S.standing desk.old.store).is_honest }
+    ensures building { desk.new.building ≡ desk.old.building }
+{
+    match read_request(alloc, desk.building(), reader) {
+        Ok(request) => {
+            let told = answer(alloc, desk, &request);
+            write_answer(writer, told)
+        }
+        Err(Unread::NoMemory) => write_answer(writer, Err(Unanswered::NoMemory)),
+        Err(Unread::NoInput | Unread::Lost) => Served::NoRequest,
+    }
+}

@@ -1,0 +1,84 @@
+//! A request, read.
+
+ghost use Rattle.std.specs.Prelude.{◌≤◌, ◌++◌, length, take, drop, IfSome};
+ghost use Rattle.httparse.specs.Grammar.{RequestHead};
+ghost use Rattle.httparse.specs.Spans.{IsRequestAt, IsRequestWithin};
+ghost use Rattle.asked_routes.specs.AskedRoute.{shown};
+ghost use Rattle.request_reading.specs.Requests.{Asks, AsksBy, Counts, IsAsked, Reads};
+
+use crate::telling::request_told;
+use crate::{Request, Unread};
+use asked_routes::{AskedRoute, route_asked};
+use body_reading::{BodySeen, read_body};
+use building::Building;
+use counted::Counted;
+use httparse::spans::{EMPTY_HEADER_SPAN, HeaderSpan};
+use request_heads::{FoundHead, Seen, read_head};
+use request_routes::Routes;
+use response_texts::Refusal;
+use std::alloc::Global;
+use std::io::Read;
+
+/// Reads a request to the desk of a building. How the input is cut into reads doesn't matter, and no byte past the
+/// request's end is waited for. A read that fails is not made again.
+pub fn read_request<R: Read>(
+    alloc: Global,
+    building: &Building,
+    reader: &mut Counted<R>,
+) -> Result<Request, Unread>
+    ensures reads { IfSome (R.remaining reader.old.inner) (λ bytes. Reads building.now bytes result) }
+    ensures failures { Counts reader.old.failures reader.new.failures result }
+{
+    let mut buffer = [0; 8_192];
+    let mut headers = [EMPTY_HEADER_SPAN; 64];
+    match read_head(reader, &mut buffer, &mut headers) {
+        Seen::Head(found) => read_after(alloc, building, reader, &buffer, &headers, &found),
+        Seen::NoHead => Ok(Request::Refused(Refusal::NoHead)),
+        Seen::NoInput => Err(Unread::NoInput),
+        Seen::Lost => Err(Unread::Lost),
+    }
+}
+
+/// Reads what a head asks for, of which the spans tell the parts.
+fn read_after<R: Read>(
+    alloc: Global,
+    building: &Building,
+    reader: &mut Counted<R>,
+    buffer: &[u8],
+    headers: &[HeaderSpan],
+    found: &FoundHead,
+) -> Result<Request, Unread>
+    requires filled { found.now.filled ≤ length buffer.now }
+    requires within { IsRequestWithin (take found.now.filled buffer.now) headers.now found.now.spans }
+    ensures asks { (head : RequestHead) → IsRequestAt (take found.now.filled buffer.now) headers.now found.now.spans head
+        → IfSome (R.remaining reader.old.inner) (λ left. AsksBy building.now head
+        (drop found.now.spans.len (take found.now.filled buffer.now) ++ left) result) }
+    ensures failures { Counts reader.old.failures reader.new.failures result }
+{
+    let read = &buffer[..found.filled];
+    let routes = Routes::new(alloc)?;
+    match route_asked(&routes, read, headers, &found.spans) {
+        Ok(asked) => read_asked(alloc, building, reader, &read[found.spans.len..], &asked),
+        Err(refusal) => Ok(Request::Refused(refusal)),
+    }
+}
+
+/// Reads the body that a route takes, of which a beginning came with the head.
+fn read_asked<R: Read>(
+    alloc: Global,
+    building: &Building,
+    reader: &mut Counted<R>,
+    start: &[u8],
+    asked: &AskedRoute<'_>,
+) -> Result<Request, Unread>
+    ensures asks { IfSome (R.remaining reader.old.inner)
+        (λ left. Asks building.now (shown asked.now) (start.now ++ left) result) }
+    ensures failures { Counts reader.old.failures reader.new.failures result }
+{
+    let mut body = vec![in alloc; 0u8; asked.length as usize]?;
+    match read_body(reader, start, &mut body) {
+        BodySeen::Whole => Ok(request_told(alloc, building, &asked.route, body.as_slice())?),
+        BodySeen::Cut => Ok(Request::Refused(Refusal::CutBody)),
+        BodySeen::Lost => Err(Unread::Lost),
+    }
+}
