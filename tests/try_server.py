@@ -298,7 +298,7 @@ def curl_gets_each_route(program, folder):
     with serving(program, folder, 6) as server:
         base = f"http://{server.address}"
         expect(curl(server, "--data", COMMAND.decode(), f"{base}/panels/P1/commands"), b'{"answer":"done","number":1,"present":2150,"priority":8} 200')
-        expect(curl(server, "--data", '{"upto":4}', f"{base}/panels/P1/skip"), b'{"answer":"skip","next":5} 200')
+        expect(curl(server, "--data", '{"upto":4}', f"{base}/panels/P1/skip"), b'{"answer":"skip","next":4} 200')
         expect(curl(server, "--data", '{"at":174884400000}', f"{base}/tick"), b'{"answer":"tick","writes":1} 200')
         expect(curl(server, "--data-binary", f"@{folder}/holidays.csv", f"{base}/imports"), b'{"added":1,"answer":"import","known":0,"writes":0} 200')
         expect(curl(server, f"{base}/points/LIGHT")[-40:], b'"point":"LIGHT","present":0,"priority":0} 200'[-40:])
