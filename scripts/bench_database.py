@@ -150,4 +150,5 @@ def main():
         print("the plain program was not built: it wants g++ and libsqlite3")
 
 
-main()
+if __name__ == "__main__":
+    main()
