@@ -193,6 +193,36 @@ def each_delivery_gets_its_reply_and_status(program, folder):
         server.end()
 
 
+QUIET_REPORT = b"""DAY 2025-07-01 tue
+SCHEDULE R101-DAY quiet
+00:00:00.00         1600
+POINT R101-SET                                2100 15
+POINT LIGHT                                      0  0
+"""
+HOLIDAY_REPORT = b"""DAY 2025-12-25 thu
+SCHEDULE R101-DAY active
+00:00:00.00         1500
+POINT R101-SET                                1800  0
+POINT LIGHT                                      0  0
+"""
+
+
+def a_day_is_reported(program, folder):
+    with serving(program, folder, 1) as server:
+        expect(server.ask(get("/reports/2025-12-25")), response(200, HOLIDAY_REPORT, "text/plain"))
+        server.end()
+
+
+def a_quiet_schedule_is_reported(program, folder):
+    named = 'name = "R101-DAY"\n'
+    (folder / "building.toml").write_text(tables.WORKED.replace(named, named + 'period = "2025-06-01..2025-06-30"\n'))
+    with serving(program, folder, 3) as server:
+        expect(server.ask(post("/tick", b'{"at":175126320000}')), response(200, b'{"answer":"tick","writes":1}'))
+        expect(server.ask(post("/tick", b'{"at":175132080000}')), response(200, b'{"answer":"tick","writes":0}'))
+        expect(server.ask(get("/reports/2025-07-01")), response(200, QUIET_REPORT, "text/plain"))
+        server.end()
+
+
 def a_repeat_after_a_kill_gets_the_first_answer(program, folder):
     with serving(program, folder, 10) as server:
         expect(server.ask(REQUEST), RESPONSE)
@@ -310,6 +340,8 @@ TESTS = [
     a_request_is_answered_however_it_is_cut,
     each_request_gets_its_answer,
     each_delivery_gets_its_reply_and_status,
+    a_day_is_reported,
+    a_quiet_schedule_is_reported,
     a_repeat_after_a_kill_gets_the_first_answer,
     a_tick_of_the_clock_comes_before_each_request,
     no_client_holds_the_desk,

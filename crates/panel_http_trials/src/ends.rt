@@ -1,0 +1,55 @@
+//! Inputs and outputs of a connection.
+use std::alloc::Global;
+use std::io::{self, Read, Write};
+
+/// An input that gives at most `size` bytes in one read, and then ends or fails.
+#[derive(Drop)]
+pub struct Pieces<'a> {
+    pub text: &'a [u8],
+    pub size: usize,
+    pub fails: bool,
+}
+
+impl Read for Pieces<'_> {
+    fn read(&mut self, buffer: &mut [u8]) -> io::Result<usize> {
+        if self.text.is_empty() && self.fails {
+            return Err(io::Error::from(io::ErrorKind::ConnectionReset));
+        }
+        let count = self.text.len().min(self.size);
+        let mut piece = &self.text[..count];
+        let taken = piece.read(buffer)?;
+        self.text = &self.text[taken..];
+        Ok(taken)
+    }
+}
+
+/// An output with room for so many bytes, which fails when it is full.
+#[derive(Drop)]
+pub struct Page {
+    pub text: Vec<u8>,
+    pub room: usize,
+}
+
+impl Page {
+    pub fn new(alloc: Global, room: usize) -> Page {
+        Page {
+            text: Vec::new(alloc),
+            room,
+        }
+    }
+}
+
+impl Write for Page {
+    fn write(&mut self, bytes: &[u8]) -> io::Result<usize> {
+        let count = bytes.len().min(self.room);
+        if count == 0 || self.text.extend_from_slice(&bytes[..count]).is_err() {
+            return Err(io::Error::from(io::ErrorKind::BrokenPipe));
+        }
+        self.room -= count;
+        Ok(count)
+    }
+
+    fn flush(&mut self) -> io::Result<()> {
+        Ok(())
+    }
+}
