@@ -29,6 +29,7 @@ wrong-bodies: | toolchain
 bench: build/desk
 	@python3 scripts/bench.py
 	@python3 scripts/bench_database.py
+	@python3 scripts/bench_server.py
 	@cd crates/sched_bench && rt run -- measure 2> /dev/null
 
 install: build/desk

@@ -1,9 +1,10 @@
 -- What the words of a command line ask of the program, by `clap`'s own reading of them.
-use Rattle.std.specs.Prelude.{◌&&◌, true, ℤ, negsuc, pos, List, Option, None, Some, codes}
+use Rattle.std.specs.Prelude.{◌&&◌, false, true, Bool, ℕ, ℤ, negsuc, pos, List, Option, None, Some, codes}
 use Rattle.std.specs.Prelude.{if◌then◌else◌, option_and_then, option_map}
 use Rattle.std.specs.Str.{bytes_eq}
 use Rattle.std.specs.Str.Parse.{signed_digits_value, without_leading_sign}
 use Rattle.clap.specs.ValueTests.{fits_i64, is_numeral}
+use Rattle.clap.specs.declared.builder.action.ArgAction.TheVariants.{SetTrue}
 use Rattle.clap.specs.Words.{App, Row, Rule, Text, first_of, new_app, new_rule, subcommand_of}
 use Rattle.clap.specs.Words.{with_rule, with_subcommand}
 use Rattle.clap.specs.Simple.{on_top}
@@ -51,14 +52,35 @@ report_app =
     with_rule (with_rule (with_rule (new_app (codes "report")) (needed_rule (codes "file")))
     (needed_rule (codes "database"))) (needed_rule (codes "date"))
 
+-- an option with a number from 1 to 1,000,000, and a flag
+abbrev pub requests_rule : Rule
+requests_rule = record (needed_rule (codes "requests")) { long = Some (codes "requests"); parser = Some (vp.Unsigned 1 1_000_000) }
+
+abbrev pub clock_rule : Rule
+clock_rule = record (new_rule (codes "clock")) { long = Some (codes "clock"); action = Some SetTrue }
+
+-- `serve FILE DB ADDRESS`
+abbrev pub served_app : App
+served_app =
+    with_rule (with_rule (with_rule (new_app (codes "serve")) (needed_rule (codes "file")))
+    (needed_rule (codes "database"))) (needed_rule (codes "address"))
+
+-- `serve FILE DB ADDRESS --requests N [--clock]`
+abbrev pub serve_app : App
+serve_app = with_rule (with_rule served_app requests_rule) clock_rule
+
 -- `desk`, which needs a subcommand, with those that use no database
 abbrev pub memory_app : App
 memory_app = with_subcommand (with_subcommand
     (on_top (λ s. record s { subcommand_required = true }) (new_app (codes "desk"))) check_app.top) replay_app.top
 
+-- the same with those that deliver to one
+abbrev pub clock_app : App
+clock_app = with_subcommand (with_subcommand memory_app import_app.top) tick_app.top
+
 -- `desk`
 abbrev pub desk_app : App
-desk_app = with_subcommand (with_subcommand (with_subcommand memory_app import_app.top) tick_app.top) report_app.top
+desk_app = with_subcommand (with_subcommand clock_app report_app.top) serve_app.top
 
 -- ---- what they ask
 
@@ -69,6 +91,7 @@ pub data Asked : Type 0 where
   Import : (file : Text) → (database : Text) → (holidays : Text) → Asked
   Tick : (file : Text) → (database : Text) → (at : ℤ) → Asked
   Report : (file : Text) → (database : Text) → (date : Text) → Asked
+  Serve : (file : Text) → (database : Text) → (address : Text) → (requests : ℕ) → (clock : Bool) → Asked
 
 abbrev pub asked_of : Line → Asked
 asked_of (line.Check file) = Check file.now
@@ -76,12 +99,26 @@ asked_of (line.Replay file deliveries) = Replay file.now deliveries.now
 asked_of (line.Import file database holidays) = Import file.now database.now holidays.now
 asked_of (line.Tick file database at) = Tick file.now database.now at
 asked_of (line.Report file database date) = Report file.now database.now date.now
+asked_of (line.Serve file database address requests clock) = Serve file.now database.now address.now requests clock
 
 -- the number that a text writes in decimal digits, if it is an i64
 abbrev pub moment_in : Text → Option ℤ
 moment_in text =
     let at = signed_digits_value 10 text in
     if is_numeral (without_leading_sign text) && fits_i64 at then Some at else None
+
+-- the same where it is not below 0
+abbrev pub count_of : ℤ → Option ℕ
+count_of (pos n) = Some n
+count_of (negsuc n) = None
+
+abbrev pub count_in : Text → Option ℕ
+count_in text = option_and_then count_of (moment_in text)
+
+-- whether a flag was among the words
+abbrev pub is_told : Option Text → Bool
+is_told (Some text) = bytes_eq text (codes "true")
+is_told None = false
 
 abbrev pub check_in : List Row → Option Asked
 check_in rows = option_map Check (first_of (codes "file") rows)
@@ -106,6 +143,12 @@ report_in rows = option_and_then (λ file. option_and_then (λ database.
     option_map (λ date. Report file database date)
     (first_of (codes "date") rows)) (first_of (codes "database") rows)) (first_of (codes "file") rows)
 
+abbrev pub serve_in : List Row → Option Asked
+serve_in rows = option_and_then (λ file. option_and_then (λ database. option_and_then (λ address.
+    option_map (λ requests. Serve file database address requests (is_told (first_of (codes "clock") rows)))
+    (option_and_then count_in (first_of (codes "requests") rows)))
+    (first_of (codes "address") rows)) (first_of (codes "database") rows)) (first_of (codes "file") rows)
+
 -- what a subcommand's name and the rows of its arguments ask
 abbrev pub asked_in : Text × List Row → Option Asked
 asked_in (name, rows) =
@@ -113,7 +156,8 @@ asked_in (name, rows) =
     else (if bytes_eq name (codes "replay") then replay_in rows
     else (if bytes_eq name (codes "import") then import_in rows
     else (if bytes_eq name (codes "tick") then tick_in rows
-    else (if bytes_eq name (codes "report") then report_in rows else None))))
+    else (if bytes_eq name (codes "report") then report_in rows
+    else (if bytes_eq name (codes "serve") then serve_in rows else None)))))
 
 -- what the words ask, the program's name first
 abbrev pub asked : List Text → Option Asked

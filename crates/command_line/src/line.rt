@@ -8,12 +8,13 @@ ghost use Rattle.clap.specs.declared.builder.command.Command.TheViews.{out-Comma
 ghost use Rattle.command_line.specs.ArgFault.{IsRefusedBy};
 ghost use Rattle.command_line.specs.Line.{asked, asked_in, asked_of, check_app, check_in, desk_app};
 ghost use Rattle.command_line.specs.Line.{import_app, import_in, memory_app, moment_in};
-ghost use Rattle.command_line.specs.Line.{needed_rule, number_rule};
+ghost use Rattle.command_line.specs.Line.{clock_app, clock_rule, count_in, count_of, is_told, needed_rule, number_rule, requests_rule};
+ghost use Rattle.command_line.specs.Line.{serve_app, serve_in, served_app};
 ghost use Rattle.command_line.specs.Line.{replay_app, replay_in, report_app, report_in, tick_app, tick_in};
 
 use crate::ArgFault;
 use clap::error::ErrorKind;
-use clap::{Arg, ArgMatches, Command};
+use clap::{Arg, ArgAction, ArgMatches, Command};
 use std::alloc::{AllocError, Global};
 
 /// What the words of a command line ask of the program.
@@ -58,6 +59,19 @@ pub enum Line<'a> {
         /// The day, as `YYYY-MM-DD`.
         date: &'a str,
     },
+    /// `serve FILE DB ADDRESS --requests N [--clock]`: answers requests to the desk of a database.
+    Serve {
+        /// The path of the building file.
+        file: &'a str,
+        /// The path of the database.
+        database: &'a str,
+        /// The address to listen on, an IP address or a host's name, and a port.
+        address: &'a str,
+        /// After how many connections it ends, from 1 to 1,000,000.
+        requests: u64,
+        /// Whether a tick of the machine's clock comes before each request.
+        clock: bool,
+    },
 }
 
 impl<'a> Line<'a> {
@@ -83,10 +97,18 @@ impl<'a> Line<'a> {
 fn desk_command<'a>(alloc: Global) -> Result<Command<'a>, AllocError>
     ensures { IfOk result (λ c. app_of c ≡ desk_app) }
 {
+    clock_command(alloc)?
+        .subcommand(report_command(alloc)?)?
+        .subcommand(serve_command(alloc)?)
+}
+
+/// The command `desk` without the subcommands that answer who asks.
+fn clock_command<'a>(alloc: Global) -> Result<Command<'a>, AllocError>
+    ensures { IfOk result (λ c. app_of c ≡ clock_app) }
+{
     memory_command(alloc)?
         .subcommand(import_command(alloc)?)?
-        .subcommand(tick_command(alloc)?)?
-        .subcommand(report_command(alloc)?)
+        .subcommand(tick_command(alloc)?)
 }
 
 /// The command `desk` with the subcommands that use no database.
@@ -157,6 +179,28 @@ fn report_command<'a>(alloc: Global) -> Result<Command<'a>, AllocError>
         .arg(date_argument(alloc))
 }
 
+/// The subcommand `serve FILE DB ADDRESS --requests N [--clock]`.
+fn serve_command<'a>(alloc: Global) -> Result<Command<'a>, AllocError>
+    ensures app { IfOk result (λ c. app_of c ≡ serve_app) }
+    ensures local { IfOk result (λ c. (fields_of c).has_globals ≡ false) }
+{
+    served_command(alloc)?
+        .arg(requests_argument(alloc))?
+        .arg(clock_argument(alloc))
+}
+
+/// The subcommand `serve` with what it takes by its place.
+fn served_command<'a>(alloc: Global) -> Result<Command<'a>, AllocError>
+    ensures app { IfOk result (λ c. app_of c ≡ served_app) }
+    ensures local { IfOk result (λ c. (fields_of c).has_globals ≡ false) }
+{
+    Command::new(alloc, "serve")
+        .about("Answers the requests of wall panels and of who asks, over HTTP")
+        .arg(file_argument(alloc))?
+        .arg(database_argument(alloc))?
+        .arg(address_argument(alloc))
+}
+
 /// The path of the building file.
 fn file_argument<'a>(alloc: Global) -> Arg<'a>
     ensures rule { rule_of result ≡ needed_rule (codes "file") }
@@ -224,6 +268,41 @@ fn date_argument<'a>(alloc: Global) -> Arg<'a>
         .help("The day, as YYYY-MM-DD")
 }
 
+/// The address to listen on.
+fn address_argument<'a>(alloc: Global) -> Arg<'a>
+    ensures rule { rule_of result ≡ needed_rule (codes "address") }
+    ensures local { result.global ≡ false }
+{
+    Arg::new(alloc, "address")
+        .required(true)
+        .value_name("ADDRESS")
+        .help("The address to listen on, with its port, as 127.0.0.1:8080")
+}
+
+/// The number of connections.
+fn requests_argument<'a>(alloc: Global) -> Arg<'a>
+    ensures rule { rule_of result ≡ requests_rule }
+    ensures local { result.global ≡ false }
+{
+    Arg::new(alloc, "requests")
+        .long("requests")
+        .required(true)
+        .value_name("N")
+        .value_parser(clap::value_parser!(u64).range(1..1_000_001))
+        .help("After how many connections to end, from 1 to 1000000")
+}
+
+/// Whether ticks come from the machine's clock.
+fn clock_argument<'a>(alloc: Global) -> Arg<'a>
+    ensures rule { rule_of result ≡ clock_rule }
+    ensures local { result.global ≡ false }
+{
+    Arg::new(alloc, "clock")
+        .long("clock")
+        .action(ArgAction::SetTrue)
+        .help("Delivers a tick of the machine's clock before each request")
+}
+
 /// What the subcommand that was met asks, or `None` where a value is missing.
 fn line_in<'a>(matches: &ArgMatches<'a>) -> Option<Line<'a>>
     ensures { option_map asked_of result ≡ option_and_then asked_in (subcommand_rows_of matches.now) }
@@ -235,6 +314,7 @@ fn line_in<'a>(matches: &ArgMatches<'a>) -> Option<Line<'a>>
         "import" => import_line(inner),
         "tick" => tick_line(inner),
         "report" => report_line(inner),
+        "serve" => serve_line(inner),
         _ => None,
     }
 }
@@ -292,6 +372,48 @@ fn report_line<'a>(matches: &ArgMatches<'a>) -> Option<Line<'a>>
         database,
         date,
     })
+}
+
+/// What the arguments of `serve` ask.
+fn serve_line<'a>(matches: &ArgMatches<'a>) -> Option<Line<'a>>
+    ensures { option_map asked_of result ≡ serve_in (rows_of (found_of matches.now)) }
+{
+    let file = text_at(matches, "file")?;
+    let database = text_at(matches, "database")?;
+    let address = text_at(matches, "address")?;
+    let requests = count_at(matches, "requests")?;
+    let clock = is_told(matches, "clock");
+    Some(Line::Serve {
+        file,
+        database,
+        address,
+        requests,
+        clock,
+    })
+}
+
+/// The value of an argument, as a count.
+fn count_at(matches: &ArgMatches<'_>, id: &str) -> Option<u64>
+    ensures { result ≡ option_and_then count_in (first_of id.now (rows_of (found_of matches.now))) }
+{
+    count_of(moment_in(text_at(matches, id)?)?)
+}
+
+/// The number that is not below 0.
+fn count_of(number: i64) -> Option<u64>
+    ensures { result ≡ count_of number }
+{
+    u64::try_from(number).ok()
+}
+
+/// Whether a flag was among the words.
+fn is_told(matches: &ArgMatches<'_>, id: &str) -> bool
+    ensures { result ≡ is_told (first_of id.now (rows_of (found_of matches.now))) }
+{
+    match text_at(matches, id) {
+        Some(text) => text == "true",
+        None => false,
+    }
 }
 
 /// The value of an argument, as a moment.

@@ -1,6 +1,7 @@
 //! The runs of the subcommands that take a database.
 use crate::database_file::open_store;
 use desk_console::{Input, Status};
+use desk_serving::{Serving, serve};
 use one_delivery::{import, report, tick};
 use std::fs;
 use std::io::{self, BufWriter};
@@ -49,4 +50,21 @@ pub fn run_report(rt: &HostRuntime, file: &str, database: &str, date: &str) -> i
     };
     let opener = || open_store(rt, database);
     Ok(report(alloc, building, opener, date, &mut out, &mut rt.stderr()).status)
+}
+
+/// Runs `desk serve`: the building's file and the database by their paths, and what the server is asked to do.
+pub fn run_serve(rt: &HostRuntime, file: &str, database: &str, serving: &Serving<'_>) -> Status {
+    let building = Input {
+        path: file,
+        reader: fs::open(rt, file),
+    };
+    let opener = || open_store(rt, database);
+    serve(
+        rt,
+        building,
+        opener,
+        serving,
+        &mut io::writer(rt),
+        &mut rt.stderr(),
+    )
 }

@@ -5,7 +5,8 @@ use command_line::{ArgFault, Line};
 use desk_check::check;
 use desk_cli::replay;
 use desk_console::{Input, Listed, Status};
-use desk_database::{run_import, run_report, run_tick};
+use desk_database::{run_import, run_report, run_serve, run_tick};
+use desk_serving::Serving;
 use std::env;
 use std::fs::{self, File};
 use std::io::{self, BufReader, BufWriter, Write};
@@ -101,6 +102,24 @@ fn run(rt: &HostRuntime, words: &[String]) -> io::Result<Status> {
                 date,
             },
         ) => run_report(rt, file, database, date),
+        Ok(
+            Line::Serve {
+                file,
+                database,
+                address,
+                requests,
+                clock,
+            },
+        ) => Ok(run_serve(
+            rt,
+            file,
+            database,
+            &Serving {
+                address,
+                requests,
+                clock,
+            },
+        )),
         Err(fault) => Ok(refuse(rt, &fault)),
     }
 }

@@ -17,7 +17,7 @@ use store::Store;
 /// what becomes of a reply ends nothing, but one that the store failed at, which ends the run with its status.
 ///
 /// With `clock`, a tick at the machine clock's moment is delivered before each request is read.
-pub fn serve_connections<S: Store + Drop>(
+pub(crate) fn serve_connections<S: Store + Drop>(
     rt: &HostRuntime,
     desk: &mut Desk<S>,
     listener: &TcpListener,

@@ -1,60 +1,13 @@
 //! Requests and their responses.
-use crate::ends::{Page, Pieces};
-use building::Building;
-use counted::Counted;
+use crate::asking::{COMMAND, HEAD, ask, desk, serve};
+use crate::ends::Pieces;
 use desk::Desk;
 use http::StatusCode;
-use panel_http::{Served, serve_one};
+use panel_http::Served;
 use std::alloc::Global;
 use std::process::Abort;
 use std::test::Fail;
 use store::MemStore;
-
-/// The worked building.
-const BUILDING: &str = r#"
-zone = "CET-1CEST,M3.5.0,M10.5.0/3"
-[[point]]
-name = "R101-SET"
-kind = "analog"
-low = 500
-high = 3500
-default = 1800
-[[point]]
-name = "LIGHT"
-kind = "binary"
-default = 0
-[[panel]]
-name = "P1"
-points = ["R101-SET", "LIGHT"]
-priorities = [8, 10]
-[[panel]]
-name = "P2"
-points = ["R101-SET"]
-priorities = [9, 15]
-[[calendar]]
-name = "HOLIDAYS"
-entries = ["2025-12-25"]
-[[schedule]]
-name = "R101-DAY"
-priority = 15
-targets = ["R101-SET"]
-default = 1600
-weekly = [["08:00=2100"], [], [], [], [], [], ["02:45=1900"]]
-[[schedule.exception]]
-priority = 5
-calendar = "HOLIDAYS"
-times = ["00:00=1500"]
-"#;
-
-/// A command of P1, and its response.
-const COMMAND: &str =
-    "POST /panels/P1/commands HTTP/1.1\r\nHost: desk\r\nContent-Length: 57\r\n\r\n{\"number\":1,\"point\":\"R101-SET\",\"priority\":8,\"value\":2150}";
-
-const DONE: &str =
-    "HTTP/1.1 200 OK\r\nContent-Type: application/json\r\nContent-Length: 56\r\nConnection: close\r\n\r\n{\"answer\":\"done\",\"number\":1,\"present\":2150,\"priority\":8}";
-
-/// How long the command's head is.
-const HEAD: usize = 69;
 
 /// A request, and what it gets: the status, and the body with its length.
 #[derive(Clone, Copy)]
@@ -175,52 +128,6 @@ POINT R101-SET                                2100 15
 POINT LIGHT                                      0  0
 ";
 
-/// A desk of the building over a store without rows.
-fn desk(alloc: Global) -> Result<Desk<MemStore>, Fail> {
-    let building = Building::read(alloc, BUILDING.as_bytes())?;
-    match Desk::open(alloc, building, MemStore::new(alloc)) {
-        Ok(desk) => Ok(desk),
-        Err((fault, _store)) => Err(fault.into()),
-    }
-}
-
-/// What a request that comes in pieces gets on a page with so much room.
-fn serve(
-    alloc: Global,
-    desk: &mut Desk<MemStore>,
-    input: Pieces<'_>,
-    room: usize,
-) -> (Served, Vec<u8>) {
-    let mut reader = Counted::new(input);
-    let mut writer = Counted::new(Page::new(alloc, room));
-    let served = serve_one(alloc, &mut reader, &mut writer, desk);
-    (served, writer.into_inner().text)
-}
-
-/// What a whole request gets.
-fn ask(alloc: Global, desk: &mut Desk<MemStore>, request: &str, size: usize) -> (Served, Vec<u8>) {
-    let input = Pieces {
-        text: request.as_bytes(),
-        size,
-        fails: false,
-    };
-    serve(alloc, desk, input, 10_000)
-}
-
-#[test]
-fn a_command_in_any_pieces_gets_its_response(rt: HostRuntime) -> Result<(), Fail> {
-    for size in 1..COMMAND.len() + 1 {
-        let mut desk = desk(rt.alloc())?;
-        let (served, text) = ask(rt.alloc(), &mut desk, COMMAND, size);
-        assert!(rt;
-            served == Served::Answered(StatusCode::OK),
-            "in pieces of {size}"
-        );
-        assert!(rt; text.as_slice() == DONE.as_bytes(), "in pieces of {size}");
-    }
-    Ok(())
-}
-
 fn assert_answered(
     rt: &impl Abort,
     alloc: Global,
@@ -285,23 +192,6 @@ fn a_cut_body_is_not_delivered(rt: HostRuntime) -> Result<(), Fail> {
         assert_answered(&rt, rt.alloc(), &mut desk, &request)?;
     }
     assert_answered(&rt, rt.alloc(), &mut desk, &before)
-}
-
-#[test]
-fn a_lost_reply_is_told_again(rt: HostRuntime) -> Result<(), Fail> {
-    let mut desk = desk(rt.alloc())?;
-    let input = Pieces {
-        text: COMMAND.as_bytes(),
-        size: 1_000,
-        fails: false,
-    };
-    let (served, text) = serve(rt.alloc(), &mut desk, input, 10);
-    assert!(rt; served == Served::ReplyLost);
-    assert!(rt; text.as_slice() == b"HTTP/1.1 2".as_slice());
-    let (served, text) = ask(rt.alloc(), &mut desk, COMMAND, 1_000);
-    assert!(rt; served == Served::Answered(StatusCode::OK));
-    assert!(rt; text.as_slice() == DONE.as_bytes());
-    Ok(())
 }
 
 #[test]

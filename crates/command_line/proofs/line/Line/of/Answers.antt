@@ -1,7 +1,11 @@
-use Rattle.std.proofs.Common.{◌≡◌, ◌∙◌, List, [], Result, Ok, Err, map, string_bytes, sym, ap}
-use Rattle.std.specs.Prelude.{IfOk}
-use Rattle.clap.specs.Words.{App, Text, app_of, fault_of, is_simple_and_free}
-use Rattle.command_line.specs.Line.{desk_app}
+use Rattle.std.proofs.Common.{◌≡◌, ◌∙◌, List, [], Result, Ok, Err, map, string_bytes, sym, ap, subst}
+use Rattle.std.specs.Prelude.{IfOk, Some, option_and_then, option_map}
+use Rattle.std.specs.Result.{result_ok}
+use Rattle.clap.specs.Words.{App, Text, app_of, fault_of, is_simple, is_simple_and_free, subcommand_of, subcommand_rows_of}
+use Rattle.command_line.specs.ArgFault.{IsRefusedBy}
+use Rattle.command_line.specs.declared.arg_fault.ArgFault.{ArgFault}
+use Rattle.command_line.specs.declared.line.Line.{Line}
+use Rattle.command_line.specs.Line.{asked, asked_in, asked_of, desk_app}
 use Rattle.command_line.proofs.line.Line.of.Goals as goal
 
 -- what holds at all holds at an `Ok`
@@ -9,9 +13,29 @@ of_any : {T E : Type 0} (r : Result T E) (P : Type 0) → P → IfOk r (λ _. P)
 of_any {T} {E} (Ok x) P p = p
 of_any {T} {E} (Err e) P p = tt
 
+-- what is asked by the line, if there is one
+of_told : (words : List Text) (r : Result Line ArgFault) → option_map asked_of (result_ok r) ≡ asked words → IfOk r (λ line. asked words ≡ Some (asked_of line))
+of_told words (Ok line) is = sym is
+of_told words (Err fault) is = tt
+
 pub returns-in-Ok-clause-takes : goal.returns-in-Ok-clause-takes
 returns-in-Ok-clause-takes c =
     let app_is : app_of c.in_ok-desk.desk ≡ desk_app = c.in_ok-desk.ensures in
     let words : List Text = map string_bytes c.args.words.now in
     of_any c.ok_or.result (fault_of desk_app words ≡ [])
     (ap (λ (app : App). fault_of app words) (sym app_is) ∙ c.in-Ok.ensures.kinds (ap is_simple_and_free app_is))
+
+pub returns-in-Ok-clause-asks : goal.returns-in-Ok-clause-asks
+returns-in-Ok-clause-asks c =
+    let app_is : app_of c.in_ok-desk.desk ≡ desk_app = c.in_ok-desk.ensures in
+    let words : List Text = map string_bytes c.args.words.now in
+    let rows : subcommand_rows_of c.in-Ok.matches ≡ subcommand_of desk_app words =
+    (c.in-Ok.ensures.matches (ap is_simple app_is)).1 ∙ ap (λ (app : App). subcommand_of app words) app_is in
+    of_told words c.ok_or.result (ap (option_map asked_of) (sym c.ok_or.ensures.ok_part) ∙ c.line_in.ensures ∙ ap (option_and_then asked_in) rows)
+
+pub returns-in-Err-clause-refuses : goal.returns-in-Err-clause-refuses
+returns-in-Err-clause-refuses c =
+    let app_is : app_of c.in_ok-desk.desk ≡ desk_app = c.in_ok-desk.ensures in
+    let words : List Text = map string_bytes c.args.words.now in
+    subst (λ (app : App). IsRefusedBy (fault_of app words) c.fault_in.result) app_is
+    (c.fault_in.ensures (fault_of (app_of c.in_ok-desk.desk) words) (c.in-Err.ensures.kinds (ap is_simple_and_free app_is)))

@@ -1,0 +1,109 @@
+//! Desks of the worked building, the worked request, and how a desk is asked.
+use crate::ends::{Page, Pieces};
+use building::Building;
+use counted::Counted;
+use desk::Desk;
+use panel_http::{Served, serve_one};
+use sqlite::Connection;
+use std::alloc::Global;
+use std::test::Fail;
+use store::{MemStore, Store};
+use store_sql::SqlStore;
+
+/// The worked building.
+const BUILDING: &str = r#"
+zone = "CET-1CEST,M3.5.0,M10.5.0/3"
+[[point]]
+name = "R101-SET"
+kind = "analog"
+low = 500
+high = 3500
+default = 1800
+[[point]]
+name = "LIGHT"
+kind = "binary"
+default = 0
+[[panel]]
+name = "P1"
+points = ["R101-SET", "LIGHT"]
+priorities = [8, 10]
+[[panel]]
+name = "P2"
+points = ["R101-SET"]
+priorities = [9, 15]
+[[calendar]]
+name = "HOLIDAYS"
+entries = ["2025-12-25"]
+[[schedule]]
+name = "R101-DAY"
+priority = 15
+targets = ["R101-SET"]
+default = 1600
+weekly = [["08:00=2100"], [], [], [], [], [], ["02:45=1900"]]
+[[schedule.exception]]
+priority = 5
+calendar = "HOLIDAYS"
+times = ["00:00=1500"]
+"#;
+
+/// A command of P1.
+pub(crate) const COMMAND: &str =
+    "POST /panels/P1/commands HTTP/1.1\r\nHost: desk\r\nContent-Length: 57\r\n\r\n{\"number\":1,\"point\":\"R101-SET\",\"priority\":8,\"value\":2150}";
+
+/// The response to the command.
+pub(crate) const DONE: &str =
+    "HTTP/1.1 200 OK\r\nContent-Type: application/json\r\nContent-Length: 56\r\nConnection: close\r\n\r\n{\"answer\":\"done\",\"number\":1,\"present\":2150,\"priority\":8}";
+
+/// How long the command's head is.
+pub(crate) const HEAD: usize = 69;
+
+/// A desk of the building over a store without rows.
+fn desk_over<S: Store + Drop>(alloc: Global, store: S) -> Result<Desk<S>, Fail> {
+    let building = Building::read(alloc, BUILDING.as_bytes())?;
+    match Desk::open(alloc, building, store) {
+        Ok(desk) => Ok(desk),
+        Err((fault, _store)) => Err(fault.into()),
+    }
+}
+
+/// A desk whose tables stand in memory.
+pub(crate) fn desk(alloc: Global) -> Result<Desk<MemStore>, Fail> {
+    desk_over(alloc, MemStore::new(alloc))
+}
+
+/// A desk whose tables stand in a database.
+pub(crate) fn database_desk(alloc: Global) -> Result<Desk<SqlStore<sqlite::MemStore>>, Fail> {
+    let connection = Connection::open_in_memory(alloc)?;
+    match SqlStore::create(alloc, connection) {
+        Ok(store) => desk_over(alloc, store),
+        Err((fault, _connection)) => Err(fault.into()),
+    }
+}
+
+/// What a request that comes in pieces gets on a page with so much room.
+pub(crate) fn serve<S: Store + Drop>(
+    alloc: Global,
+    desk: &mut Desk<S>,
+    input: Pieces<'_>,
+    room: usize,
+) -> (Served, Vec<u8>) {
+    let mut reader = Counted::new(input);
+    let mut writer = Counted::new(Page::new(alloc, room));
+    let served = serve_one(alloc, &mut reader, &mut writer, desk);
+    (served, writer.into_inner().text)
+}
+
+/// What a whole request gets.
+pub(crate) fn ask<S: Store + Drop>(
+    alloc: Global,
+    desk: &mut Desk<S>,
+    request: &str,
+    size: usize,
+) -> (Served, Vec<u8>) {
+    let input = Pieces {
+        text: request.as_bytes(),
+        size,
+        fails: false,
+    };
+    serve(alloc, desk, input, 10_000)
+}

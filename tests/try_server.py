@@ -1,0 +1,378 @@
+#!/usr/bin/env python3
+"""Tries `desk serve` over the loopback, as panels and as curl would, and with requests that are broken.
+
+Usage: try_server.py PROGRAM
+
+Each test has a folder and a server of its own, on a free port of 127.0.0.1. What is wanted are the texts of the
+documented requests and replies. The last line printed is `N passed, M failed`.
+"""
+import contextlib
+import pathlib
+import random
+import shutil
+import socket
+import sqlite3
+import subprocess
+import sys
+import tempfile
+import time
+
+import tables
+
+SECONDS = 60
+# What a connection may take, and how much later a busy machine may tell.
+LIMIT, GRACE = 5, 3
+BROKEN = 2_000
+REASONS = {200: "OK", 202: "Accepted", 400: "Bad Request", 404: "Not Found", 409: "Conflict", 410: "Gone",
+           422: "Unprocessable Entity", 500: "Internal Server Error", 503: "Service Unavailable"}
+COMMAND = b'{"number":1,"point":"R101-SET","priority":8,"value":2150}'
+REQUEST = b"POST /panels/P1/commands HTTP/1.1\r\nHost: desk\r\nContent-Length: 57\r\n\r\n" + COMMAND
+RESPONSE = (b"HTTP/1.1 200 OK\r\nContent-Type: application/json\r\nContent-Length: 56\r\nConnection: close\r\n\r\n"
+            b'{"answer":"done","number":1,"present":2150,"priority":8}')
+POINT = (b'{"answer":"point","places":[null,null,null,null,null,null,null,2150,null,null,null,null,null,null,null,null],'
+         b'"point":"R101-SET","present":2150,"priority":8}')
+REPORT = b"""DAY 2025-06-02 mon
+SCHEDULE R101-DAY active
+00:00:00.00         1600
+08:00:00.00         2100
+POINT R101-SET                                2100 15
+POINT LIGHT                                      0  0
+"""
+
+
+def response(status, body, content="application/json"):
+    head = f"HTTP/1.1 {status} {REASONS[status]}\r\nContent-Type: {content}\r\nContent-Length: {len(body)}\r\nConnection: close\r\n\r\n"
+    return head.encode() + body
+
+
+def refused(fault):
+    return response(400, f'{{"answer":"bad_request","fault":"{fault}"}}'.encode())
+
+
+def post(target, body, fields=""):
+    return f"POST {target} HTTP/1.1\r\n{fields}Content-Length: {len(body)}\r\n\r\n".encode() + body
+
+
+def get(target):
+    return f"GET {target} HTTP/1.1\r\nHost: desk\r\n\r\n".encode()
+
+
+def expect(found, wanted):
+    if found != wanted:
+        raise AssertionError(f"{found!r}, wanted {wanted!r}")
+
+
+class Server:
+    """A desk that serves a database of the folder, for so many connections."""
+
+    def __init__(self, program, folder, requests, *more):
+        with socket.create_server(("127.0.0.1", 0)) as free:
+            self.port = free.getsockname()[1]
+        self.address = f"127.0.0.1:{self.port}"
+        words = [program, "serve", "building.toml", "desk.db", self.address, "--requests", str(requests), *more]
+        self.ran = subprocess.Popen(words, cwd=folder, stdout=subprocess.PIPE, stderr=subprocess.PIPE)
+        expect(self.ran.stdout.readline(), f"listening {self.address}\n".encode())
+
+    def connect(self):
+        return socket.create_connection(("127.0.0.1", self.port), timeout=SECONDS)
+
+    def ask(self, *pieces):
+        """What is answered to the pieces of a request, which are sent one after the other."""
+        with self.connect() as connection:
+            connection.setsockopt(socket.IPPROTO_TCP, socket.TCP_NODELAY, 1)
+            # the server may have answered before it took all
+            with contextlib.suppress(OSError):
+                for place, piece in enumerate(pieces):
+                    if place:
+                        time.sleep(0.002)
+                    connection.sendall(piece)
+                connection.shutdown(socket.SHUT_WR)
+            return read_all(connection)
+
+    def end(self, status=0, told=b""):
+        out, err = self.ran.communicate(timeout=SECONDS)
+        expect((self.ran.returncode, out, err), (status, b"", told))
+
+    def stop(self):
+        self.ran.kill()
+        self.ran.communicate()
+
+
+def read_all(connection):
+    found = b""
+    with contextlib.suppress(ConnectionResetError):
+        while piece := connection.recv(65_536):
+            found += piece
+    return found
+
+
+@contextlib.contextmanager
+def serving(program, folder, requests, *more):
+    server = Server(program, folder, requests, *more)
+    try:
+        yield server
+    finally:
+        server.stop()
+
+
+def rows(folder, statement):
+    with contextlib.closing(sqlite3.connect(folder / "desk.db")) as connection:
+        return connection.execute(statement).fetchall()
+
+
+# ---- what panels get
+
+def a_request_is_answered_however_it_is_cut(program, folder):
+    with serving(program, folder, len(REQUEST)) as server:
+        for cut in range(1, len(REQUEST)):
+            expect(server.ask(REQUEST[:cut], REQUEST[cut:]), RESPONSE)
+        expect(server.ask(REQUEST), RESPONSE)
+        server.end()
+    expect(rows(folder, "SELECT * FROM place"), [("R101-SET", 8, 2150)])
+
+
+ASKED = [
+    (get("/points/R101-SET"), response(200, POINT)),
+    (get("/points/NOPE"), response(404, b'{"answer":"no_point"}')),
+    (get("/points/R101%2DSET"), response(404, b'{"answer":"no_point"}')),
+    (b"PUT /tick HTTP/1.1\r\n\r\n", response(404, b'{"answer":"no_route"}')),
+    (get("/tick"), response(404, b'{"answer":"no_route"}')),
+    (get("/points/"), response(404, b'{"answer":"no_route"}')),
+    (post("/panels/P9/commands", COMMAND), response(404, b'{"answer":"no_panel"}')),
+    (post("/panels/P%209/commands", COMMAND), response(404, b'{"answer":"no_panel"}')),
+    (post("/panels/P9/commands", b"{"), refused("H6")),
+    (post("/panels/P1/commands", b'{"number":1,"panel":"P1","point":"LIGHT","value":1}'), refused("H6")),
+    (b"POST /tick HTTP/1.1\r\nContent-Length: 8\r\nContent-Length: 8\r\n\r\n", refused("H2")),
+    (b"POST /tick HTTP/1.1\r\ncontent-length: 8 8\r\n\r\n", refused("H2")),
+    (b"POST /tick HTTP/1.1\r\nTransfer-Encoding: chunked\r\n\r\n0\r\n\r\n", refused("H2")),
+    (b"POST /panels/P1/commands HTTP/1.1\r\nContent-Length: 65537\r\n\r\n", refused("H4")),
+    (b"POST /imports HTTP/1.0\r\nContent-Length: 262145\r\n\r\n", refused("H4")),
+    (b"POST /tick HTTP/1.1\r\nContent-Length: 9\r\n\r\n{\"at\":1}", refused("H5")),
+    (b"POST /tick HTTP/1.1\r\n\r\n", refused("H6")),
+    (b"GET /tick", refused("H1")),
+    (b"\0", refused("H1")),
+    (get("/" + "a" * 8_192), refused("H1")),
+    (get("/reports/2025-02-30"), response(404, b'{"answer":"no_day"}')),
+    (get("/reports/2155-01-01"), response(404, b'{"answer":"no_day"}')),
+    (get("/reports/2025-6-2"), response(404, b'{"answer":"no_day"}')),
+]
+
+
+def each_request_gets_its_answer(program, folder):
+    with serving(program, folder, len(ASKED) + 1) as server:
+        expect(server.ask(REQUEST), RESPONSE)
+        for request, wanted in ASKED:
+            expect((request, server.ask(request)), (request, wanted))
+        server.end()
+    expect(rows(folder, "SELECT panel, number FROM command"), [("P1", 1)])
+
+
+DELIVERED = [
+    ("/panels/P1/commands", b'{"number":2,"point":"R101-SET","priority":8,"value":null}', 202, b'{"answer":"parked","next":1,"number":2}'),
+    ("/panels/P1/commands", b'{"number":2,"point":"R101-SET","priority":8,"value":2000}', 409, b'{"answer":"differs","number":2}'),
+    ("/panels/P1/commands", b'{"number":65,"point":"LIGHT","priority":8,"value":1}', 409, b'{"answer":"too_far","next":1,"number":65}'),
+    ("/panels/P1/commands", b'{"number":0,"point":"LIGHT","priority":8,"value":1}', 400, b'{"answer":"bad_number"}'),
+    ("/panels/P1/skip", b'{"upto":2}', 200, b'{"answer":"skip","next":3}'),
+    ("/panels/P1/commands", b'{"number":1,"point":"LIGHT","priority":8,"value":1}', 410, b'{"answer":"skipped","number":1}'),
+    ("/panels/P1/commands", b'{"number":3,"point":"LIGHT","priority":6,"value":1}', 422, b'{"answer":"refused","number":3,"rule":"X4"}'),
+    ("/tick", b'{"at":174884399999}', 200, b'{"answer":"tick","writes":1}'),
+    ("/tick", b'{"at":174884400000}', 200, b'{"answer":"tick","writes":1}'),
+    ("/tick", b'{"at":174884400000}', 200, b'{"answer":"old","writes":0}'),
+    ("/tick", b'{"at":-1}', 400, b'{"answer":"bad_moment"}'),
+    ("/imports", b"calendar,entry\nHOLIDAYS,2025-06-09\n", 200, b'{"added":1,"answer":"import","known":0,"writes":0}'),
+    ("/imports", b"calendar,entry\nHOLIDAYS,2025-06-09\nNOSUCH,2025-06-10\n", 422, b'{"answer":"import_refused","fault":"I3","record":3}'),
+]
+
+
+def each_delivery_gets_its_reply_and_status(program, folder):
+    with serving(program, folder, len(DELIVERED) + 1) as server:
+        for target, body, status, reply in DELIVERED:
+            expect((body, server.ask(post(target, body))), (body, response(status, reply)))
+        expect(len(REPORT), 202)
+        expect(server.ask(get("/reports/2025-06-02")), response(200, REPORT, "text/plain"))
+        server.end()
+
+
+QUIET_REPORT = b"""DAY 2025-07-01 tue
+SCHEDULE R101-DAY quiet
+00:00:00.00         1600
+POINT R101-SET                                2100 15
+POINT LIGHT                                      0  0
+"""
+HOLIDAY_REPORT = b"""DAY 2025-12-25 thu
+SCHEDULE R101-DAY active
+00:00:00.00         1500
+POINT R101-SET                                1800  0
+POINT LIGHT                                      0  0
+"""
+
+
+def a_day_is_reported(program, folder):
+    with serving(program, folder, 1) as server:
+        expect(server.ask(get("/reports/2025-12-25")), response(200, HOLIDAY_REPORT, "text/plain"))
+        server.end()
+
+
+def a_quiet_schedule_is_reported(program, folder):
+    named = 'name = "R101-DAY"\n'
+    (folder / "building.toml").write_text(tables.WORKED.replace(named, named + 'period = "2025-06-01..2025-06-30"\n'))
+    with serving(program, folder, 3) as server:
+        expect(server.ask(post("/tick", b'{"at":175126320000}')), response(200, b'{"answer":"tick","writes":1}'))
+        expect(server.ask(post("/tick", b'{"at":175132080000}')), response(200, b'{"answer":"tick","writes":0}'))
+        expect(server.ask(get("/reports/2025-07-01")), response(200, QUIET_REPORT, "text/plain"))
+        server.end()
+
+
+def a_repeat_after_a_kill_gets_the_first_answer(program, folder):
+    with serving(program, folder, 10) as server:
+        expect(server.ask(REQUEST), RESPONSE)
+    with serving(program, folder, 2) as server:
+        expect(server.ask(REQUEST), RESPONSE)
+        expect(server.ask(get("/points/R101-SET")), response(200, POINT))
+        server.end()
+
+
+def a_tick_of_the_clock_comes_before_each_request(program, folder):
+    before = int(time.time() * 100)
+    with serving(program, folder, 1, "--clock") as server:
+        expect(server.ask(get("/points/LIGHT"))[:15], b"HTTP/1.1 200 OK")
+        server.end()
+    (last,), = rows(folder, "SELECT last FROM desk")
+    if not before - 100 <= last <= int(time.time() * 100) + 100:
+        raise AssertionError(f"the last tick is {last}")
+
+
+# ---- who holds the desk up
+
+def no_client_holds_the_desk(program, folder):
+    """One client stalls in the head, one in the body, one doesn't take its reply, and one sends a byte now and then."""
+    with serving(program, folder, 5) as server, contextlib.ExitStack() as open_ones:
+        begun = time.monotonic()
+        stalled = [open_ones.enter_context(server.connect()) for _ in range(4)]
+        stalled[0].sendall(REQUEST[:20])
+        stalled[1].sendall(REQUEST[:-1])
+        stalled[2].sendall(get("/points/NOPE"))
+        slow = stalled[3]
+        for byte in REQUEST[:8]:
+            slow.sendall(bytes([byte]))
+            time.sleep(0.2)
+        expect(server.ask(REQUEST), RESPONSE)
+        spent = time.monotonic() - begun
+        if spent > 4 * LIMIT + GRACE:
+            raise AssertionError(f"the next client waited {spent:.1f} seconds")
+        server.end()
+
+
+def a_client_that_leaves_ends_nothing(program, folder):
+    with serving(program, folder, 4) as server:
+        server.connect().close()
+        with server.connect() as connection:
+            connection.sendall(REQUEST)
+            connection.setsockopt(socket.SOL_SOCKET, socket.SO_LINGER, b"\1\0\0\0\0\0\0\0")
+        with server.connect() as connection:
+            connection.sendall(REQUEST[:40])
+        expect(server.ask(REQUEST), RESPONSE)
+        server.end()
+
+
+def broken(rng):
+    """A request with some bytes changed, taken out, put in or cut off."""
+    request = bytearray(rng.choice([REQUEST, *(request for request, _ in ASKED)]))
+    for _ in range(rng.randint(1, 4)):
+        place = rng.randrange(len(request) + 1)
+        request[place:place + rng.randint(0, 3)] = rng.choice([b"", b"\r\n", b"\0", b" ", bytes([rng.randrange(256)])])
+    return bytes(request[:rng.choice([len(request), rng.randrange(len(request) + 1)])])
+
+
+def broken_requests_end_nothing(program, folder):
+    seed = random.randrange(10**9)
+    rng = random.Random(seed)
+    with serving(program, folder, BROKEN + 1) as server:
+        for number in range(BROKEN):
+            told = server.ask(broken(rng))
+            if told and not told.startswith(b"HTTP/1.1 "):
+                raise AssertionError(f"request {number} of seed {seed} was told {told!r}")
+        expect(server.ask(get("/points/NOPE")), response(404, b'{"answer":"no_point"}'))
+        server.end()
+
+
+# ---- the words, and curl
+
+def an_address_that_is_taken_is_told(program, folder):
+    with socket.create_server(("127.0.0.1", 0)) as taken:
+        address = f"127.0.0.1:{taken.getsockname()[1]}"
+        for word in (address, "nowhere"):
+            words = [program, "serve", "building.toml", "desk.db", word, "--requests", "1"]
+            ran = subprocess.run(words, cwd=folder, capture_output=True, timeout=SECONDS)
+            expect((ran.returncode, ran.stdout, ran.stderr), (1, b"", f"desk: cannot listen on {word}\n".encode()))
+
+
+def the_number_of_requests_has_to_be_told(program, folder):
+    for more in ([], ["--requests", "0"], ["--requests", "1000001"], ["--requests", "x"], ["--requests", "1", "--clock=1"]):
+        words = [program, "serve", "building.toml", "desk.db", "127.0.0.1:0", *more]
+        ran = subprocess.run(words, cwd=folder, capture_output=True, timeout=SECONDS)
+        expect((more, ran.returncode, ran.stdout), (more, 2, b""))
+
+
+def curl(server, *words):
+    ran = subprocess.run(["curl", "-s", "-w", " %{http_code}", *words], capture_output=True, timeout=SECONDS)
+    expect(ran.returncode, 0)
+    return ran.stdout
+
+
+def curl_gets_each_route(program, folder):
+    if not shutil.which("curl"):
+        print("  curl is not installed, so it was not tried")
+        return
+    (folder / "holidays.csv").write_bytes(b"calendar,entry\nHOLIDAYS,2025-06-09\n")
+    with serving(program, folder, 6) as server:
+        base = f"http://{server.address}"
+        expect(curl(server, "--data", COMMAND.decode(), f"{base}/panels/P1/commands"), b'{"answer":"done","number":1,"present":2150,"priority":8} 200')
+        expect(curl(server, "--data", '{"upto":4}', f"{base}/panels/P1/skip"), b'{"answer":"skip","next":4} 200')
+        expect(curl(server, "--data", '{"at":174884400000}', f"{base}/tick"), b'{"answer":"tick","writes":1} 200')
+        expect(curl(server, "--data-binary", f"@{folder}/holidays.csv", f"{base}/imports"), b'{"added":1,"answer":"import","known":0,"writes":0} 200')
+        expect(curl(server, f"{base}/points/LIGHT")[-40:], b'"point":"LIGHT","present":0,"priority":0} 200'[-40:])
+        expect(curl(server, f"{base}/reports/2025-12-25").splitlines()[0], b"DAY 2025-12-25 thu")
+        server.end()
+
+
+TESTS = [
+    a_request_is_answered_however_it_is_cut,
+    each_request_gets_its_answer,
+    each_delivery_gets_its_reply_and_status,
+    a_day_is_reported,
+    a_quiet_schedule_is_reported,
+    a_repeat_after_a_kill_gets_the_first_answer,
+    a_tick_of_the_clock_comes_before_each_request,
+    no_client_holds_the_desk,
+    a_client_that_leaves_ends_nothing,
+    broken_requests_end_nothing,
+    an_address_that_is_taken_is_told,
+    the_number_of_requests_has_to_be_told,
+    curl_gets_each_route,
+]
+
+
+def tried(program, test):
+    """What is wrong, or nothing."""
+    with tempfile.TemporaryDirectory(prefix="desk-serve-") as room:
+        (pathlib.Path(room) / "building.toml").write_text(tables.WORKED)
+        try:
+            test(program, pathlib.Path(room))
+        except (AssertionError, OSError, subprocess.TimeoutExpired) as error:
+            return f"{type(error).__name__}: {error}"
+    return ""
+
+
+def main(program):
+    failed = 0
+    for test in TESTS:
+        wrong = tried(program, test)
+        failed += bool(wrong)
+        print(f"{'FAILED' if wrong else 'ok'} {test.__name__.replace('_', ' ')}{': ' + wrong if wrong else ''}", flush=True)
+    print(f"{len(TESTS) - failed} passed, {failed} failed")
+    return 1 if failed else 0
+
+
+if __name__ == "__main__":
+    sys.exit(main(str(pathlib.Path(sys.argv[1]).resolve())))
