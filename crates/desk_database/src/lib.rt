@@ -6,6 +6,7 @@
 #![tactic(auto)]
 
 pub use database_file::open_store;
+pub use desk_serving::Serving;
 pub use runs::{run_import, run_report, run_serve, run_tick};
 
 mod database_file;

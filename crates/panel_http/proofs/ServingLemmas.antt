@@ -2,9 +2,9 @@
 use Rattle.std.proofs.Common.{◌≡◌, ◌∙◌, ◌<◌, inl, inr, sym, ap, ℕ, List, length, Option, Some, None, Result, Ok, Err}
 use Rattle.building.specs.Building.{Building}
 use Rattle.deliveries.specs.declared.delivery.Delivery.{Delivery}
-use Rattle.desk_answers.specs.Answers.{Answers}
-use Rattle.desk_answers.specs.declared.unanswered.Unanswered.{Unanswered}
-use Rattle.desk_answers.specs.declared.unanswered.Unanswered.TheVariants as unanswered
+use Rattle.panel_http.specs.Answers.{Answers}
+use Rattle.panel_http.specs.declared.unanswered.Unanswered.{Unanswered}
+use Rattle.panel_http.specs.declared.unanswered.Unanswered.TheVariants as unanswered
 use Rattle.request_reading.specs.Requests.{IsRequest}
 use Rattle.request_reading.specs.declared.request.Request.{Request}
 use Rattle.response_texts.specs.declared.whole_response.Response.{Response}

@@ -5,9 +5,9 @@ use Rattle.building.specs.Building.{Building}
 use Rattle.counted.specs.Counting.{Lost, Rises}
 use Rattle.deliveries.specs.Delivered.{Holds}
 use Rattle.deliveries.specs.declared.delivery.Delivery.{Delivery}
-use Rattle.desk_answers.specs.Answers.{IsSaid, StoreEnds, after}
-use Rattle.desk_answers.specs.declared.unanswered.Unanswered.{Unanswered}
-use Rattle.desk_answers.specs.declared.unanswered.Unanswered.TheVariants as unanswered
+use Rattle.panel_http.specs.Answers.{IsSaid, StoreEnds, after}
+use Rattle.panel_http.specs.declared.unanswered.Unanswered.{Unanswered}
+use Rattle.panel_http.specs.declared.unanswered.Unanswered.TheVariants as unanswered
 use Rattle.request_reading.specs.Requests.{IsRequest}
 use Rattle.request_reading.specs.declared.request.Request.{Request}
 use Rattle.response_texts.specs.Response.{Said, response_text}

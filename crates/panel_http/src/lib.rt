@@ -1,12 +1,16 @@
 //! What does one request to the desk get, and leave?
 //!
-//! `serve_one` reads one request (`request_reading`), answers it (`desk_answers`) and writes one response. What the bytes
-//! of an input get, and which tables are left, whatever fails, is `specs/Serving.antt`.
+//! `serve_one` reads one request (`request_reading`), delivers what it tells or looks at what it asks for, and writes one
+//! response (`response_texts`). What is answered to a request, and which tables are left, is `specs/Answers.antt`, over
+//! the definitions of `deliveries`; what the bytes of an input get, whatever fails, `specs/Serving.antt`.
 #![tactic(auto)]
 
 pub use served::Served;
 pub use serving::serve_one;
 
+mod answering;
+mod looking;
 mod served;
 mod serving;
+mod unanswered;
 mod writing;

@@ -6,10 +6,11 @@ ghost use Rattle.deliveries.specs.Delivered.{Holds};
 ghost use Rattle.panel_http.specs.Serving.{Serves};
 
 use crate::Served;
+use crate::answering::answer;
+use crate::unanswered::Unanswered;
 use crate::writing::write_answer;
 use counted::Counted;
 use desk::Desk;
-use desk_answers::{Unanswered, answer};
 use request_reading::{Unread, read_request};
 use std::alloc::Global;
 use std::io::{Read, Write};

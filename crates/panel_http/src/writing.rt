@@ -4,8 +4,8 @@ ghost use Rattle.std.specs.Prelude.{Some};
 ghost use Rattle.panel_http.specs.Serving.{Writes, written};
 
 use crate::Served;
+use crate::unanswered::Unanswered;
 use counted::{Counted, write_text};
-use desk_answers::Unanswered;
 use http::StatusCode;
 use response_texts::{Response, no_memory_text, store_text};
 use std::io::Write;

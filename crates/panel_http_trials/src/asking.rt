@@ -4,11 +4,9 @@ use building::Building;
 use counted::Counted;
 use desk::Desk;
 use panel_http::{Served, serve_one};
-use sqlite::Connection;
 use std::alloc::Global;
 use std::test::Fail;
-use store::{MemStore, Store};
-use store_sql::SqlStore;
+use store::MemStore;
 
 /// The worked building.
 const BUILDING: &str = r#"
@@ -58,32 +56,18 @@ pub(crate) const DONE: &str =
 pub(crate) const HEAD: usize = 69;
 
 /// A desk of the building over a store without rows.
-fn desk_over<S: Store + Drop>(alloc: Global, store: S) -> Result<Desk<S>, Fail> {
+pub(crate) fn desk(alloc: Global) -> Result<Desk<MemStore>, Fail> {
     let building = Building::read(alloc, BUILDING.as_bytes())?;
-    match Desk::open(alloc, building, store) {
+    match Desk::open(alloc, building, MemStore::new(alloc)) {
         Ok(desk) => Ok(desk),
         Err((fault, _store)) => Err(fault.into()),
     }
 }
 
-/// A desk whose tables stand in memory.
-pub(crate) fn desk(alloc: Global) -> Result<Desk<MemStore>, Fail> {
-    desk_over(alloc, MemStore::new(alloc))
-}
-
-/// A desk whose tables stand in a database.
-pub(crate) fn database_desk(alloc: Global) -> Result<Desk<SqlStore<sqlite::MemStore>>, Fail> {
-    let connection = Connection::open_in_memory(alloc)?;
-    match SqlStore::create(alloc, connection) {
-        Ok(store) => desk_over(alloc, store),
-        Err((fault, _connection)) => Err(fault.into()),
-    }
-}
-
 /// What a request that comes in pieces gets on a page with so much room.
-pub(crate) fn serve<S: Store + Drop>(
+pub(crate) fn serve(
     alloc: Global,
-    desk: &mut Desk<S>,
+    desk: &mut Desk<MemStore>,
     input: Pieces<'_>,
     room: usize,
 ) -> (Served, Vec<u8>) {
@@ -94,9 +78,9 @@ pub(crate) fn serve<S: Store + Drop>(
 }
 
 /// What a whole request gets.
-pub(crate) fn ask<S: Store + Drop>(
+pub(crate) fn ask(
     alloc: Global,
-    desk: &mut Desk<S>,
+    desk: &mut Desk<MemStore>,
     request: &str,
     size: usize,
 ) -> (Served, Vec<u8>) {

@@ -1,5 +1,5 @@
 //! Requests and their responses.
-use crate::asking::{COMMAND, HEAD, ask, desk, serve};
+use crate::asking::{COMMAND, DONE, HEAD, ask, desk, serve};
 use crate::ends::Pieces;
 use desk::Desk;
 use http::StatusCode;
@@ -128,6 +128,20 @@ POINT R101-SET                                2100 15
 POINT LIGHT                                      0  0
 ";
 
+#[test]
+fn a_command_in_any_pieces_gets_its_response(rt: HostRuntime) -> Result<(), Fail> {
+    for size in 1..COMMAND.len() + 1 {
+        let mut desk = desk(rt.alloc())?;
+        let (served, text) = ask(rt.alloc(), &mut desk, COMMAND, size);
+        assert!(rt;
+            served == Served::Answered(StatusCode::OK),
+            "in pieces of {size}"
+        );
+        assert!(rt; text.as_slice() == DONE.as_bytes(), "in pieces of {size}");
+    }
+    Ok(())
+}
+
 fn assert_answered(
     rt: &impl Abort,
     alloc: Global,
@@ -192,6 +206,23 @@ fn a_cut_body_is_not_delivered(rt: HostRuntime) -> Result<(), Fail> {
         assert_answered(&rt, rt.alloc(), &mut desk, &request)?;
     }
     assert_answered(&rt, rt.alloc(), &mut desk, &before)
+}
+
+#[test]
+fn a_lost_reply_is_told_again(rt: HostRuntime) -> Result<(), Fail> {
+    let mut desk = desk(rt.alloc())?;
+    let input = Pieces {
+        text: COMMAND.as_bytes(),
+        size: 1_000,
+        fails: false,
+    };
+    let (served, text) = serve(rt.alloc(), &mut desk, input, 10);
+    assert!(rt; served == Served::ReplyLost);
+    assert!(rt; text.as_slice() == b"HTTP/1.1 2".as_slice());
+    let (served, text) = ask(rt.alloc(), &mut desk, COMMAND, 1_000);
+    assert!(rt; served == Served::Answered(StatusCode::OK));
+    assert!(rt; text.as_slice() == DONE.as_bytes());
+    Ok(())
 }
 
 #[test]

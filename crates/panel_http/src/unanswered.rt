@@ -15,7 +15,7 @@ pub enum Unanswered {
 
 impl From<StoreFault> for Unanswered {
     ghost use Rattle.std.specs.Prelude.{◌≡◌};
-    ghost use Rattle.desk_answers.specs.Answers.{of_fault};
+    ghost use Rattle.panel_http.specs.Answers.{of_fault};
 
     ghost from_gives = { λ fault unanswered. unanswered ≡ of_fault fault };
 

@@ -3,12 +3,12 @@
 ghost use Rattle.std.specs.Prelude.{◌≡◌, List};
 ghost use Rattle.deliveries.specs.declared.delivery.Delivery.{Delivery as a_delivery};
 ghost use Rattle.deliveries.specs.Delivered.{Holds};
-ghost use Rattle.desk_answers.specs.Answers.{Answers};
+ghost use Rattle.panel_http.specs.Answers.{Answers};
 ghost use Rattle.request_bodies.specs.declared.told.BodyTold.TheVariants as told;
 ghost use Rattle.request_reading.specs.declared.request.Request.TheVariants as asked;
 
-use crate::Unanswered;
 use crate::looking::{point_answer, report_answer};
+use crate::unanswered::Unanswered;
 use deliveries::{Delivery, Reply};
 use desk::Desk;
 use request_bodies::BodyTold;
@@ -18,7 +18,7 @@ use std::alloc::Global;
 use store::Store;
 
 /// Answers a request: delivers what it tells, or looks at what it asks for.
-pub fn answer<S: Store + Drop>(
+pub(crate) fn answer<S: Store + Drop>(
     alloc: Global,
     desk: &mut Desk<S>,
     request: &Request,

@@ -3,11 +3,11 @@
 ghost use Rattle.std.specs.Prelude.{◌≡◌, List, IfOk, Some};
 ghost use Rattle.deliveries.specs.declared.delivery.Delivery.{Delivery as a_delivery};
 ghost use Rattle.deliveries.specs.Delivered.{Holds};
-ghost use Rattle.desk_answers.specs.Answers.{Answers, state_said};
+ghost use Rattle.panel_http.specs.Answers.{Answers, state_said};
 ghost use Rattle.response_texts.specs.Response.{Says};
 ghost use Rattle.request_reading.specs.declared.request.Request.TheVariants as asked;
 
-use crate::Unanswered;
+use crate::unanswered::Unanswered;
 use dates::Day;
 use desk::{Desk, PointState};
 use points::Name;

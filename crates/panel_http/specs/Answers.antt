@@ -24,8 +24,8 @@ use Rattle.store.specs.Standing.{HasRisen, Standing}
 use Rattle.store.specs.Tables.{Tables, Text}
 use Rattle.store.specs.declared.fault.StoreFault.{StoreFault}
 use Rattle.store.specs.declared.fault.StoreFault.TheVariants as fault
-use Rattle.desk_answers.specs.declared.unanswered.Unanswered.{Unanswered}
-use Rattle.desk_answers.specs.declared.unanswered.Unanswered.TheVariants.{NoMemory, NoReply, Store}
+use Rattle.panel_http.specs.declared.unanswered.Unanswered.{Unanswered}
+use Rattle.panel_http.specs.declared.unanswered.Unanswered.TheVariants.{NoMemory, NoReply, Store}
 
 -- ---- what is said
 
