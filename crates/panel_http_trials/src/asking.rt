@@ -6,7 +6,7 @@ use desk::Desk;
 use panel_http::{Served, serve_one};
 use std::alloc::Global;
 use std::test::Fail;
-use store::MemStore;
+use store::{MemStore, Store};
 
 /// The worked building.
 const BUILDING: &str = r#"
@@ -55,19 +55,24 @@ pub(crate) const DONE: &str =
 /// How long the command's head is.
 pub(crate) const HEAD: usize = 69;
 
-/// A desk of the building over a store without rows.
-pub(crate) fn desk(alloc: Global) -> Result<Desk<MemStore>, Fail> {
+/// A desk of the building over a store.
+pub(crate) fn desk_over<S: Store + Drop>(alloc: Global, store: S) -> Result<Desk<S>, Fail> {
     let building = Building::read(alloc, BUILDING.as_bytes())?;
-    match Desk::open(alloc, building, MemStore::new(alloc)) {
+    match Desk::open(alloc, building, store) {
         Ok(desk) => Ok(desk),
         Err((fault, _store)) => Err(fault.into()),
     }
 }
 
+/// A desk of the building over empty tables in memory.
+pub(crate) fn desk(alloc: Global) -> Result<Desk<MemStore>, Fail> {
+    desk_over(alloc, MemStore::new(alloc))
+}
+
 /// What a request that comes in pieces gets on a page with so much room.
-pub(crate) fn serve(
+pub(crate) fn serve<S: Store + Drop>(
     alloc: Global,
-    desk: &mut Desk<MemStore>,
+    desk: &mut Desk<S>,
     input: Pieces<'_>,
     room: usize,
 ) -> (Served, Vec<u8>) {
@@ -78,14 +83,15 @@ pub(crate) fn serve(
 }
 
 /// What a whole request gets.
-pub(crate) fn ask(
+pub(crate) fn ask<S: Store + Drop>(
     alloc: Global,
-    desk: &mut Desk<MemStore>,
+    desk: &mut Desk<S>,
     request: &str,
     size: usize,
 ) -> (Served, Vec<u8>) {
     let input = Pieces {
         text: request.as_bytes(),
+        first: size,
         size,
         fails: false,
     };

@@ -1,5 +1,5 @@
-//! What requests to a desk over memory get, in pieces, cut, over ends that fail, and over the loopback. There is no code
-//! here but tests, so that no other crate is proved twice for them.
+//! What requests to a desk get, in pieces, cut, over ends that fail, and over the loopback, and the worked request over
+//! tables in memory and in a database. There is no code here but tests, so that no other crate is proved twice for them.
 #![tactic(auto)]
 
 #[cfg(test)]
@@ -10,3 +10,5 @@ mod ends;
 mod loopback;
 #[cfg(test)]
 mod tests;
+#[cfg(test)]
+mod worked_request;

@@ -184,53 +184,12 @@ fn a_report_is_plain_text(rt: HostRuntime) -> Result<(), Fail> {
 }
 
 #[test]
-fn a_cut_body_is_not_delivered(rt: HostRuntime) -> Result<(), Fail> {
-    let cut = Worked {
-        request: "",
-        status: "400 Bad Request",
-        length: 37,
-        body: r#"{"answer":"bad_request","fault":"H5"}"#,
-    };
-    let before = Worked {
-        request: "GET /points/R101-SET HTTP/1.1\r\n\r\n",
-        status: "200 OK",
-        length: 156,
-        body: r#"{"answer":"point","places":[null,null,null,null,null,null,null,null,null,null,null,null,null,null,null,null],"point":"R101-SET","present":1800,"priority":0}"#,
-    };
-    let mut desk = desk(rt.alloc())?;
-    for end in HEAD..COMMAND.len() {
-        let request = Worked {
-            request: COMMAND.get(..end).expect(&rt, "the command is ASCII"),
-            ..cut
-        };
-        assert_answered(&rt, rt.alloc(), &mut desk, &request)?;
-    }
-    assert_answered(&rt, rt.alloc(), &mut desk, &before)
-}
-
-#[test]
-fn a_lost_reply_is_told_again(rt: HostRuntime) -> Result<(), Fail> {
-    let mut desk = desk(rt.alloc())?;
-    let input = Pieces {
-        text: COMMAND.as_bytes(),
-        size: 1_000,
-        fails: false,
-    };
-    let (served, text) = serve(rt.alloc(), &mut desk, input, 10);
-    assert!(rt; served == Served::ReplyLost);
-    assert!(rt; text.as_slice() == b"HTTP/1.1 2".as_slice());
-    let (served, text) = ask(rt.alloc(), &mut desk, COMMAND, 1_000);
-    assert!(rt; served == Served::Answered(StatusCode::OK));
-    assert!(rt; text.as_slice() == DONE.as_bytes());
-    Ok(())
-}
-
-#[test]
 fn an_input_that_fails_or_is_empty_is_no_request(rt: HostRuntime) -> Result<(), Fail> {
     let mut desk = desk(rt.alloc())?;
     for (end, fails) in [(0, false), (0, true), (HEAD - 1, true), (HEAD + 5, true)] {
         let input = Pieces {
             text: &COMMAND.as_bytes()[..end],
+            first: 20,
             size: 20,
             fails,
         };
