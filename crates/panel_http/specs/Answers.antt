@@ -11,8 +11,8 @@ use Rattle.deliveries.specs.declared.reply.Reply.TheVariants as reply_of
 use Rattle.desk.specs.PointState.{state_of}
 use Rattle.desk.specs.declared.point_state.PointState.{PointState}
 use Rattle.points.specs.Rights.{point_named}
-use Rattle.request_bodies.specs.declared.told.BodyTold.{BodyTold}
-use Rattle.request_bodies.specs.declared.told.BodyTold.TheVariants as told
+use Rattle.request_reading.specs.declared.told.BodyTold.{BodyTold}
+use Rattle.request_reading.specs.declared.told.BodyTold.TheVariants as told
 use Rattle.request_reading.specs.declared.request.Request.{Request}
 use Rattle.request_reading.specs.declared.request.Request.TheVariants.{Point, Refused, Report, Told}
 use Rattle.response_texts.specs.Response.{Said, Says}

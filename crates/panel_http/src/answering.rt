@@ -4,15 +4,14 @@ ghost use Rattle.std.specs.Prelude.{◌≡◌, List};
 ghost use Rattle.deliveries.specs.declared.delivery.Delivery.{Delivery as a_delivery};
 ghost use Rattle.deliveries.specs.Delivered.{Holds};
 ghost use Rattle.panel_http.specs.Answers.{Answers};
-ghost use Rattle.request_bodies.specs.declared.told.BodyTold.TheVariants as told;
+ghost use Rattle.request_reading.specs.declared.told.BodyTold.TheVariants as told;
 ghost use Rattle.request_reading.specs.declared.request.Request.TheVariants as asked;
 
 use crate::looking::{point_answer, report_answer};
 use crate::unanswered::Unanswered;
 use deliveries::{Delivery, Reply};
 use desk::Desk;
-use request_bodies::BodyTold;
-use request_reading::Request;
+use request_reading::{BodyTold, Request};
 use response_texts::{Response, import_refused_response, reply_response};
 use std::alloc::Global;
 use store::Store;

@@ -2,7 +2,7 @@
 use Rattle.std.proofs.Common.{◌≡◌, ◌∙◌, ◌<◌, inl, ℕ, List, ◌++◌, length, take, drop, arith, sym, ap, append_assoc, length-append, Option, Some, None, Result, Ok, Err, IfSome}
 use Rattle.std.proofs.lemmas.List.{append_cancel_left}
 use Rattle.building.specs.Building.{Building}
-use Rattle.asked_routes.specs.AskedRoute.{RouteAndLength, route_asked}
+use Rattle.request_reading.specs.AskedRoute.{RouteAndLength, route_asked}
 use Rattle.httparse.specs.Grammar.{RequestHead, print_request}
 use Rattle.httparse.specs.declared.spans.HeaderSpan.{HeaderSpan}
 use Rattle.request_heads.specs.Heads.{IsHead, Sees}

@@ -1,1 +1,3 @@
+pub mod AskedRoute
+pub mod BodyTold
 pub mod Requests

@@ -5,9 +5,9 @@ use Rattle.building.specs.Building.{Building}
 use Rattle.counted.specs.Counting.{Rises}
 use Rattle.day_reports.specs.AskedDay.{SpellsDay}
 use Rattle.httparse.specs.Grammar.{RequestHead}
-use Rattle.asked_routes.specs.AskedRoute.{RouteAndLength, route_asked}
-use Rattle.request_bodies.specs.BodyTold.{body_told, named}
-use Rattle.request_bodies.specs.declared.told.BodyTold.{BodyTold}
+use Rattle.request_reading.specs.AskedRoute.{RouteAndLength, route_asked}
+use Rattle.request_reading.specs.BodyTold.{body_told, named}
+use Rattle.request_reading.specs.declared.told.BodyTold.{BodyTold}
 use Rattle.request_heads.specs.Heads.{HasNoHead, IsHead}
 use Rattle.request_routes.specs.Routes as routes
 use Rattle.response_texts.specs.declared.refusal.Refusal.{Refusal}

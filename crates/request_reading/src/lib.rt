@@ -1,13 +1,18 @@
 //! What does this input ask of the desk?
 //!
 //! `read_request` reads a request in whatever pieces it comes: its head (`request_heads`), what the head asks
-//! (`asked_routes`), and the body (`body_reading`), which it reads by the route (`request_bodies`). What the bytes of an
-//! input ask is `specs/Requests.antt`: the first case that holds.
+//! (`route_asked`, `specs/AskedRoute.antt`), and the body (`body_reading`), which it reads by the route (`body_told`,
+//! `specs/BodyTold.antt`). What the bytes of an input ask is `specs/Requests.antt`: the first case that holds.
 #![tactic(auto)]
 
 pub use reading::read_request;
 pub use request::{Request, Unread};
+pub use told::BodyTold;
 
+mod asking;
+mod bodies;
+mod panel_bodies;
 mod reading;
 mod request;
 mod telling;
+mod told;

@@ -3,12 +3,12 @@
 ghost use Rattle.std.specs.Prelude.{◌≤◌, ◌++◌, length, take, drop, IfSome};
 ghost use Rattle.httparse.specs.Grammar.{RequestHead};
 ghost use Rattle.httparse.specs.Spans.{IsRequestAt, IsRequestWithin};
-ghost use Rattle.asked_routes.specs.AskedRoute.{shown};
+ghost use Rattle.request_reading.specs.AskedRoute.{shown};
 ghost use Rattle.request_reading.specs.Requests.{Asks, AsksBy, Counts, IsAsked, Reads};
 
+use crate::asking::{AskedRoute, route_asked};
 use crate::telling::request_told;
 use crate::{Request, Unread};
-use asked_routes::{AskedRoute, route_asked};
 use body_reading::{BodySeen, read_body};
 use building::Building;
 use counted::Counted;

@@ -1,8 +1,8 @@
 //! What an input asks.
 
+use crate::BodyTold;
 use dates::Day;
 use points::Name;
-use request_bodies::BodyTold;
 use response_texts::Refusal;
 use std::alloc::AllocError;
 

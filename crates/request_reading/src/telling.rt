@@ -1,17 +1,17 @@
 //! What a request to a route tells by its body.
 
 ghost use Rattle.std.specs.Prelude.{◌≡◌, IfOk, option_map};
-ghost use Rattle.request_bodies.specs.BodyTold.{body_told, named};
+ghost use Rattle.request_reading.specs.BodyTold.{body_told, named};
 ghost use Rattle.request_reading.specs.Requests.{IsDay, IsTold, told_or_refused};
 ghost use Rattle.request_routes.specs.Routes.{asked_of};
 
 use crate::Request;
+use crate::bodies::body_told;
 use building::Building;
 use dates::Day;
 use day_reports::read_day;
 use delivery_lines::LineFault;
 use points::Name;
-use request_bodies::body_told;
 use request_routes::Route;
 use response_texts::Refusal;
 use std::alloc::{AllocError, Global};

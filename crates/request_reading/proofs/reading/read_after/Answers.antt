@@ -1,6 +1,6 @@
 use Rattle.std.proofs.Common.{◌≡◌, rules, Ok, drop, take}
 use Rattle.std.proofs.lemmas.List.{take_rest}
-use Rattle.asked_routes.specs.AskedRoute.{route_asked, shown}
+use Rattle.request_reading.specs.AskedRoute.{route_asked, shown}
 use Rattle.request_reading.proofs.RequestLemmas.{asks-by-known}
 use Rattle.request_reading.proofs.reading.read_after.Goals as goal
 

@@ -1,8 +1,8 @@
 use Rattle.std.proofs.Common.{◌∙◌, ap, ap₂, IsUtf8, subst, sym}
 use Rattle.request_fields.specs.BodyLength.{body_length}
 use Rattle.request_routes.specs.Routes.{route_of}
-use Rattle.asked_routes.specs.AskedRoute.{of_length, route_asked}
-use Rattle.asked_routes.proofs.asking.route_asked.Goals as goal
+use Rattle.request_reading.specs.AskedRoute.{of_length, route_asked}
+use Rattle.request_reading.proofs.asking.route_asked.Goals as goal
 
 pub returns : goal.returns
 unfolding route_asked

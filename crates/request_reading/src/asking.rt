@@ -5,7 +5,7 @@ ghost use Rattle.holidays.specs.Answers.{result_map};
 ghost use Rattle.httparse.specs.Grammar.{RequestHead};
 ghost use Rattle.httparse.specs.Spans.{IsRequestAt, IsRequestWithin};
 ghost use Rattle.request_routes.specs.Routes.{asked_of, route_of};
-ghost use Rattle.asked_routes.specs.AskedRoute.{of_length, route_asked, shown, within_limit};
+ghost use Rattle.request_reading.specs.AskedRoute.{of_length, route_asked, shown, within_limit};
 
 use httparse::spans::{HeaderSpan, RequestSpans};
 use request_fields::body_length;
@@ -15,16 +15,16 @@ use texts::text_of;
 
 /// What a head asks.
 #[derive(Clone, Copy, Debug)]
-pub struct AskedRoute<'a> {
-    pub route: Route<'a>,
+pub(crate) struct AskedRoute<'a> {
+    pub(crate) route: Route<'a>,
     /// The number of bytes of the body: 0 for a route of GET, past whose head nothing is looked at.
-    pub length: u32,
+    pub(crate) length: u32,
 }
 
 /// What a head at the buffer's front asks, of which the spans tell the parts. It is refused where its fields tell no
 /// plain length (H2), where no route has its method and target, and where the body is longer than the route takes (H4),
 /// the first of these first.
-pub fn route_asked<'a>(
+pub(crate) fn route_asked<'a>(
     routes: &Routes,
     buffer: &'a [u8],
     headers: &[HeaderSpan],

@@ -16,7 +16,7 @@ pub enum BodyTold {
 
 impl From<Told> for BodyTold {
     ghost use Rattle.std.specs.Prelude.{◌≡◌};
-    ghost use Rattle.request_bodies.specs.BodyTold.{of_import};
+    ghost use Rattle.request_reading.specs.BodyTold.{of_import};
 
     ghost from_gives = { λ told body. body ≡ of_import told };
 

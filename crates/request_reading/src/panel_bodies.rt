@@ -2,7 +2,7 @@
 
 ghost use Rattle.std.specs.Prelude.{◌≡◌, option_map};
 ghost use Rattle.serde_json.specs.View.{view};
-ghost use Rattle.request_bodies.specs.BodyTold.{command_by, command_in, command_told, named, skip_by, skip_told};
+ghost use Rattle.request_reading.specs.BodyTold.{command_by, command_in, command_told, named, skip_by, skip_told};
 
 use crate::BodyTold;
 use deliveries::Delivery;

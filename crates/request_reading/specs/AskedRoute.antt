@@ -5,7 +5,7 @@ use Rattle.request_fields.specs.BodyLength.{body_length_of}
 use Rattle.request_routes.specs.Routes.{Asked, asked_of, limit_of, route_of}
 use Rattle.response_texts.specs.declared.refusal.Refusal.{Refusal}
 use Rattle.response_texts.specs.declared.refusal.Refusal.TheVariants.{NoRoute, TooLong, UnclearLength}
-use Rattle.asked_routes.specs.declared.asking.AskedRoute.{AskedRoute}
+use Rattle.request_reading.specs.declared.asking.AskedRoute.{AskedRoute}
 
 -- a route, and the length of its body
 abbrev pub RouteAndLength : Type 0

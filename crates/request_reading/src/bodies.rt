@@ -4,7 +4,7 @@ ghost use Rattle.std.specs.Prelude.{◌≡◌, option_map, Some};
 ghost use Rattle.serde_json.specs.View.{view};
 ghost use Rattle.delivery_lines.specs.ClockLine.{import_of};
 ghost use Rattle.delivery_lines.specs.LineFault.{Tells};
-ghost use Rattle.request_bodies.specs.BodyTold.{body_told, command_body, of_import, skip_body, tick_body};
+ghost use Rattle.request_reading.specs.BodyTold.{body_told, command_body, of_import, skip_body, tick_body};
 ghost use Rattle.request_routes.specs.Routes.{asked_of};
 
 use crate::BodyTold;
@@ -18,7 +18,7 @@ use std::alloc::Global;
 /// What the body of a request to a route of POST tells, for the building. A body that is not what the route takes is
 /// no delivery, and so is any body to a route of GET, which has none.
 #[tactic(auto, unfolding(crate::specs::BodyTold::body_told))]
-pub fn body_told(
+pub(crate) fn body_told(
     alloc: Global,
     building: &Building,
     route: &Route<'_>,

@@ -11,8 +11,8 @@ use Rattle.delivery_lines.specs.PanelLine.{numbered_in}
 use Rattle.delivery_lines.specs.declared.panel_line.NumberedContent.{NumberedContent}
 use Rattle.delivery_lines.specs.declared.told.Told.{Told}
 use Rattle.delivery_lines.specs.declared.told.Told.TheVariants as told
-use Rattle.request_bodies.specs.declared.told.BodyTold.{BodyTold}
-use Rattle.request_bodies.specs.declared.told.BodyTold.TheVariants.{Delivery, NoPanel, RefusedImport}
+use Rattle.request_reading.specs.declared.told.BodyTold.{BodyTold}
+use Rattle.request_reading.specs.declared.told.BodyTold.TheVariants.{Delivery, NoPanel, RefusedImport}
 use Rattle.request_routes.specs.Routes as routes
 use Rattle.texts.specs.Steps.{◌>>=◌, where_holds}
 use Rattle.texts.specs.Texts.{name_of}

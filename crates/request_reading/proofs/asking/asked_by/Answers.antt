@@ -1,5 +1,5 @@
 use Rattle.std.proofs.lemmas.Str.{is_utf8-from_IsUtf8}
-use Rattle.asked_routes.proofs.asking.asked_by.Goals as goal
+use Rattle.request_reading.proofs.asking.asked_by.Goals as goal
 
 pub returns-in_err-target : goal.returns-in_err-target
 returns-in_err-target c = λ utf8.
