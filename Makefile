@@ -14,7 +14,7 @@ run: build/desk
 desk: build/desk
 
 build/desk: $(SOURCES) | toolchain
-	@echo 'proving and building the desk: some minutes the first time, seconds after that' >&2
+	@echo 'proving and building the desk: half an hour the first time, minutes after that' >&2
 	@cd crates/desk_program && rt run -- replay ../../$(BUILDING) ../../$(DELIVERIES) > out.log 2>&1 \
 	  || { cat out.log >&2; rm -f out.log; echo 'the desk was not built' >&2; exit 1; }; rm -f out.log
 	@mkdir -p build
