@@ -1,6 +1,6 @@
 //! Databases in two files that are kept in memory, and disks that meet trouble at a call.
 use crate::faulty_disk::{Faulty, Trouble};
-use crate::scripts::{Script, Told, run};
+use crate::scripts::{Script, Told, push_fault, run};
 use sqlite::{Alter, Connection, FileStore, Options, Row};
 use sqlite_disk::{Crash, Disk, Files, Memory};
 use std::alloc::{AllocError, Global};
@@ -25,21 +25,6 @@ fn connected<D: Disk + Drop>(
     match Connection::open_files(alloc, files, options) {
         Ok(connection) => Ok(connection),
         Err((_error, left)) => Err(left.into_files()),
-    }
-}
-
-// The store in files; the files where none is opened, with the fault of the tables if the files hold a database.
-fn opened<D: Disk + Drop>(
-    alloc: Global,
-    files: Files<D>,
-) -> Result<SqlStore<FileStore<D>>, (Option<OpenFault>, Files<D>)> {
-    let connection = match connected(alloc, files) {
-        Ok(connection) => connection,
-        Err(files) => return Err((None, files)),
-    };
-    match SqlStore::create_or_open(alloc, connection) {
-        Ok(store) => Ok(store),
-        Err((fault, connection)) => Err((Some(fault), connection.into_store().close())),
     }
 }
 
@@ -180,17 +165,32 @@ fn left_of(alloc: Global, files: Files<Faulty<Memory>>) -> Result<Left, AllocErr
     })
 }
 
-fn push_refusal(fault: Option<OpenFault>, told: &mut Told) -> Result<(), Fail> {
-    match fault {
-        Some(fault) => writeln!(told.printed, "{fault}")?,
-        None => told.printed.push_str("no database\n")?,
-    }
-    Ok(())
+// The tables of a connection, without what is promised of them.
+fn tables_over<S: Alter + Drop>(
+    alloc: Global,
+    connection: Connection<S>,
+) -> Result<SqlStore<S>, (OpenFault, Connection<S>)> {
+    SqlStore::create_or_open(alloc, connection)
 }
 
-// The files of a store.
-fn closed<D: Disk + Drop>(store: SqlStore<FileStore<D>>) -> Files<D> {
-    store.into_connection().into_store().close()
+// Runs a script over the tables of a connection. What the connection stood over is given back, so that nothing of a
+// database's type is dropped: that is dear to prove.
+fn run_over_tables<S: Alter + Drop>(
+    alloc: Global,
+    connection: Connection<S>,
+    script: Script<'_>,
+    told: &mut Told,
+) -> (Result<(), Fail>, S) {
+    match tables_over(alloc, connection) {
+        Ok(tables) => {
+            let (done, tables) = run(alloc, tables, script, told);
+            (done, tables.into_connection().into_store())
+        }
+        Err((fault, connection)) => {
+            let done = push_fault(fault, &mut told.printed);
+            (done, connection.into_store())
+        }
+    }
 }
 
 // Runs a script over the store in files.
@@ -199,13 +199,13 @@ fn run_over<D: Disk + Drop>(
     files: Files<D>,
     script: Script<'_>,
     told: &mut Told,
-) -> Result<Files<D>, Fail> {
-    match opened(alloc, files) {
-        Ok(store) => Ok(closed(run(alloc, store, script, told)?)),
-        Err((fault, files)) => {
-            push_refusal(fault, told)?;
-            Ok(files)
+) -> (Result<(), Fail>, Files<D>) {
+    match connected(alloc, files) {
+        Ok(connection) => {
+            let (done, store) = run_over_tables(alloc, connection, script, told);
+            (done, store.close())
         }
+        Err(files) => (push_fault("no database", &mut told.printed), files),
     }
 }
 
@@ -218,14 +218,25 @@ pub(crate) fn run_on_disk(
     script: Script<'_>,
     told: &mut Told,
 ) -> Result<Left, Fail> {
-    let files = run_over(alloc, files_of(alloc, image, place)?, script, told)?;
+    let files = files_of(alloc, image, place)?;
+    let (done, files) = run_over(alloc, files, script, told);
+    done?;
     Ok(left_of(alloc, files)?)
+}
+
+fn number_of(row: &Row) -> Result<i64, Fail> {
+    Ok(row.get::<i64>(0)?)
+}
+
+fn push_number(mark: &str, number: i64, text: &mut String) -> Result<(), Fail> {
+    write!(text, "{mark}{number}")?;
+    Ok(())
 }
 
 fn push_rows(rows: &[Row], text: &mut String) -> Result<(), Fail> {
     let mut mark = "";
     for row in rows {
-        write!(text, "{mark}{}", row.get::<i64>(0)?)?;
+        push_number(mark, number_of(row)?, text)?;
         mark = " ";
     }
     text.push(';')?;
@@ -255,20 +266,20 @@ fn execute_and_ask<S: Alter>(
     push_answers(connection, queries, text)
 }
 
-// Executes statements and asks queries, and gives the files back.
-fn run_and_close<D: Disk + Drop>(
-    connection: Connection<FileStore<D>>,
+// Executes statements and asks queries. What the connection stood over is given back.
+fn run_over_connection<S: Alter + Drop>(
+    connection: Connection<S>,
     statements: &str,
     queries: &[&str],
     text: &mut String,
-) -> (Result<(), Fail>, Files<D>) {
+) -> (Result<(), Fail>, S) {
     let mut connection = connection;
     let done = execute_and_ask(&mut connection, statements, queries, text);
-    (done, connection.into_store().close())
+    (done, connection.into_store())
 }
 
 // Executes statements and asks queries over the database in files, and gives these back.
-fn run_without_store<D: Disk + Drop>(
+fn run_without_tables<D: Disk + Drop>(
     alloc: Global,
     files: Files<D>,
     statements: &str,
@@ -276,7 +287,10 @@ fn run_without_store<D: Disk + Drop>(
     text: &mut String,
 ) -> (Result<(), Fail>, Files<D>) {
     match connected(alloc, files) {
-        Ok(connection) => run_and_close(connection, statements, queries, text),
+        Ok(connection) => {
+            let (done, store) = run_over_connection(connection, statements, queries, text);
+            (done, store.close())
+        }
         Err(files) => (Err(Fail::new("no database")), files),
     }
 }
@@ -291,7 +305,7 @@ pub(crate) fn run_statements(
     text: &mut String,
 ) -> Result<Left, Fail> {
     let files = files_of(alloc, image, Place::nowhere())?;
-    let (done, files) = run_without_store(alloc, files, statements, queries, text);
+    let (done, files) = run_without_tables(alloc, files, statements, queries, text);
     done?;
     Ok(left_of(alloc, files)?)
 }

@@ -12,8 +12,6 @@ mod faulty_disk;
 #[cfg(test)]
 mod long_lists;
 #[cfg(test)]
-mod memory_stores;
-#[cfg(test)]
 mod restarts;
 #[cfg(test)]
 mod scripts;

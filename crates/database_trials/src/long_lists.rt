@@ -1,11 +1,11 @@
 //! Lists with many numbers of a panel: the window of 64, and answers that are kept for 1,000 numbers.
 use crate::disks::{Image, Place, run_on_disk};
-use crate::scripts::{Script, Told, run};
-use crate::worked_buildings::WITHOUT_SCHEDULE;
+use crate::scripts::{Script, Told, assert_holds, run_in_memory};
+use crate::worked_buildings::without_schedule;
 use std::alloc::Global;
 use std::fmt::Write;
+use std::process::Abort;
 use std::test::Fail;
-use store::MemStore;
 
 /// Commands of P1 with numbers from one up to another, which switch LIGHT on at 8, lines before and after them, and
 /// what is told at the end.
@@ -68,6 +68,10 @@ LIGHT 1 at 8
     },
 ];
 
+fn long_lists() -> &'static [Long] {
+    &LONG
+}
+
 fn push_commands(from: u64, upto: u64, lines: &mut String) -> Result<(), Fail> {
     for number in from..upto {
         writeln!(
@@ -87,40 +91,36 @@ fn lines_of(alloc: Global, long: &Long) -> Result<String, Fail> {
 
 fn script(lines: &str) -> Script<'_> {
     Script {
-        building: WITHOUT_SCHEDULE,
+        building: without_schedule(),
         lines,
         points: &["LIGHT"],
     }
 }
 
+fn assert_ends(rt: &impl Abort, told: &Told, long: &Long) {
+    assert_holds(rt, told.printed.ends_with(long.ends), long.shows);
+}
+
 #[test]
 fn long_lists_are_answered_by_tables_in_memory(rt: HostRuntime) -> Result<(), Fail> {
-    for long in &LONG {
+    for long in long_lists() {
         let lines = lines_of(rt.alloc(), long)?;
         let mut told = Told::new(rt.alloc());
-        let tables = MemStore::new(rt.alloc());
-        let _store = run(rt.alloc(), tables, script(lines.as_str()), &mut told)?;
-        let printed = told.printed.as_str();
-        assert!(rt; printed.ends_with(long.ends), "{}", long.shows);
+        run_in_memory(rt.alloc(), script(lines.as_str()), &mut told)?;
+        assert_ends(&rt, &told, long);
     }
     Ok(())
 }
 
 #[test]
 fn long_lists_are_answered_by_a_database(rt: HostRuntime) -> Result<(), Fail> {
-    for long in &LONG {
+    for long in long_lists() {
         let lines = lines_of(rt.alloc(), long)?;
         let mut told = Told::new(rt.alloc());
         let (empty, nowhere) = (Image::empty(), Place::nowhere());
-        let _left = run_on_disk(
-            rt.alloc(),
-            empty,
-            nowhere,
-            script(lines.as_str()),
-            &mut told,
-        )?;
-        let printed = told.printed.as_str();
-        assert!(rt; printed.ends_with(long.ends), "{}", long.shows);
+        let script = script(lines.as_str());
+        let _left = run_on_disk(rt.alloc(), empty, nowhere, script, &mut told)?;
+        assert_ends(&rt, &told, long);
     }
     Ok(())
 }

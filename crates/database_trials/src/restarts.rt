@@ -1,11 +1,10 @@
 //! Databases that are closed and opened again between deliveries.
 use crate::disks::{Image, Left, Place, run_on_disk};
-use crate::scripts::{Script, Told, run};
-use crate::worked_buildings::{WITHOUT_SCHEDULE, worked_building};
-use crate::worked_script::{COUNT, DELIVERED, first_replies, lines_after};
+use crate::scripts::{Script, Told, assert_same, run_in_memory};
+use crate::worked_buildings::{without_schedule, worked_building};
+use crate::worked_script::{COUNT, deliveries, first_replies, lines_after};
 use std::alloc::Global;
 use std::test::Fail;
-use store::MemStore;
 
 // Runs lines of the worked building over a database in files, and adds what is told.
 fn run_in_files(
@@ -27,7 +26,7 @@ fn run_in_files(
 // Runs the worked list over a database in files, of which each delivery finds what was synced before.
 fn run_list_in_files(alloc: Global, told: &mut Told) -> Result<(), Fail> {
     let mut left = run_in_files(alloc, Image::empty(), "", told)?;
-    for delivered in &DELIVERED {
+    for delivered in deliveries() {
         left = run_in_files(alloc, left.synced(), delivered.line, told)?;
     }
     Ok(())
@@ -42,8 +41,7 @@ fn run_list_at_once(alloc: Global, told: &mut Told) -> Result<(), Fail> {
         lines: lines.as_str(),
         points: &[],
     };
-    let _store = run(alloc, MemStore::new(alloc), script, told)?;
-    Ok(())
+    run_in_memory(alloc, script, told)
 }
 
 #[test]
@@ -52,9 +50,19 @@ fn restarts_change_no_reply_and_no_content(rt: HostRuntime) -> Result<(), Fail> 
     run_list_at_once(rt.alloc(), &mut once)?;
     run_list_in_files(rt.alloc(), &mut restarted)?;
     let replies = first_replies(rt.alloc(), COUNT)?;
-    assert_eq!(rt; once.printed.as_str(), replies.as_str());
-    assert_eq!(rt; restarted.printed.as_str(), replies.as_str());
-    assert_eq!(rt; restarted.after.as_str(), once.after.as_str());
+    assert_same(&rt, once.printed.as_str(), replies.as_str(), "at once");
+    assert_same(
+        &rt,
+        restarted.printed.as_str(),
+        replies.as_str(),
+        "restarted",
+    );
+    assert_same(
+        &rt,
+        restarted.after.as_str(),
+        once.after.as_str(),
+        "content",
+    );
     Ok(())
 }
 
@@ -74,7 +82,7 @@ fn a_repeat_after_a_restart_gets_its_first_answer(rt: HostRuntime) -> Result<(),
     let alloc = rt.alloc();
     let left = run_in_files(alloc, Image::empty(), FIVE_COMMANDS, &mut Told::new(alloc))?;
     let script = Script {
-        building: WITHOUT_SCHEDULE,
+        building: without_schedule(),
         lines: FIFTH_COMMAND,
         points: &["R101-SET"],
     };
@@ -82,8 +90,8 @@ fn a_repeat_after_a_restart_gets_its_first_answer(rt: HostRuntime) -> Result<(),
     let _left = run_on_disk(alloc, left.synced(), Place::nowhere(), script, &mut told)?;
     let wanted =
         "{\"answer\":\"done\",\"number\":5,\"present\":2000,\"priority\":10}\nR101-SET 2300 at 9\n";
-    assert_eq!(rt; told.printed.as_str(), wanted);
-    assert_eq!(rt; told.after.as_str(), told.before.as_str());
+    assert_same(&rt, told.printed.as_str(), wanted, "printed");
+    assert_same(&rt, told.after.as_str(), told.before.as_str(), "content");
     Ok(())
 }
 
@@ -95,19 +103,17 @@ fn another_building_is_refused_and_changes_nothing(rt: HostRuntime) -> Result<()
     let alloc = rt.alloc();
     let left = run_in_files(alloc, Image::empty(), TICK, &mut Told::new(alloc))?;
     let script = Script {
-        building: WITHOUT_SCHEDULE,
+        building: without_schedule(),
         lines: FIFTH_COMMAND,
         points: &[],
     };
     let mut told = Told::new(alloc);
     let left = run_on_disk(alloc, left.synced(), Place::nowhere(), script, &mut told)?;
-    assert_eq!(rt; told.printed.as_str(), "S5\n");
+    assert_same(&rt, told.printed.as_str(), "S5\n", "refused");
     let mut again = Told::new(alloc);
     let _left = run_in_files(alloc, left.synced(), TICK, &mut again)?;
-    assert_eq!(rt; again.before.as_str(), told.before.as_str());
-    assert_eq!(rt;
-        again.printed.as_str(),
-        "{\"answer\":\"old\",\"writes\":0}\n"
-    );
+    assert_same(&rt, again.before.as_str(), told.before.as_str(), "content");
+    let wanted = "{\"answer\":\"old\",\"writes\":0}\n";
+    assert_same(&rt, again.printed.as_str(), wanted, "again");
     Ok(())
 }

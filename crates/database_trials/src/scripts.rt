@@ -3,12 +3,13 @@ use crate::contents::push_content;
 use answered_lines::answer_line;
 use building::Building;
 use delivery_lines::LineFault;
-use desk::Desk;
+use desk::{Desk, PointState};
 use points::Name;
 use std::alloc::Global;
-use std::fmt::Write;
+use std::fmt::{Debug, Display, Write};
+use std::process::Abort;
 use std::test::Fail;
-use store::Store;
+use store::{MemStore, Store, StoreFault};
 use texts::text_of;
 
 /// A building's file, lines of deliveries, and the points that are told after them.
@@ -47,13 +48,18 @@ fn answered<S: Store + Drop>(
     answer_line(alloc, desk, line.as_bytes())
 }
 
+/// Appends a fault as a line.
+pub(crate) fn push_fault<F: Display + Drop>(fault: F, printed: &mut String) -> Result<(), Fail> {
+    writeln!(printed, "{fault}")?;
+    Ok(())
+}
+
 fn push_answer(answer: Result<Vec<u8>, LineFault>, printed: &mut String) -> Result<(), Fail> {
     match answer {
-        Ok(reply) => printed.push_str(text_of(reply.as_slice()).ok_or("a reply is no text")?)?,
-        Err(LineFault::NotDone(fault)) => writeln!(printed, "{fault}")?,
-        Err(LineFault::NotDelivery) => writeln!(printed, "no delivery")?,
+        Ok(reply) => Ok(printed.push_str(text_of(reply.as_slice()).ok_or("a reply is no text")?)?),
+        Err(LineFault::NotDone(fault)) => push_fault(fault, printed),
+        Err(LineFault::NotDelivery) => push_fault("no delivery", printed),
     }
-    Ok(())
 }
 
 fn push_answers<S: Store + Drop>(
@@ -68,15 +74,15 @@ fn push_answers<S: Store + Drop>(
     Ok(())
 }
 
-fn push_point<S: Store + Drop>(
-    desk: &mut Desk<S>,
+fn push_state(
     name: &str,
+    state: Result<Option<PointState>, StoreFault>,
     printed: &mut String,
 ) -> Result<(), Fail> {
-    match desk.point(&Name::read(name)?) {
+    match state {
         Ok(Some(state)) => writeln!(printed, "{name} {} at {}", state.present, state.priority)?,
         Ok(None) => writeln!(printed, "no {name}")?,
-        Err(fault) => writeln!(printed, "{fault}")?,
+        Err(fault) => push_fault(fault, printed)?,
     }
     Ok(())
 }
@@ -87,9 +93,19 @@ fn push_points<S: Store + Drop>(
     printed: &mut String,
 ) -> Result<(), Fail> {
     for name in names {
-        push_point(desk, name, printed)?;
+        push_state(name, desk.point(&Name::read(name)?), printed)?;
     }
     Ok(())
+}
+
+fn push_replies<S: Store + Drop>(
+    alloc: Global,
+    desk: &mut Desk<S>,
+    script: Script<'_>,
+    printed: &mut String,
+) -> Result<(), Fail> {
+    push_answers(alloc, desk, script.lines, printed)?;
+    push_points(desk, script.points, printed)
 }
 
 // Tells a desk the lines of a script, and gives its store back.
@@ -98,30 +114,77 @@ fn run_desk<S: Store + Drop>(
     desk: Desk<S>,
     script: Script<'_>,
     told: &mut Told,
-) -> Result<S, Fail> {
+) -> (Result<(), Fail>, S) {
     let mut desk = desk;
-    push_answers(alloc, &mut desk, script.lines, &mut told.printed)?;
-    push_points(&mut desk, script.points, &mut told.printed)?;
+    let done = push_replies(alloc, &mut desk, script, &mut told.printed);
     let mut store = desk.into_store();
-    push_content(&mut store, &mut told.after)?;
-    Ok(store)
+    match done {
+        Ok(()) => (push_content(&mut store, &mut told.after), store),
+        Err(fail) => (Err(fail), store),
+    }
 }
 
-/// Opens a desk over a store and tells it the lines of a script. A fault of the opening is told in place of the replies.
+// A desk over a store, without what is promised of it.
+fn opened<S: Store + Drop>(
+    alloc: Global,
+    building: Building,
+    store: S,
+) -> Result<Desk<S>, (StoreFault, S)> {
+    Desk::open(alloc, building, store)
+}
+
+fn run_over<S: Store + Drop>(
+    alloc: Global,
+    building: Building,
+    store: S,
+    script: Script<'_>,
+    told: &mut Told,
+) -> (Result<(), Fail>, S) {
+    match opened(alloc, building, store) {
+        Ok(desk) => run_desk(alloc, desk, script, told),
+        Err((fault, store)) => (push_fault(fault, &mut told.printed), store),
+    }
+}
+
+fn building_of(alloc: Global, script: Script<'_>) -> Result<Building, Fail> {
+    Ok(Building::read(alloc, script.building.as_bytes())?)
+}
+
+/// Opens a desk over a store, tells it the lines of a script, and gives the store back. A fault of the opening is told in
+/// place of the replies.
 pub(crate) fn run<S: Store + Drop>(
     alloc: Global,
     store: S,
     script: Script<'_>,
     told: &mut Told,
-) -> Result<S, Fail> {
-    let building = Building::read(alloc, script.building.as_bytes())?;
+) -> (Result<(), Fail>, S) {
     let mut store = store;
-    push_content(&mut store, &mut told.before)?;
-    match Desk::open(alloc, building, store) {
-        Ok(desk) => run_desk(alloc, desk, script, told),
-        Err((fault, store)) => {
-            writeln!(told.printed, "{fault}")?;
-            Ok(store)
-        }
+    if let Err(fail) = push_content(&mut store, &mut told.before) {
+        return (Err(fail), store);
     }
+    match building_of(alloc, script) {
+        Ok(building) => run_over(alloc, building, store, script, told),
+        Err(fail) => (Err(fail), store),
+    }
+}
+
+/// Runs a script over empty tables in memory.
+pub(crate) fn run_in_memory(
+    alloc: Global,
+    script: Script<'_>,
+    told: &mut Told,
+) -> Result<(), Fail> {
+    let (done, _store) = run(alloc, MemStore::new(alloc), script, told);
+    done
+}
+
+/// A text is the one that is wanted, at a row or a place: asserted here for all tests, since each assertion is dear to
+/// prove beside other code.
+pub(crate) fn assert_same<T: Debug + Drop>(rt: &impl Abort, text: &str, wanted: &str, at: T) {
+    assert_eq!(rt; text, wanted, "{at:?}");
+}
+
+/// Something holds, at a row or a place.
+pub(crate) fn assert_holds<T: Debug + Drop>(rt: &impl Abort, holds: bool, at: T) {
+    assert!(rt; holds, "{at:?}");
 }

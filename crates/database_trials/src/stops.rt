@@ -2,15 +2,14 @@
 //! goes on.
 use crate::disks::{File, Image, Left, Place, run_on_disk};
 use crate::faulty_disk::Trouble;
-use crate::scripts::{Script, Told, run};
+use crate::scripts::{Script, Told, assert_holds, assert_same, run_in_memory};
 use crate::worked_buildings::worked_building;
 use crate::worked_script::{
-    COUNT, DELIVERED, first_lines, first_replies, lines_after, replies_after,
+    COUNT, deliveries, first_lines, first_replies, lines_after, replies_after,
 };
 use std::alloc::Global;
 use std::process::Abort;
 use std::test::Fail;
-use store::MemStore;
 
 /// More calls than the list makes of one file.
 const MOST_CALLS: u64 = 5000;
@@ -24,7 +23,7 @@ fn content_after(alloc: Global, building: &str, count: usize) -> Result<String, 
         lines: lines.as_str(),
         points: &[],
     };
-    let _store = run(alloc, MemStore::new(alloc), script, &mut told)?;
+    run_in_memory(alloc, script, &mut told)?;
     Ok(told.after)
 }
 
@@ -66,7 +65,7 @@ impl Wanted {
 // How many deliveries of the list are answered as wanted before the first other answer.
 fn answered_in(printed: &str) -> usize {
     let mut count = 0usize;
-    for (line, delivered) in printed.lines().zip(DELIVERED.iter()) {
+    for (line, delivered) in printed.lines().zip(deliveries().iter()) {
         if line != delivered.reply {
             return count;
         }
@@ -96,7 +95,7 @@ fn assert_told(
         return Ok(());
     }
     let wanted = stopped_text(alloc, answered)?;
-    assert_eq!(rt; printed, wanted.as_str(), "{place:?}");
+    assert_same(rt, printed, wanted.as_str(), place);
     Ok(())
 }
 
@@ -116,15 +115,12 @@ fn assert_goes_on(
     let is_repeat = !wanted.is_after(answered, told.before.as_str());
     if is_repeat {
         let is_made = wanted.is_after(answered.saturating_add(1), told.before.as_str());
-        assert!(rt; is_made, "{place:?} leaves {}", told.before);
+        assert_holds(rt, is_made, (place, told.before.as_str()));
     }
     let replies = replies_after(alloc, answered, is_repeat)?;
-    assert_eq!(rt; told.printed.as_str(), replies.as_str(), "{place:?}");
-    assert!(rt;
-        wanted.is_after(COUNT, told.after.as_str()),
-        "{place:?} ends with {}",
-        told.after
-    );
+    assert_same(rt, told.printed.as_str(), replies.as_str(), place);
+    let is_whole = wanted.is_after(COUNT, told.after.as_str());
+    assert_holds(rt, is_whole, (place, told.after.as_str()));
     Ok(())
 }
 
@@ -143,7 +139,7 @@ fn try_place(
     let left = run_on_disk(alloc, start, place, script, &mut told)?;
     let answered = answered_in(told.printed.as_str());
     assert_told(rt, alloc, place, answered, told.printed.as_str())?;
-    assert!(rt; answered == COUNT || left.has_failed, "{place:?}");
+    assert_holds(rt, answered == COUNT || left.has_failed, place);
     for image in left.images() {
         assert_goes_on(rt, alloc, wanted, image, answered, place)?;
     }
@@ -186,27 +182,27 @@ const CHANGES: usize = 12;
 #[test]
 fn a_stop_of_the_log_leaves_whole_deliveries(rt: HostRuntime) -> Result<(), Fail> {
     let met = try_places(&rt, rt.alloc(), Trouble::Stop, File::Log)?;
-    assert!(rt; met >= CHANGES, "{met}");
+    assert_holds(&rt, met >= CHANGES, met);
     Ok(())
 }
 
 #[test]
 fn a_stop_of_the_database_file_leaves_whole_deliveries(rt: HostRuntime) -> Result<(), Fail> {
     let met = try_places(&rt, rt.alloc(), Trouble::Stop, File::Database)?;
-    assert!(rt; met > 1, "{met}");
+    assert_holds(&rt, met > 1, met);
     Ok(())
 }
 
 #[test]
 fn a_fault_of_the_log_leaves_whole_deliveries(rt: HostRuntime) -> Result<(), Fail> {
     let met = try_places(&rt, rt.alloc(), Trouble::Fault, File::Log)?;
-    assert!(rt; met >= CHANGES, "{met}");
+    assert_holds(&rt, met >= CHANGES, met);
     Ok(())
 }
 
 #[test]
 fn a_fault_of_the_database_file_leaves_whole_deliveries(rt: HostRuntime) -> Result<(), Fail> {
     let met = try_places(&rt, rt.alloc(), Trouble::Fault, File::Database)?;
-    assert!(rt; met > 1, "{met}");
+    assert_holds(&rt, met > 1, met);
     Ok(())
 }

@@ -1,8 +1,8 @@
 //! A database of version 1, which other statements made, and a disk that meets trouble while it is opened.
 use crate::disks::{File, Image, Left, Place, run_on_disk, run_statements};
 use crate::faulty_disk::Trouble;
-use crate::scripts::{Script, Told};
-use crate::worked_buildings::WITHOUT_SCHEDULE;
+use crate::scripts::{Script, Told, assert_holds, assert_same};
+use crate::worked_buildings::without_schedule;
 use std::alloc::{AllocError, Global};
 use std::fmt::Write;
 use std::process::Abort;
@@ -19,6 +19,13 @@ CREATE TABLE imported (calendar TEXT NOT NULL, entry TEXT NOT NULL, PRIMARY KEY 
 INSERT INTO desk VALUES (1, 1, NULL);
 INSERT INTO place VALUES ('LIGHT', 8, 1);
 ";
+
+// Begins a transaction, and makes the tables.
+fn begun(alloc: Global) -> Result<String, AllocError> {
+    let mut statements = String::from_str(alloc, "BEGIN;")?;
+    statements.push_str(TABLES)?;
+    Ok(statements)
+}
 
 /// The version; the next numbers by panel; how many rows of commands are kept; the least and the greatest number of P1.
 const QUERIES: [&str; 5] = [
@@ -42,8 +49,7 @@ fn push_commands(statements: &mut String) -> Result<(), Fail> {
 
 // A database of version 1 with 1,001 commands of P1.
 fn with_many_commands(alloc: Global) -> Result<String, Fail> {
-    let mut statements = String::from_str(alloc, "BEGIN;")?;
-    statements.push_str(TABLES)?;
+    let mut statements = begun(alloc)?;
     statements.push_str("INSERT INTO panel VALUES ('P1', 1002);")?;
     push_commands(&mut statements)?;
     statements.push_str("COMMIT;")?;
@@ -59,7 +65,10 @@ INSERT INTO command VALUES ('P1', 3, 'LIGHT', 8, 1, 1, 1, 8), ('P1', 4, 'LIGHT',
 ";
 
 fn with_few_commands(alloc: Global) -> Result<String, AllocError> {
-    format!(in alloc; "BEGIN;{TABLES}{FEW_COMMANDS}COMMIT;")
+    let mut statements = begun(alloc)?;
+    statements.push_str(FEW_COMMANDS)?;
+    statements.push_str("COMMIT;")?;
+    Ok(statements)
 }
 
 // The files of a database that statements make.
@@ -77,7 +86,7 @@ fn rows_in(alloc: Global, image: Image<'_>) -> Result<String, Fail> {
 
 fn script(lines: &str) -> Script<'_> {
     Script {
-        building: WITHOUT_SCHEDULE,
+        building: without_schedule(),
         lines,
         points: &[],
     }
@@ -87,7 +96,7 @@ fn script(lines: &str) -> Script<'_> {
 fn answers_of_version_1_are_kept_for_1000_numbers(rt: HostRuntime) -> Result<(), Fail> {
     let made = made_by(rt.alloc(), with_many_commands(rt.alloc())?.as_str())?;
     let before = rows_in(rt.alloc(), made.written())?;
-    assert_eq!(rt; before.as_str(), "1;1002;1001;1;1001;");
+    assert_same(&rt, before.as_str(), "1;1002;1001;1;1001;", "before");
     let mut told = Told::new(rt.alloc());
     let lines = r#"{"number":1,"panel":"P1","point":"LIGHT","priority":8,"value":1}
 {"number":2,"panel":"P1","point":"LIGHT","priority":8,"value":1}"#;
@@ -101,9 +110,9 @@ fn answers_of_version_1_are_kept_for_1000_numbers(rt: HostRuntime) -> Result<(),
         script(lines),
         &mut told,
     )?;
-    assert_eq!(rt; told.printed.as_str(), wanted);
+    assert_same(&rt, told.printed.as_str(), wanted, "printed");
     let after = rows_in(rt.alloc(), left.synced())?;
-    assert_eq!(rt; after.as_str(), "2;1002;1000;2;1001;");
+    assert_same(&rt, after.as_str(), "2;1002;1000;2;1001;", "after");
     Ok(())
 }
 
@@ -140,12 +149,13 @@ fn assert_whole(
 ) -> Result<(), Fail> {
     let rows = rows_in(alloc, image)?;
     let is_old = !is_opened && rows.as_str() == BEFORE;
-    assert!(rt; is_old || rows.as_str() == AFTER, "{place:?} leaves {rows}");
+    let is_whole = is_old || rows.as_str() == AFTER;
+    assert_holds(rt, is_whole, (place, rows.as_str()));
     let mut told = Told::new(alloc);
     let left = run_on_disk(alloc, image, Place::nowhere(), script(LINES), &mut told)?;
-    assert_eq!(rt; told.printed.as_str(), REPLIES, "{place:?}");
+    assert_same(rt, told.printed.as_str(), REPLIES, place);
     let after = rows_in(alloc, left.synced())?;
-    assert_eq!(rt; after.as_str(), "2;1006 1002;3;1004;1005;", "{place:?}");
+    assert_same(rt, after.as_str(), "2;1006 1002;3;1004;1005;", place);
     Ok(())
 }
 
@@ -154,7 +164,8 @@ fn try_place(rt: &impl Abort, alloc: Global, start: Image<'_>, place: Place) -> 
     let mut told = Told::new(alloc);
     let left = run_on_disk(alloc, start, place, script(""), &mut told)?;
     let is_opened = told.printed.is_empty();
-    assert!(rt; is_opened || left.has_failed, "{place:?}: {}", told.printed);
+    let is_told = is_opened || left.has_failed;
+    assert_holds(rt, is_told, (place, told.printed.as_str()));
     for image in left.images() {
         assert_whole(rt, alloc, image, is_opened, place)?;
     }
@@ -171,7 +182,7 @@ fn try_places(rt: &impl Abort, alloc: Global, trouble: Trouble, file: File) -> R
             calls,
         };
         if !try_place(rt, alloc, made.written(), place)? {
-            assert!(rt; calls > 0, "{file:?} is not called");
+            assert_holds(rt, calls > 0, place);
             return Ok(());
         }
     }
@@ -211,8 +222,8 @@ fn an_unknown_version_is_refused_and_stays(rt: HostRuntime) -> Result<(), Fail> 
         script(LINES),
         &mut told,
     )?;
-    assert_eq!(rt; told.printed.as_str(), "S4\n");
+    assert_same(&rt, told.printed.as_str(), "S4\n", "refused");
     let rows = rows_in(rt.alloc(), left.written())?;
-    assert_eq!(rt; rows.as_str(), "7;1005 1002;5;3;1004;");
+    assert_same(&rt, rows.as_str(), "7;1005 1002;5;3;1004;", "stays");
     Ok(())
 }

@@ -1,11 +1,12 @@
 //! The worked lists of deliveries, over each store.
-use crate::memory_stores::in_memory;
-use crate::scripts::{Script, Told, run};
+use crate::scripts::{Script, Told, assert_holds, assert_same, run};
 use crate::worked_buildings::worked_building;
+use sqlite::{Alter, Connection};
 use std::alloc::Global;
 use std::process::Abort;
 use std::test::Fail;
 use store::{MemStore, Store};
+use store_sql::SqlStore;
 
 /// The points that are told after each step.
 const POINTS: [&str; 2] = ["R101-SET", "LIGHT"];
@@ -318,6 +319,31 @@ const WALKS: [Walk; 10] = [
     },
 ];
 
+fn walks() -> &'static [Walk] {
+    &WALKS
+}
+
+// Takes a step over a store, which is given back. It meets no fault.
+fn try_step<S: Store + Drop>(
+    rt: &impl Abort,
+    alloc: Global,
+    store: S,
+    building: &str,
+    step: &Step,
+) -> (Result<(), Fail>, S) {
+    let mut told = Told::new(alloc);
+    let script = Script {
+        building,
+        lines: step.lines,
+        points: &POINTS,
+    };
+    let (done, store) = run(alloc, store, script, &mut told);
+    if done.is_ok() {
+        assert_same(rt, told.printed.as_str(), step.printed, step.shows);
+    }
+    (done, store)
+}
+
 // Takes the steps of a walk over a store of empty tables. No step meets a fault.
 fn try_walk<S: Store + Drop>(
     rt: &impl Abort,
@@ -328,22 +354,30 @@ fn try_walk<S: Store + Drop>(
     let building = worked_building(alloc, walk.period)?;
     let mut store = store;
     for step in walk.steps {
-        let mut told = Told::new(alloc);
-        let script = Script {
-            building: building.as_str(),
-            lines: step.lines,
-            points: &POINTS,
-        };
-        store = run(alloc, store, script, &mut told)?;
-        assert_eq!(rt; told.printed.as_str(), step.printed, "{}", step.shows);
+        let (done, left) = try_step(rt, alloc, store, building.as_str(), step);
+        store = left;
+        done?;
     }
-    assert_eq!(rt; store.failures(), 0);
+    assert_holds(rt, store.failures() == 0, "no failure");
     Ok(())
+}
+
+// Takes the steps of a walk over the tables of a database that has nothing yet.
+fn try_walk_over<S: Alter + Drop>(
+    rt: &impl Abort,
+    alloc: Global,
+    connection: Connection<S>,
+    walk: &Walk,
+) -> Result<(), Fail> {
+    match SqlStore::create(alloc, connection) {
+        Ok(store) => try_walk(rt, alloc, store, walk),
+        Err((fault, _connection)) => Err(Fail::from(fault)),
+    }
 }
 
 #[test]
 fn the_worked_rows_are_answered_by_tables_in_memory(rt: HostRuntime) -> Result<(), Fail> {
-    for walk in &WALKS {
+    for walk in walks() {
         try_walk(&rt, rt.alloc(), MemStore::new(rt.alloc()), walk)?;
     }
     Ok(())
@@ -351,8 +385,9 @@ fn the_worked_rows_are_answered_by_tables_in_memory(rt: HostRuntime) -> Result<(
 
 #[test]
 fn the_worked_rows_are_answered_by_a_database_in_memory(rt: HostRuntime) -> Result<(), Fail> {
-    for walk in &WALKS {
-        try_walk(&rt, rt.alloc(), in_memory(rt.alloc())?, walk)?;
+    for walk in walks() {
+        let connection = Connection::open_in_memory(rt.alloc())?;
+        try_walk_over(&rt, rt.alloc(), connection, walk)?;
     }
     Ok(())
 }

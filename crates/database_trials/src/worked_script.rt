@@ -18,7 +18,7 @@ pub(crate) const COUNT: usize = 17;
 
 /// Commands that wait, a skip that frees them, ticks, imports, a command of another panel, one that brings two that wait
 /// (of which one is refused), a repeat, a place that is relinquished, and the next day.
-pub(crate) const DELIVERED: [Delivered; COUNT] = [
+const DELIVERED: [Delivered; COUNT] = [
     Delivered {
         line: r#"{"number":2,"panel":"P1","point":"R101-SET","priority":8,"value":2000}"#,
         reply: r#"{"answer":"parked","next":1,"number":2}"#,
@@ -106,33 +106,51 @@ pub(crate) const DELIVERED: [Delivered; COUNT] = [
     },
 ];
 
-/// The first lines of the list.
-pub(crate) fn first_lines(alloc: Global, count: usize) -> Result<String, AllocError> {
+/// The list. It is named here alone: a table that is named in a function is evaluated in its proof.
+pub(crate) fn deliveries() -> &'static [Delivered] {
+    &DELIVERED
+}
+
+fn push_line(line: &str, text: &mut String) -> Result<(), AllocError> {
+    text.push_str(line)?;
+    text.push('\n')
+}
+
+fn push_replies(list: &[Delivered], replies: &mut String) -> Result<(), AllocError> {
+    for delivered in list {
+        push_line(delivered.reply, replies)?;
+    }
+    Ok(())
+}
+
+fn lines_of(alloc: Global, list: &[Delivered]) -> Result<String, AllocError> {
     let mut lines = String::new(alloc);
-    for delivered in DELIVERED.iter().take(count) {
-        lines.push_str(delivered.line)?;
-        lines.push('\n')?;
+    for delivered in list {
+        push_line(delivered.line, &mut lines)?;
     }
     Ok(lines)
 }
 
+// The first deliveries of the list, and those after them.
+fn split(count: usize) -> (&'static [Delivered], &'static [Delivered]) {
+    let list = deliveries();
+    list.split_at(count.min(list.len()))
+}
+
+/// The first lines of the list.
+pub(crate) fn first_lines(alloc: Global, count: usize) -> Result<String, AllocError> {
+    lines_of(alloc, split(count).0)
+}
+
 /// The lines of the list without its first ones.
 pub(crate) fn lines_after(alloc: Global, count: usize) -> Result<String, AllocError> {
-    let mut lines = String::new(alloc);
-    for delivered in DELIVERED.iter().skip(count) {
-        lines.push_str(delivered.line)?;
-        lines.push('\n')?;
-    }
-    Ok(lines)
+    lines_of(alloc, split(count).1)
 }
 
 /// The replies to the first deliveries of the list.
 pub(crate) fn first_replies(alloc: Global, count: usize) -> Result<String, AllocError> {
     let mut replies = String::new(alloc);
-    for delivered in DELIVERED.iter().take(count) {
-        replies.push_str(delivered.reply)?;
-        replies.push('\n')?;
-    }
+    push_replies(split(count).0, &mut replies)?;
     Ok(replies)
 }
 
@@ -143,14 +161,12 @@ pub(crate) fn replies_after(
     is_repeat: bool,
 ) -> Result<String, AllocError> {
     let mut replies = String::new(alloc);
-    for (place, delivered) in DELIVERED.iter().enumerate().skip(count) {
-        let reply = if is_repeat && place == count {
-            delivered.repeated
-        } else {
-            delivered.reply
-        };
-        replies.push_str(reply)?;
-        replies.push('\n')?;
+    if let Some((next, later)) = split(count).1.split_first() {
+        push_line(
+            if is_repeat { next.repeated } else { next.reply },
+            &mut replies,
+        )?;
+        push_replies(later, &mut replies)?;
     }
     Ok(replies)
 }
