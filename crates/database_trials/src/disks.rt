@@ -193,37 +193,6 @@ fn run_over_tables<S: Alter + Drop>(
     }
 }
 
-// Runs a script over the store in files.
-fn run_over<D: Disk + Drop>(
-    alloc: Global,
-    files: Files<D>,
-    script: Script<'_>,
-    told: &mut Told,
-) -> (Result<(), Fail>, Files<D>) {
-    match connected(alloc, files) {
-        Ok(connection) => {
-            let (done, store) = run_over_tables(alloc, connection, script, told);
-            (done, store.close())
-        }
-        Err(files) => (push_fault("no database", &mut told.printed), files),
-    }
-}
-
-/// Runs a script over the store in files that meet trouble at a place. The store is made where there is none; where none
-/// is opened, that is told in place of the replies.
-pub(crate) fn run_on_disk(
-    alloc: Global,
-    image: Image<'_>,
-    place: Place,
-    script: Script<'_>,
-    told: &mut Told,
-) -> Result<Left, Fail> {
-    let files = files_of(alloc, image, place)?;
-    let (done, files) = run_over(alloc, files, script, told);
-    done?;
-    Ok(left_of(alloc, files)?)
-}
-
 fn number_of(row: &Row) -> Result<i64, Fail> {
     Ok(row.get::<i64>(0)?)
 }
@@ -278,21 +247,81 @@ fn run_over_connection<S: Alter + Drop>(
     (done, connection.into_store())
 }
 
-// Executes statements and asks queries over the database in files, and gives these back.
-fn run_without_tables<D: Disk + Drop>(
+// What is done with a database, and where it is told.
+#[derive(Drop)]
+enum Work<'a> {
+    Deliver {
+        script: Script<'a>,
+        told: &'a mut Told,
+    },
+    Ask {
+        statements: &'a str,
+        queries: &'a [&'a str],
+        text: &'a mut String,
+    },
+}
+
+// What the connection stood over is given back.
+fn work_over<S: Alter + Drop>(
+    alloc: Global,
+    connection: Connection<S>,
+    work: Work<'_>,
+) -> (Result<(), Fail>, S) {
+    match work {
+        Work::Deliver { script, told } => run_over_tables(alloc, connection, script, told),
+        Work::Ask {
+            statements,
+            queries,
+            text,
+        } => run_over_connection(connection, statements, queries, text),
+    }
+}
+
+fn work_without_database(work: Work<'_>) -> Result<(), Fail> {
+    match work {
+        Work::Deliver { told, .. } => push_fault("no database", &mut told.printed),
+        Work::Ask { .. } => Err(Fail::new("no database")),
+    }
+}
+
+// Works over the database in files, and gives these back. Each function that names a store in files is dear to prove,
+// so there is one for all work.
+fn work_in_files<D: Disk + Drop>(
     alloc: Global,
     files: Files<D>,
-    statements: &str,
-    queries: &[&str],
-    text: &mut String,
+    work: Work<'_>,
 ) -> (Result<(), Fail>, Files<D>) {
     match connected(alloc, files) {
         Ok(connection) => {
-            let (done, store) = run_over_connection(connection, statements, queries, text);
+            let (done, store) = work_over(alloc, connection, work);
             (done, store.close())
         }
-        Err(files) => (Err(Fail::new("no database")), files),
+        Err(files) => (work_without_database(work), files),
     }
+}
+
+// Works over the database in files that meet trouble at a place.
+fn work_on_disk(
+    alloc: Global,
+    image: Image<'_>,
+    place: Place,
+    work: Work<'_>,
+) -> Result<Left, Fail> {
+    let (done, files) = work_in_files(alloc, files_of(alloc, image, place)?, work);
+    done?;
+    Ok(left_of(alloc, files)?)
+}
+
+/// Runs a script over the store in files that meet trouble at a place. The store is made where there is none; where none
+/// is opened, that is told in place of the replies.
+pub(crate) fn run_on_disk(
+    alloc: Global,
+    image: Image<'_>,
+    place: Place,
+    script: Script<'_>,
+    told: &mut Told,
+) -> Result<Left, Fail> {
+    work_on_disk(alloc, image, place, Work::Deliver { script, told })
 }
 
 /// Executes statements on the database in files, without a store, and appends what it answers then to queries: their
@@ -304,8 +333,10 @@ pub(crate) fn run_statements(
     queries: &[&str],
     text: &mut String,
 ) -> Result<Left, Fail> {
-    let files = files_of(alloc, image, Place::nowhere())?;
-    let (done, files) = run_without_tables(alloc, files, statements, queries, text);
-    done?;
-    Ok(left_of(alloc, files)?)
+    let work = Work::Ask {
+        statements,
+        queries,
+        text,
+    };
+    work_on_disk(alloc, image, Place::nowhere(), work)
 }
