@@ -6,12 +6,14 @@ pub mod DeskLemmas
 pub mod DeskTexts
 pub mod ImportedLemmas
 pub mod ImportedTexts
+pub mod KeyLemmas
 pub mod LeastLemmas
 pub mod PanelLemmas
 pub mod PanelTexts
 pub mod PlaceLemmas
 pub mod PlaceTexts
 pub mod RestLemmas
+pub mod RewriteLemmas
 pub mod RowLemmas
 pub mod RunLemmas
 pub mod ShownLemmas

@@ -1,11 +1,16 @@
 -- The statements on the next numbers.
-use Rattle.std.proofs.Common.{◌≡◌, ℕ, Result, IfOk, Ok, Err, OnOk, pos, true, List, [], ◌∷◌, codes, refl, ap}
+use Rattle.std.proofs.Common.{◌≡◌, inl, inr, ℕ, Result, IfOk, Ok, Err, OnOk, pos, true, List, [], ◌∷◌, codes, refl, sym, ap, subst, ◌∙◌}
 use Rattle.sqlite_value.specs.declared.value.Value.TheVariants.{Int, Null, Text}
+use Rattle.sqlite_value.specs.Keys.{first_key}
 use Rattle.sqlite_value.specs.Order.{Row, column}
 use Rattle.sqlite_schema.specs.declared.schema.Constraint.TheVariants.{Datatype, NotNull}
 use Rattle.sqlite_schema.specs.declared.schema.Kind.TheVariants as kind
+use Rattle.sqlite_catalog.specs.Listing.{automatic}
+use Rattle.sqlite_rules.specs.Edit.{id_in}
 use Rattle.sqlite_rules.specs.Lists.{Has}
 use Rattle.sqlite_rules.proofs.ListLemmas.{all_has}
+use Rattle.sqlite_rules.proofs.TableLemmas.{int_is}
+use Rattle.sqlite_trees.specs.Tree.{rowid}
 use Rattle.sqlite_sql.specs.declared.ops.CompareOp.TheVariants.{Gt}
 use Rattle.sqlite_sql.specs.Term.{lit, col}
 use Rattle.sqlite.specs.declared.error.Error.{Error}
@@ -13,14 +18,16 @@ use Rattle.sqlite.specs.Effect.{Database}
 use Rattle.sqlite.specs.State.{ExecutesInside, Shown, State}
 use Rattle.sql_schema.specs.Schema.{column_of, panel_table, panel_tree}
 use Rattle.sql_rows.specs.Meanings.{compared_with, given, passes}
-use Rattle.sql_rows.specs.Ours.{Changes, Gains, IsInside, IsOurs, Loses}
+use Rattle.sql_rows.specs.Ours.{Changes, Gains, IsInside, IsOurs, Loses, Rewrites}
 use Rattle.sql_rows.specs.Slot.{On, panel_slot}
 use Rattle.sql_rows.proofs.CellLemmas.{after_text, and_true, cast_int, cast_null, equal_text}
+use Rattle.sql_rows.proofs.KeyLemmas.{one_number, text_is}
+use Rattle.sql_rows.proofs.RewriteLemmas.{rewrites}
 use Rattle.sql_rows.proofs.RestLemmas.{finds, finds_least, finds_same, least_same}
 use Rattle.sql_rows.specs.Looking.{Finds, FindsLeast, is_after}
 use Rattle.sql_rows.proofs.SlotLemmas.{gains, is_panel, loses}
 use Rattle.sql_rows.proofs.TypeLemmas.{IsFilled, first_filled, ruled}
-use Rattle.sql_rows.proofs.PanelTexts.{add_is, add_plain, add_text, clear_is, clear_plain, clear_text, find_is, find_plain, find_text, find_unlisted, next_name_is, next_name_plain, next_name_text, next_name_unlisted}
+use Rattle.sql_rows.proofs.PanelTexts.{add_is, add_plain, add_text, cells_set, clear_is, clear_plain, clear_text, find_is, find_plain, find_text, find_unlisted, next_name_is, next_name_plain, next_name_text, next_name_unlisted, set_is, set_plain, set_text}
 use Rattle.stored_rows.specs.Cells.{is_text}
 use Rattle.stored_rows.specs.Rows.{of_panel}
 
@@ -49,6 +56,28 @@ adds panel next old new result inside h =
     gains panel_slot is_panel add_text add_plain (codes "panel") panel_table.columns panel_table.checks (lit Null ∷ col 0 0 ∷ col 0 1 ∷ []) 3 panel_tree refl add_is
     old new (Text panel ∷ Int (pos next) ∷ []) (Text panel ∷ Int (pos next) ∷ []) result
     (rw (cast_null, cast_int (pos next)) refl) inside h
+
+-- no two rows have one name
+one_panel : (db : Database) → IsOurs db → (panel : List ℕ) (a b : Row) → Has (db.trees panel_tree) a → Has (db.trees panel_tree) b → of_panel panel a ≡ true → of_panel panel b ≡ true → rowid a ≡ rowid b
+unfolding first_key
+one_panel db ours panel a b ha hb is_a is_b =
+    one_number (automatic panel_table 0 (1 ∷ []) 2) panel_table (1 ∷ []) db ours (inr (inl refl)) (inl refl) refl ours.rows.panel a b ha hb
+    (subst (λ v. passes (given 1 0 ∷ []) (v ∷ []) a ≡ true) (sym (text_is panel (column b 1) is_b)) (passes_panel db ours panel a ha ∙ is_a))
+
+pub sets : (panel : List ℕ) (next : ℕ) → (old new : State) (result : Result ℕ Error) → IsInside old → ExecutesInside 0 set_text (Text panel ∷ Int (pos next) ∷ []) old new result
+    → IfOk result (λ count. Changes (On panel_slot (Rewrites (of_panel panel) (Text panel ∷ Int (pos next) ∷ []) count)) old new)
+sets panel next old new result inside h =
+    let cells = Text panel ∷ Int (pos next) ∷ [] in
+    rewrites panel_slot is_panel set_text set_plain (given 1 0 ∷ []) (of_panel panel) cells_set set_is old new cells cells result
+    (λ row h. passes_panel old.now inside.ours panel row h)
+    (record {
+      by_key = λ a b same. ap (λ l. is_text panel (column l 0)) same;
+      one = λ a b ha hb is_a is_b. one_panel old.now inside.ours panel a b ha hb is_a is_b;
+      made = λ row h is.
+          let number = int_is (rowid row) (inside.ours.rows.panel.numbered row h) in
+          rw (text_is panel (column row 1) is, cast_int (pos next), number, cast_int (id_in (rowid row))) refl;
+    })
+    inside h
 
 -- the queries
 

@@ -1,11 +1,17 @@
 -- The statements on the places.
-use Rattle.std.proofs.Common.{◌≡◌, ℕ, ℤ, Result, IfOk, Ok, Err, OnOk, pos, true, ◌&&◌, List, [], ◌∷◌, codes, refl, ap}
+use Rattle.std.proofs.Common.{◌≡◌, inl, inr, ℕ, ℤ, Result, IfOk, Ok, Err, OnOk, pos, true, ◌&&◌, List, [], ◌∷◌, codes, refl, sym, ap, subst₂, ◌∙◌}
+use Rattle.std.proofs.lemmas.Bool.{and_parts}
 use Rattle.sqlite_value.specs.declared.value.Value.TheVariants.{Int, Null, Text}
+use Rattle.sqlite_value.specs.Keys.{first_key}
 use Rattle.sqlite_value.specs.Order.{Row, column}
 use Rattle.sqlite_schema.specs.declared.schema.Constraint.TheVariants.{Datatype, NotNull}
 use Rattle.sqlite_schema.specs.declared.schema.Kind.TheVariants as kind
+use Rattle.sqlite_catalog.specs.Listing.{automatic}
+use Rattle.sqlite_rules.specs.Edit.{id_in}
 use Rattle.sqlite_rules.specs.Lists.{Has}
 use Rattle.sqlite_rules.proofs.ListLemmas.{all_has}
+use Rattle.sqlite_rules.proofs.TableLemmas.{int_is}
+use Rattle.sqlite_trees.specs.Tree.{rowid}
 use Rattle.sqlite.specs.Effect.{Database}
 use Rattle.sql_schema.specs.Schema.{column_of, place_table, place_tree}
 use Rattle.sql_rows.specs.Meanings.{compared_with, given, passes}
@@ -16,10 +22,12 @@ use Rattle.sqlite_sql.specs.declared.ops.CompareOp.TheVariants.{Ge, Gt}
 use Rattle.sqlite_sql.specs.Term.{lit, col}
 use Rattle.sqlite.specs.declared.error.Error.{Error}
 use Rattle.sqlite.specs.State.{ExecutesInside, Shown, State}
-use Rattle.sql_rows.specs.Ours.{Changes, Gains, IsInside, Loses}
+use Rattle.sql_rows.specs.Ours.{Changes, Gains, IsInside, Loses, Rewrites}
 use Rattle.sql_rows.specs.Slot.{On, place_slot}
 use Rattle.sql_rows.proofs.CellLemmas.{after_text, and_true, cast_int, cast_null, equal_count, equal_text, from_count}
-use Rattle.sql_rows.proofs.PlaceTexts.{add_is, add_plain, add_text, clear_is, clear_plain, clear_text, find_is, find_plain, find_text, find_unlisted, next_point_is, next_point_plain, next_point_text, next_point_unlisted, next_priority_is, next_priority_plain, next_priority_text, next_priority_unlisted, of_point_is, of_point_plain, of_point_text, of_point_unlisted}
+use Rattle.sql_rows.proofs.PlaceTexts.{add_is, add_plain, add_text, cells_set, clear_is, clear_plain, clear_text, find_is, find_plain, find_text, find_unlisted, next_point_is, next_point_plain, next_point_text, next_point_unlisted, next_priority_is, next_priority_plain, next_priority_text, next_priority_unlisted, of_point_is, of_point_plain, of_point_text, of_point_unlisted, set_is, set_plain, set_text}
+use Rattle.sql_rows.proofs.KeyLemmas.{count_is, one_number, text_is}
+use Rattle.sql_rows.proofs.RewriteLemmas.{rewrites}
 use Rattle.sql_rows.proofs.RestLemmas.{finds, finds_least, finds_same, least_same}
 use Rattle.sql_rows.specs.Looking.{Finds, FindsLeast, is_after, is_from}
 use Rattle.sql_rows.proofs.SlotLemmas.{gains, is_place, loses}
@@ -56,6 +64,33 @@ adds point priority value old new result inside h =
     gains place_slot is_place add_text add_plain (codes "place") place_table.columns place_table.checks (lit Null ∷ col 0 0 ∷ col 0 1 ∷ col 0 2 ∷ []) 4 place_tree refl add_is
     old new (Text point ∷ Int (pos priority) ∷ Int value ∷ []) (Text point ∷ Int (pos priority) ∷ Int value ∷ []) result
     (rw (cast_null, cast_int (pos priority), cast_int value) refl) inside h
+
+-- no two rows have one place
+one_place : (db : Database) → IsOurs db → (point : List ℕ) (priority : ℕ) (a b : Row) → Has (db.trees place_tree) a → Has (db.trees place_tree) b
+    → of_place point priority a ≡ true → of_place point priority b ≡ true → rowid a ≡ rowid b
+unfolding first_key
+one_place db ours point priority a b ha hb is_a is_b =
+    let parts = and_parts _ _ is_b in
+    one_number (automatic place_table 0 (1 ∷ 2 ∷ []) 6) place_table (1 ∷ 2 ∷ []) db ours (inr (inr (inr (inl refl)))) (inr (inr (inl refl))) refl ours.rows.place a b ha hb
+    (subst₂ (λ v w. passes (given 1 0 ∷ given 2 1 ∷ []) (v ∷ w ∷ []) a ≡ true) (sym (text_is point (column b 1) parts.0)) (sym (count_is priority (column b 2) parts.1))
+    (passes_place db ours point priority a ha ∙ is_a))
+
+pub sets : (point : List ℕ) (priority : ℕ) (value : ℤ) (old new : State) (result : Result ℕ Error) → IsInside old
+    → ExecutesInside 0 set_text (Text point ∷ Int (pos priority) ∷ Int value ∷ []) old new result
+    → IfOk result (λ count. Changes (On place_slot (Rewrites (of_place point priority) (Text point ∷ Int (pos priority) ∷ Int value ∷ []) count)) old new)
+sets point priority value old new result inside h =
+    let cells = Text point ∷ Int (pos priority) ∷ Int value ∷ [] in
+    rewrites place_slot is_place set_text set_plain (given 1 0 ∷ given 2 1 ∷ []) (of_place point priority) cells_set set_is old new cells cells result
+    (λ row h. passes_place old.now inside.ours point priority row h)
+    (record {
+      by_key = λ a b same. ap (λ l. is_text point (column l 0) && is_count priority (column l 1)) same;
+      one = λ a b ha hb is_a is_b. one_place old.now inside.ours point priority a b ha hb is_a is_b;
+      made = λ row h is.
+          let parts = and_parts _ _ is in
+          let number = int_is (rowid row) (inside.ours.rows.place.numbered row h) in
+          rw (text_is point (column row 1) parts.0, count_is priority (column row 2) parts.1, cast_int (pos priority), cast_int value, number, cast_int (id_in (rowid row))) refl;
+    })
+    inside h
 
 -- the queries
 

@@ -58,7 +58,7 @@ has_id id row int has =
 pub has_own_id : (row : Row) → is_int (rowid row) ≡ true → has_rowid (id_in (rowid row)) row ≡ true
 has_own_id row int = ap (λ v. is_eq (value_cmp (rowid row) v)) (sym (int_is (rowid row) int)) ∙ ap is_eq (tied_itself value_cmp_total (rowid row))
 
-has_permuted : {X : Type 0} (xs ys : List X) (x : X) → IsPermutation xs ys → Has ys x → Has xs x
+pub has_permuted : {X : Type 0} (xs ys : List X) (x : X) → IsPermutation xs ys → Has ys x → Has xs x
 has_permuted xs ys x same = all_has (Has xs) ys x (all-permutation (Has xs) xs ys same (all_from (Has xs) xs (λ e h. h)))
 
 by_both : (a b : Bool) → (a ≡ true → b ≡ true) → (b ≡ true → a ≡ true) → a ≡ b
@@ -111,7 +111,7 @@ own_filtered p key rows own = record {
   apart = λ a b ha hb. own.apart a b (has_filtered p rows a ha).0 (has_filtered p rows b hb).0;
 }
 
-tied_taken : (new : Row) (rows : List Row) (a : Row) → Has rows a → rowid a ≡ rowid new → is_taken rows new ≡ true
+pub tied_taken : (new : Row) (rows : List Row) (a : Row) → Has rows a → rowid a ≡ rowid new → is_taken rows new ≡ true
 tied_taken new rows a h same = some_from (λ r. is_eq (value_cmp (rowid r) (rowid new))) rows a h (ap (λ v. is_eq (value_cmp v (rowid new))) same ∙ ap is_eq (tied_itself value_cmp_total (rowid new)))
 
 -- so are the rows with one at a number that none has

@@ -135,7 +135,7 @@ not_true false is = refl
 not_true true is = sym is
 
 module _ (slot : Slot) (is_slot : IsSlot slot) (sql : List ℕ) (plain : IsPlain (understood desk_schema sql)) where
-  changed : (Rows : List Row → List Row → Type 0) (edit : Edit) (old new : State) → edit.table ≡ slot.table → IsInside old → Shows old new new.now old.committed true → Ran old new edit
+  pub changed : (Rows : List Row → List Row → Type 0) (edit : Edit) (old new : State) → edit.table ≡ slot.table → IsInside old → Shows old new new.now old.committed true → Ran old new edit
       → AreOwn slot.key (new.now.trees slot.table.tree) → Rows (old.now.trees slot.table.tree) (new.now.trees slot.table.tree) → Changes (On slot Rows) old new
   changed Rows edit old new on inside seen ran own rows =
       let was = kept_in old.now.trees in
@@ -149,7 +149,7 @@ module _ (slot : Slot) (is_slot : IsSlot slot) (sql : List ℕ) (plain : IsPlain
         };
       }
 
-  own_rows : (s : State) → IsInside s → AreOwn slot.key (s.now.trees slot.table.tree)
+  pub own_rows : (s : State) → IsInside s → AreOwn slot.key (s.now.trees slot.table.tree)
   own_rows s inside = subst (AreOwn slot.key) (is_slot.stands s.now.trees) (is_slot.own (kept_in s.now.trees) inside.ours.rows)
 
   -- a statement that removes the rows of a key

@@ -1,5 +1,6 @@
--- What a statement that removes rows of a table, or adds one, makes of the trees.
-use Rattle.std.proofs.Common.{◌≡◌, ◌⊎◌, inl, inr, ℕ, List, length, ◌/◌, [], ◌∷◌, ◌++◌, map, filter, slice_get, Option, Some, None, Ok, Err, Result, refl, sym, ap, subst, ◌∙◌}
+-- What a statement that removes rows of a table, adds one, or changes them, makes of the trees.
+use Rattle.std.proofs.Common.{◌≡◌, ◌⊎◌, inl, inr, ℕ, List, length, ◌/◌, [], ◌∷◌, ◌++◌, map, filter, slice_get, Option, Some, None, Ok, Err, Result, refl, sym, ap, subst, ◌∙◌, unwrap_or}
+use Rattle.std.proofs.lemmas.List.{length-map}
 use Rattle.std.specs.List.Sorted.{IsPermutation}
 use Rattle.sqlite_value.specs.Order.{Row}
 use Rattle.sqlite_trees.specs.Tree.{rowid}
@@ -12,6 +13,7 @@ use Rattle.sqlite_sql.specs.Term.{Term, col}
 use Rattle.sqlite_rules.specs.declared.error.Rowids.TheVariants.{Chosen, Given}
 use Rattle.sqlite_rules.specs.Calls.{ids_of}
 use Rattle.sqlite_rules.specs.Edit.{Applies, Edit, edit_of}
+use Rattle.sqlite_rules.proofs.PlaceLemmas.{given as numbered_given}
 use Rattle.sqlite.specs.Does.{AtPlace, Does, OnRows, Tally}
 use Rattle.sqlite.specs.Effect.{Database, IsDatabase, value_rows}
 use Rattle.sqlite.specs.Given.{IsPlain}
@@ -62,12 +64,12 @@ module _ (sql : List ℕ) (at : ℕ) (table : Table) (found : slice_get desk_sch
         record { schema = ap (λ (d : Database). d.schema) now; sound = w.sound; applies = subst (Applies desk_schema Enforced db edit) left (one_step desk_schema Enforced db written.0 edit refl written.1) },
       )
 
-  pub updates : (tree : ℕ) (project : List Term) → command_of (understood desk_schema sql) ≡ Update at (record { lets = []; body = plain_query tree [] project })
+  pub updates : (tree : ℕ) (terms project : List Term) → command_of (understood desk_schema sql) ≡ Update at (record { lets = []; body = plain_query tree terms project })
       → (old new : State) (params : Row) (count : ℕ) → old.now.schema ≡ desk_schema → Executes sql params old new (Ok count)
-      → (rows : List Row) × IsPermutation (map (shows project params) (filter (passes [] params) (old.now.trees tree))) rows × Ran old new (edit_of old.now.trees table (ids_of rows) Given 1 rows)
-  updates tree project is old new params count has h =
+      → (rows : List Row) × IsPermutation (map (shows project params) (filter (passes terms params) (old.now.trees tree))) rows × Ran old new (edit_of old.now.trees table (ids_of rows) Given 1 rows) × (count ≡ length rows)
+  updates tree terms project is old new params count has h =
       let db = old.now.trees in
-      let command = Update at (record { lets = []; body = plain_query tree [] project }) in
+      let command = Update at (record { lets = []; body = plain_query tree terms project }) in
       let text = statement_of sql (understood desk_schema sql) in
       let w = runs_as sql params old new desk_schema has command is plain count h in
       let on = subst (λ s. Does old.step_limit (mode_of old) params (record old.now { schema = s }) text None command (Ok (w.tally, new.now))) has w.changed in
@@ -78,10 +80,12 @@ module _ (sql : List ℕ) (at : ℕ) (table : Table) (found : slice_get desk_sch
       let concluded = went (went done.2).2 in
       let now = ap (λ (p : Tally × Database). p.1) (same_value concluded.2) in
       let left : written.0 ≡ new.now.trees = ap (λ (it : Written). it.trees) (sym (same_value written.2)) ∙ sym (ap (λ (d : Database). d.trees) now) in
-      let edit = edit_of db table (ids_of updated.0) Given 1 updated.0 in (
+      let edit = edit_of db table (ids_of updated.0) Given 1 updated.0 in
+      let told = w.counted ∙ ap (λ (p : Tally × Database). unwrap_or p.0.rows 0) (same_value concluded.2) ∙ ap (λ (it : Written). length it.rows) (same_value written.2) in (
         updated.0,
-        plain_program tree [] project db params updated.0 updated.1.answer,
+        plain_program tree terms project db params updated.0 updated.1.answer,
         record { schema = ap (λ (d : Database). d.schema) now; sound = w.sound; applies = subst (Applies desk_schema Enforced db edit) left (one_step desk_schema Enforced db written.0 edit refl written.1) },
+        told ∙ ap length (numbered_given _ _) ∙ length-map updated.0 _,
       )
 
 module _ (sql : List ℕ) (at : ℕ) (name : List ℕ) (tree : ℕ) (columns : List Column) (key : List ℕ) (checks : List Term)

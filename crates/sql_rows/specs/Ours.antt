@@ -1,5 +1,5 @@
 -- A database of the six tables.
-use Rattle.std.specs.Prelude.{◌≡◌, ℕ, Bool, true, not, filter, IsTrue, List, [], ◌∷◌, ◌++◌, map}
+use Rattle.std.specs.Prelude.{◌≡◌, ℕ, zero, suc, Bool, true, not, filter, IsTrue, List, [], ◌∷◌, ◌++◌, map}
 use Rattle.sqlite_value.specs.declared.value.Value.{Value}
 use Rattle.sqlite_rules.specs.Lists.{Has}
 use Rattle.sqlite_trees.specs.Tree.{Trees, rowid}
@@ -10,7 +10,7 @@ use Rattle.sqlite.specs.State.{Shows, State}
 use Rattle.sql_schema.specs.Schema.{command_tree, desk_schema, desk_tree, imported_tree, panel_tree, place_tree, shown_tree}
 use Rattle.store.specs.Standing.{Content}
 use Rattle.store.specs.Tables.{Tables}
-use Rattle.stored_rows.specs.Stored.{Kept, content_in, is_sound_in, tables_in}
+use Rattle.stored_rows.specs.Stored.{HasPut, Kept, content_in, is_sound_in, tables_in}
 
 -- the rows of the six tables
 abbrev pub kept_in : Trees → Kept
@@ -76,6 +76,11 @@ Loses gone old now = now ≡ filter (λ row. not (gone row)) old
 pub record Gains (cells : Row) (old now : List Row) : Type 0 where
   pub id : Value
   pub more : HasOneMore (id ∷ cells) old now
+
+-- so many rows passed: where none did, the rows are as they were; else those that passed are gone, and there is one row with these cells
+abbrev pub Rewrites : (Row → Bool) → Row → ℕ → List Row → List Row → Type 0
+Rewrites gone cells zero old now = Loses gone old old × (now ≡ old)
+Rewrites gone cells (suc more) old now = (id : Value) × HasPut (id ∷ cells) gone old now
 
 -- the row of `desk` is another one, with this as its last cell
 pub record SetsDesk (last : Row → Value) (old new : Kept) : Type 0 where

@@ -5,7 +5,7 @@ ghost use Rattle.sqlite.specs.State.{HasCleanDisk, IsUnchanged, KeepsCommit, Sur
 ghost use Rattle.sqlite_value.specs.declared.value.Value.TheVariants.{Int, Text};
 ghost use Rattle.sqlite_value.specs.Order.{column};
 ghost use Rattle.sql_rows.specs.Looking.{Finds, FindsLeast, Rests, is_after, is_from};
-ghost use Rattle.sql_rows.specs.Ours.{Changes, Gains, IsInside, IsOurs, Loses, kept_in};
+ghost use Rattle.sql_rows.specs.Ours.{Changes, Gains, IsInside, IsOurs, Loses, Rewrites, kept_in};
 ghost use Rattle.sql_rows.specs.Slot.{On, panel_slot};
 ghost use Rattle.stored_rows.specs.Cells.{is_text};
 ghost use Rattle.stored_rows.specs.Rows.{of_panel};
@@ -45,6 +45,25 @@ pub fn add<S: Alter>(
     run(
         transaction,
         "INSERT INTO panel (name, next) VALUES (?1, ?2)",
+        &[text(panel), count(next)],
+    )
+}
+
+/// Sets the next number of a panel that has one, and tells how many rows that were: none, or the one that it has.
+pub fn set<S: Alter>(
+    transaction: &mut Transaction<'_, S>,
+    panel: &Name,
+    next: u64,
+) -> Result<usize, Error>
+    requires { next < 2 ^ 63 }
+    ensures same_reference { transaction.new.conn.ghost_name ≡ transaction.old.conn.ghost_name }
+    ensures done { HasCleanDisk (state S.Store transaction.new.conn.now) → IsInside (state S.Store transaction.old.conn.now) → IfOk result (λ count. Changes (On panel_slot (Rewrites (of_panel panel.now) (Text panel.now ∷ Int (pos next) ∷ []) count)) (state S.Store transaction.old.conn.now) (state S.Store transaction.new.conn.now)) }
+    ensures kept { HasCleanDisk (state S.Store transaction.new.conn.now) → KeepsCommit (state S.Store transaction.old.conn.now) (state S.Store transaction.new.conn.now) }
+    ensures survives { Survives (state S.Store transaction.old.conn.now) (state S.Store transaction.new.conn.now) (λ _. ⊥) }
+{
+    run(
+        transaction,
+        "UPDATE panel SET next = ?2 WHERE name = ?1",
         &[text(panel), count(next)],
     )
 }

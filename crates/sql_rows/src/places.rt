@@ -5,7 +5,7 @@ ghost use Rattle.sqlite.specs.State.{HasCleanDisk, IsUnchanged, KeepsCommit, Sur
 ghost use Rattle.sqlite_value.specs.declared.value.Value.TheVariants.{Int, Text};
 ghost use Rattle.sqlite_value.specs.Order.{column};
 ghost use Rattle.sql_rows.specs.Looking.{Finds, FindsLeast, Rests, is_after, is_from};
-ghost use Rattle.sql_rows.specs.Ours.{Changes, Gains, IsInside, IsOurs, Loses, kept_in};
+ghost use Rattle.sql_rows.specs.Ours.{Changes, Gains, IsInside, IsOurs, Loses, Rewrites, kept_in};
 ghost use Rattle.sql_rows.specs.Slot.{On, place_slot};
 ghost use Rattle.stored_rows.specs.Cells.{is_text};
 ghost use Rattle.stored_rows.specs.Rows.{of_place};
@@ -49,6 +49,25 @@ pub fn add<S: Alter>(
     run(
         transaction,
         "INSERT INTO place (point, priority, value) VALUES (?1, ?2, ?3)",
+        &[text(point), count(u64::from(priority)), whole(value)],
+    )
+}
+
+/// Sets the value in a place that has one, and tells how many rows that were: none, or the one that it has.
+pub fn set<S: Alter>(
+    transaction: &mut Transaction<'_, S>,
+    point: &Name,
+    priority: u8,
+    value: i64,
+) -> Result<usize, Error>
+    ensures same_reference { transaction.new.conn.ghost_name ≡ transaction.old.conn.ghost_name }
+    ensures done { HasCleanDisk (state S.Store transaction.new.conn.now) → IsInside (state S.Store transaction.old.conn.now) → IfOk result (λ count. Changes (On place_slot (Rewrites (of_place point.now priority) (Text point.now ∷ Int (pos priority) ∷ Int value ∷ []) count)) (state S.Store transaction.old.conn.now) (state S.Store transaction.new.conn.now)) }
+    ensures kept { HasCleanDisk (state S.Store transaction.new.conn.now) → KeepsCommit (state S.Store transaction.old.conn.now) (state S.Store transaction.new.conn.now) }
+    ensures survives { Survives (state S.Store transaction.old.conn.now) (state S.Store transaction.new.conn.now) (λ _. ⊥) }
+{
+    run(
+        transaction,
+        "UPDATE place SET value = ?3 WHERE point = ?1 AND priority = ?2",
         &[text(point), count(u64::from(priority)), whole(value)],
     )
 }
