@@ -18,16 +18,16 @@ use Rattle.sqlite.specs.Effect.{Database}
 use Rattle.sqlite.specs.State.{ExecutesInside, Shown, State}
 use Rattle.sql_schema.specs.Schema.{column_of, panel_table, panel_tree}
 use Rattle.sql_rows.specs.Meanings.{compared_with, given, passes}
-use Rattle.sql_rows.specs.Ours.{Changes, Gains, IsInside, IsOurs, Loses, Rewrites}
+use Rattle.sql_rows.specs.Ours.{Changes, Gains, IsInside, IsOurs, Rewrites}
 use Rattle.sql_rows.specs.Slot.{On, panel_slot}
 use Rattle.sql_rows.proofs.CellLemmas.{after_text, and_true, cast_int, cast_null, equal_text}
 use Rattle.sql_rows.proofs.KeyLemmas.{one_number, text_is}
 use Rattle.sql_rows.proofs.RewriteLemmas.{rewrites}
 use Rattle.sql_rows.proofs.RestLemmas.{finds, finds_least, finds_same, least_same}
 use Rattle.sql_rows.specs.Looking.{Finds, FindsLeast, is_after}
-use Rattle.sql_rows.proofs.SlotLemmas.{gains, is_panel, loses}
+use Rattle.sql_rows.proofs.SlotLemmas.{gains, is_panel}
 use Rattle.sql_rows.proofs.TypeLemmas.{IsFilled, first_filled, ruled}
-use Rattle.sql_rows.proofs.PanelTexts.{add_is, add_plain, add_text, cells_set, clear_is, clear_plain, clear_text, find_is, find_plain, find_text, find_unlisted, next_name_is, next_name_plain, next_name_text, next_name_unlisted, set_is, set_plain, set_text}
+use Rattle.sql_rows.proofs.PanelTexts.{add_is, add_plain, add_text, cells_set, find_is, find_plain, find_text, find_unlisted, next_name_is, next_name_plain, next_name_text, next_name_unlisted, set_is, set_plain, set_text}
 use Rattle.stored_rows.specs.Cells.{is_text}
 use Rattle.stored_rows.specs.Rows.{of_panel}
 
@@ -42,13 +42,6 @@ pub passes_panel : (db : Database) → IsOurs db → (panel : List ℕ) → (row
 passes_panel db ours panel row h =
     let cell = panel_cells db ours row h in
     rw (equal_text panel (column row 1) cell.of cell.filled, and_true) refl
-
-pub clears : (panel : List ℕ) → (old new : State) (result : Result ℕ Error) → IsInside old → ExecutesInside 0 clear_text (Text panel ∷ []) old new result
-    → OnOk result (Changes (On panel_slot (Loses (of_panel panel))) old new)
-clears panel old new result inside h =
-    loses panel_slot is_panel clear_text clear_plain (given 1 0 ∷ []) (of_panel panel) clear_is
-    (λ a b same. ap (λ l. is_text panel (column l 0)) same) old new (Text panel ∷ []) result
-    (λ row h. passes_panel old.now inside.ours panel row h) inside h
 
 pub adds : (panel : List ℕ) (next : ℕ) → (old new : State) (result : Result ℕ Error) → IsInside old → ExecutesInside 0 add_text (Text panel ∷ Int (pos next) ∷ []) old new result
     → OnOk result (Changes (On panel_slot (Gains (Text panel ∷ Int (pos next) ∷ []))) old new)

@@ -10,21 +10,10 @@ use Rattle.sqlite.specs.Listing.{reads_listing, understood}
 use Rattle.sqlite.proofs.Callers.{command_of}
 use Rattle.sqlite_tied.specs.Compute.{everything}
 use Rattle.sql_schema.specs.Schema.{desk_schema, panel_tree}
-use Rattle.sql_rows.specs.Meanings.{compared_with, deletion, given, least, plain_query, selection}
-
-abbrev pub clear_text : List ℕ
-clear_text = codes "DELETE FROM panel WHERE name = ?1"
+use Rattle.sql_rows.specs.Meanings.{compared_with, given, least, plain_query, selection}
 
 abbrev pub add_text : List ℕ
 add_text = codes "INSERT INTO panel (name, next) VALUES (?1, ?2)"
-
-pub clear_is : command_of (understood desk_schema clear_text) ≡ deletion 1 panel_tree (given 1 0 ∷ [])
-unfolding understood everything
-clear_is = refl
-
-pub clear_plain : IsPlain (understood desk_schema clear_text)
-unfolding understood everything
-clear_plain = (refl, refl)
 
 pub add_is : command_of (understood desk_schema add_text) ≡ Insert 1 (Values (lit Null ∷ col 0 0 ∷ col 0 1 ∷ []) 3)
 unfolding understood everything

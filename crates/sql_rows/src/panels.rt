@@ -5,7 +5,7 @@ ghost use Rattle.sqlite.specs.State.{HasCleanDisk, IsUnchanged, KeepsCommit, Sur
 ghost use Rattle.sqlite_value.specs.declared.value.Value.TheVariants.{Int, Text};
 ghost use Rattle.sqlite_value.specs.Order.{column};
 ghost use Rattle.sql_rows.specs.Looking.{Finds, FindsLeast, Rests, is_after, is_from};
-ghost use Rattle.sql_rows.specs.Ours.{Changes, Gains, IsInside, IsOurs, Loses, Rewrites, kept_in};
+ghost use Rattle.sql_rows.specs.Ours.{Changes, Gains, IsInside, IsOurs, Rewrites, kept_in};
 ghost use Rattle.sql_rows.specs.Slot.{On, panel_slot};
 ghost use Rattle.stored_rows.specs.Cells.{is_text};
 ghost use Rattle.stored_rows.specs.Rows.{of_panel};
@@ -15,20 +15,6 @@ use crate::parameters::{count, text, words};
 use crate::running::run;
 use points::Name;
 use sqlite::{Alter, Connection, Error, Row, Transaction};
-
-/// Removes the next number of a panel.
-pub fn clear<S: Alter>(transaction: &mut Transaction<'_, S>, panel: &Name) -> Result<usize, Error>
-    ensures same_reference { transaction.new.conn.ghost_name ≡ transaction.old.conn.ghost_name }
-    ensures done { HasCleanDisk (state S.Store transaction.new.conn.now) → IsInside (state S.Store transaction.old.conn.now) → OnOk result (Changes (On panel_slot (Loses (of_panel panel.now))) (state S.Store transaction.old.conn.now) (state S.Store transaction.new.conn.now)) }
-    ensures kept { HasCleanDisk (state S.Store transaction.new.conn.now) → KeepsCommit (state S.Store transaction.old.conn.now) (state S.Store transaction.new.conn.now) }
-    ensures survives { Survives (state S.Store transaction.old.conn.now) (state S.Store transaction.new.conn.now) (λ _. ⊥) }
-{
-    run(
-        transaction,
-        "DELETE FROM panel WHERE name = ?1",
-        &[text(panel)],
-    )
-}
 
 /// Adds the next number of a panel.
 pub fn add<S: Alter>(

@@ -1,5 +1,5 @@
 -- What a statement or two make of the tables.
-use Rattle.std.proofs.Common.{◌≡◌, ℕ, Bool, true, pos, ℤ, List, [], ◌∷◌, Option, Some, None, refl, sym, ap, subst, ◌∙◌}
+use Rattle.std.proofs.Common.{◌≡◌, ◌≢◌, ℕ, zero, suc, Bool, true, pos, ℤ, List, [], ◌∷◌, Option, Some, None, refl, sym, ap, subst, ◌∙◌}
 use Rattle.dates.specs.Entry.{IsEntry, spelling}
 use Rattle.points.specs.Name.{IsName}
 use Rattle.sqlite_value.specs.declared.value.Value.{Value}
@@ -18,7 +18,7 @@ use Rattle.stored_rows.specs.Rows.{of_command, of_entry, of_lower_command, of_pa
 use Rattle.stored_rows.specs.Stored.{HasPut, Kept, is_sound_in, tables_in}
 use Rattle.stored_rows.proofs.MadeLemmas.{made_cells, made_command, made_content, made_imported, made_next, made_place, made_shown}
 use Rattle.stored_rows.proofs.StoredLemmas.{clear_place, clear_shown, drop_commands, put_command, put_imported, put_next, put_place, put_shown, set_last}
-use Rattle.sql_rows.specs.Ours.{Gains, Loses, Makes, SetsDesk}
+use Rattle.sql_rows.specs.Ours.{Gains, Loses, Makes, Rewrites, SetsDesk}
 use Rattle.sql_rows.specs.Slot.{On, Slot, command_slot, imported_slot, panel_slot, place_slot, shown_slot}
 use Rattle.sql_writing.specs.Steps.{imported_put, last_put, next_put, place_put, row_put, rows_dropped, shown_put}
 use Rattle.sql_writing.proofs.DropLemmas.{drops_the_same}
@@ -39,19 +39,58 @@ put_on slot law gone cells a b c lost gains =
       is = gains.others ∙ ap (slot.set (slot.get c)) lost.others ∙ law (slot.get c) (slot.get b) a;
     }
 
+-- where a row of the key stood, an UPDATE puts one with these cells
+put_in : (slot : Slot) (gone : Row → Bool) (cells : Row) (count : ℕ) (a b : Kept) → count ≢ 0 → On slot (Rewrites gone cells count) a b → Put slot gone cells a b
+put_in slot gone cells zero a b some set = absurd (some refl)
+put_in slot gone cells (suc more) a b some set = record { id = set.rows.0; has = set.rows.1; is = set.others }
+
+-- where none stood, it does what the removal of none does
+none_lost : (slot : Slot) (gone : Row → Bool) (cells : Row) (count : ℕ) (a b : Kept) → count ≡ 0 → On slot (Rewrites gone cells count) a b → On slot (Loses gone) a b
+none_lost slot gone cells count a b none set =
+    let rows = subst (λ n. Rewrites gone cells n (slot.get a) (slot.get b)) none set.rows in
+    record { others = set.others; rows = rows.1 ∙ rows.0 }
+
 -- the tables of the rows that are
 makes_from : (f : Tables → Tables) (a b c : Kept) → c ≡ b → (tables_in b ≡ f (tables_in a)) × (is_sound_in a ≡ true → is_sound_in b ≡ true) → Makes f a c
 makes_from f a b c is both = subst (Makes f a) (sym is) (record { tables = both.0; is_sound = both.1 })
 
-module _ (a b c : Kept) where
-  pub next_made : (item : NextNumber) → IsName item.panel → IsNext item → On panel_slot (Loses (of_panel item.panel)) a b
-      → On panel_slot (Gains (Text item.panel ∷ Int (pos item.next) ∷ [])) b c → Makes (next_put item) a c
-  next_made item named in' lost gains =
-      let cells = Text item.panel ∷ Int (pos item.next) ∷ [] in
-      let put = put_on panel_slot (λ x y k. refl) (of_panel item.panel) cells a b c lost gains in
-      makes_from (next_put item) a (record a { panel = c.panel }) c put.is
-      (put_next item (put.id ∷ cells) a c.panel (made_next item (put.id ∷ cells) refl refl named in') put.has)
+-- the items that an UPDATE put, or else an INSERT
+module _ (item : NextNumber) (named : IsName item.panel) (in' : IsNext item) where
+  abbrev next_cells : Row
+  next_cells = Text item.panel ∷ Int (pos item.next) ∷ []
 
+  next_from : (a b : Kept) → Put panel_slot (of_panel item.panel) next_cells a b → Makes (next_put item) a b
+  next_from a b put =
+      makes_from (next_put item) a (record a { panel = b.panel }) b put.is
+      (put_next item (put.id ∷ next_cells) a b.panel (made_next item (put.id ∷ next_cells) refl refl named in') put.has)
+
+  pub next_set : (count : ℕ) → count ≢ 0 → (a b : Kept) → On panel_slot (Rewrites (of_panel item.panel) next_cells count) a b → Makes (next_put item) a b
+  next_set count some a b set = next_from a b (put_in panel_slot (of_panel item.panel) next_cells count a b some set)
+
+  pub next_added : (count : ℕ) → count ≡ 0 → (a b c : Kept) → On panel_slot (Rewrites (of_panel item.panel) next_cells count) a b → On panel_slot (Gains next_cells) b c → Makes (next_put item) a c
+  next_added count none a b c set gains =
+      next_from a c (put_on panel_slot (λ x y k. refl) (of_panel item.panel) next_cells a b c (none_lost panel_slot (of_panel item.panel) next_cells count a b none set) gains)
+
+module _ (item : PlaceValue) (value : ℤ) (some_value : item.value ≡ Some value) (named : IsName item.point) (in' : IsPlace item) where
+  abbrev place_cells : Row
+  place_cells = Text item.point ∷ Int (pos item.priority) ∷ Int value ∷ []
+
+  abbrev place_gone : Row → Bool
+  place_gone = of_place item.point item.priority
+
+  place_from : (a b : Kept) → Put place_slot place_gone place_cells a b → Makes (place_put item) a b
+  place_from a b put =
+      makes_from (place_put item) a (record a { place = b.place }) b put.is
+      (put_place item (put.id ∷ place_cells) a b.place (made_place item value (put.id ∷ place_cells) some_value refl refl refl named in') put.has)
+
+  pub place_set : (count : ℕ) → count ≢ 0 → (a b : Kept) → On place_slot (Rewrites place_gone place_cells count) a b → Makes (place_put item) a b
+  place_set count some a b set = place_from a b (put_in place_slot place_gone place_cells count a b some set)
+
+  pub place_added : (count : ℕ) → count ≡ 0 → (a b c : Kept) → On place_slot (Rewrites place_gone place_cells count) a b → On place_slot (Gains place_cells) b c → Makes (place_put item) a c
+  place_added count none a b c set gains =
+      place_from a c (put_on place_slot (λ x y k. refl) place_gone place_cells a b c (none_lost place_slot place_gone place_cells count a b none set) gains)
+
+module _ (a b c : Kept) where
   pub row_made : (item : KeptRow) (code : ℤ) (first second : Option ℤ) → IsName item.panel → IsName item.row.content.point → IsKeptRow item
       → state_in (Int code) (cell_of first) (cell_of second) ≡ Some item.row.state → On command_slot (Loses (of_command item.panel item.number)) a b
       → On command_slot (Gains (Text item.panel ∷ Int (pos item.number) ∷ Text item.row.content.point ∷ Int item.row.content.priority
@@ -64,15 +103,6 @@ module _ (a b c : Kept) where
       let kept = made_cells item.row (Text content.point) (Int content.priority) (cell_of content.value) (Int code) (cell_of first) (cell_of second) asks says in
       makes_from (row_put item) a (record a { command = c.command }) c put.is
       (put_command item (put.id ∷ cells) a c.command (made_command item (put.id ∷ cells) refl refl named in'.number kept) put.has)
-
-  pub place_made : (item : PlaceValue) (value : ℤ) → item.value ≡ Some value → IsName item.point → IsPlace item
-      → On place_slot (Loses (of_place item.point item.priority)) a b → On place_slot (Gains (Text item.point ∷ Int (pos item.priority) ∷ Int value ∷ [])) b c
-      → Makes (place_put item) a c
-  place_made item value some named in' lost gains =
-      let cells = Text item.point ∷ Int (pos item.priority) ∷ Int value ∷ [] in
-      let put = put_on place_slot (λ x y k. refl) (of_place item.point item.priority) cells a b c lost gains in
-      makes_from (place_put item) a (record a { place = c.place }) c put.is
-      (put_place item (put.id ∷ cells) a c.place (made_place item value (put.id ∷ cells) some refl refl refl named in') put.has)
 
   pub shown_made : (item : ShownValue) (value : Option ℤ) → item.shown ≡ Some value → IsName item.schedule
       → On shown_slot (Loses (of_schedule item.schedule)) a b → On shown_slot (Gains (Text item.schedule ∷ cell_of value ∷ [])) b c → Makes (shown_put item) a c

@@ -23,8 +23,9 @@ pub fn put_next<S: Alter>(
     ensures steps { Steps (Turns (next_put item.now)) (state S.Store transaction.old.conn.now) (state S.Store transaction.new.conn.now) result }
 {
     let _name = item.panel.as_str();
-    panels::clear(transaction, &item.panel)?;
-    panels::add(transaction, &item.panel, item.next)?;
+    if panels::set(transaction, &item.panel, item.next)? == 0 {
+        panels::add(transaction, &item.panel, item.next)?;
+    }
     Ok(())
 }
 
@@ -75,8 +76,11 @@ pub fn put_place<S: Alter>(
     ensures steps { Steps (Turns (place_put item.now)) (state S.Store transaction.old.conn.now) (state S.Store transaction.new.conn.now) result }
 {
     let _name = item.point.as_str();
-    places::clear(transaction, &item.point, item.priority)?;
-    if let Some(value) = item.value {
+    let Some(value) = item.value else {
+        places::clear(transaction, &item.point, item.priority)?;
+        return Ok(());
+    };
+    if places::set(transaction, &item.point, item.priority, value)? == 0 {
         places::add(transaction, &item.point, item.priority, value)?;
     }
     Ok(())
