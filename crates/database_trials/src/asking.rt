@@ -1,6 +1,7 @@
 //! Desks of the worked building, the worked request, and how a desk is asked. A long text, a call with a long contract
 //! and an assertion are dear to prove beside other code, so each of them stands in a function of its own.
 use crate::ends::{Page, Pieces};
+use crate::worked_buildings::worked_building;
 use building::Building;
 use counted::Counted;
 use desk::Desk;
@@ -10,42 +11,6 @@ use std::fmt::Display;
 use std::process::Abort;
 use std::test::Fail;
 use store::{MemStore, Store, StoreFault};
-
-/// The worked building.
-const BUILDING: &str = r#"
-zone = "CET-1CEST,M3.5.0,M10.5.0/3"
-[[point]]
-name = "R101-SET"
-kind = "analog"
-low = 500
-high = 3500
-default = 1800
-[[point]]
-name = "LIGHT"
-kind = "binary"
-default = 0
-[[panel]]
-name = "P1"
-points = ["R101-SET", "LIGHT"]
-priorities = [8, 10]
-[[panel]]
-name = "P2"
-points = ["R101-SET"]
-priorities = [9, 15]
-[[calendar]]
-name = "HOLIDAYS"
-entries = ["2025-12-25"]
-[[schedule]]
-name = "R101-DAY"
-priority = 15
-targets = ["R101-SET"]
-default = 1600
-weekly = [["08:00=2100"], [], [], [], [], [], ["02:45=1900"]]
-[[schedule.exception]]
-priority = 5
-calendar = "HOLIDAYS"
-times = ["00:00=1500"]
-"#;
 
 /// A command of P1.
 pub(crate) fn command() -> &'static str {
@@ -68,7 +33,8 @@ pub(crate) struct Got {
 }
 
 fn building(alloc: Global) -> Result<Building, Fail> {
-    Ok(Building::read(alloc, BUILDING.as_bytes())?)
+    let text = worked_building(alloc, "")?;
+    Ok(Building::read(alloc, text.as_bytes())?)
 }
 
 // A desk over a store, without what is promised of it.
