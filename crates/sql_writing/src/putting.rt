@@ -49,7 +49,7 @@ pub fn put_row<S: Alter>(transaction: &mut Transaction<'_, S>, item: &KeptRow) -
     Ok(())
 }
 
-/// Drops the rows of a panel below a number.
+/// Drops the rows of a panel below a number: below 0 there is none, so that nothing is asked of the database.
 pub fn drop_rows<S: Alter>(
     transaction: &mut Transaction<'_, S>,
     item: &RowsBelow,
@@ -57,6 +57,9 @@ pub fn drop_rows<S: Alter>(
     ensures same_reference { transaction.new.conn.ghost_name ≡ transaction.old.conn.ghost_name }
     ensures steps { Steps (Turns (rows_dropped item.now)) (state S.Store transaction.old.conn.now) (state S.Store transaction.new.conn.now) result }
 {
+    if item.number == 0 {
+        return Ok(());
+    }
     let number = if item.number < ABOVE {
         item.number
     } else {
