@@ -1,24 +1,16 @@
 //! The desk over its stores: the worked lists in memory and in a database, a database that is closed and opened again,
-//! one of version 1, and disks that stop or fail at a call; and what requests to it get, in pieces, cut, over ends that
-//! fail and over the loopback. There is no code here but tests, so that nothing is proved twice for them.
+//! one of version 1, and disks that stop or fail at a call. There is no code here but tests, so that nothing is proved
+//! twice for them.
 #![tactic(auto)]
 
-#[cfg(test)]
-mod asking;
 #[cfg(test)]
 mod contents;
 #[cfg(test)]
 mod disks;
 #[cfg(test)]
-mod ends;
-#[cfg(test)]
 mod faulty_disk;
 #[cfg(test)]
 mod long_lists;
-#[cfg(test)]
-mod loopback;
-#[cfg(test)]
-mod requests;
 #[cfg(test)]
 mod restarts;
 #[cfg(test)]
@@ -29,8 +21,6 @@ mod stops;
 mod version_1;
 #[cfg(test)]
 mod worked_buildings;
-#[cfg(test)]
-mod worked_request;
 #[cfg(test)]
 mod worked_rows;
 #[cfg(test)]
