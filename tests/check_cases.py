@@ -293,7 +293,7 @@ def changed(changes):
 
 
 def run(program, words, folder):
-    return subprocess.run([program, *words], cwd=folder, capture_output=True, timeout=20)
+    return subprocess.run([program, *words], cwd=folder, capture_output=True, timeout=60)
 
 
 def difference(program, wanted, file, folder):

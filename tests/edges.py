@@ -16,7 +16,7 @@ import time
 
 from tables import WORKED
 
-SECONDS = 5
+SECONDS = 60
 COMMAND = '{"number":1,"panel":"P1","point":"R101-SET","priority":8,"value":2150}\n'
 DONE = '{"answer":"done","number":1,"present":2150,"priority":8}\n'
 

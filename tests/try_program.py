@@ -30,7 +30,7 @@ import tables
 # The header of a log and that of a frame.
 LEAST_LOG = 32 + 24
 HERE = pathlib.Path(__file__).resolve().parent
-SECONDS = 20
+SECONDS = 60
 
 
 def run(program, words, folder):

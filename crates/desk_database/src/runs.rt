@@ -4,67 +4,80 @@ use desk_console::{Input, Status};
 use desk_serving::{Serving, serve};
 use one_delivery::{import, report, tick};
 use std::fs;
-use std::io::{self, BufWriter};
+use std::io::{self, BufWriter, Read, Write};
+use store::Store;
+use store_sql::OpenFault;
 
-/// Runs `desk import`: the building's file, the database and the holiday list by their paths.
-pub fn run_import(
+/// What is asked of the desk over a database.
+#[derive(Clone, Copy)]
+pub enum Asked<'a> {
+    /// The import of the holiday list of this path: `desk import`.
+    Import { holidays: &'a str },
+    /// A tick at this moment, in hundredths of a second since 1970: `desk tick`.
+    Tick { at: i64 },
+    /// The report of this day, `YYYY-MM-DD`: `desk report`.
+    Report { date: &'a str },
+    /// To answer requests: `desk serve`.
+    Serve(Serving<'a>),
+}
+
+/// Runs what is asked over the building and the database of these paths. It is an error where memory for the output's
+/// buffer is refused.
+pub fn run<'a>(
     rt: &HostRuntime,
-    file: &str,
+    file: &'a str,
     database: &str,
-    holidays: &str,
+    asked: &Asked<'a>,
 ) -> io::Result<Status> {
-    let alloc = rt.alloc();
-    let mut out = BufWriter::new(alloc, io::writer(rt))?;
-    let building = Input {
-        path: file,
-        reader: fs::open(rt, file),
-    };
-    let list = Input {
-        path: holidays,
-        reader: fs::open(rt, holidays),
+    let mut out = BufWriter::new(rt.alloc(), io::writer(rt))?;
+    let input_of = |path| Input {
+        path,
+        reader: fs::open(rt, path),
     };
     let opener = || open_store(rt, database);
-    Ok(import(alloc, building, list, opener, &mut out, &mut rt.stderr()).status)
-}
-
-/// Runs `desk tick`: the building's file and the database by their paths, and the moment in hundredths of a second
-/// since 1970.
-pub fn run_tick(rt: &HostRuntime, file: &str, database: &str, at: i64) -> io::Result<Status> {
-    let alloc = rt.alloc();
-    let mut out = BufWriter::new(alloc, io::writer(rt))?;
-    let building = Input {
-        path: file,
-        reader: fs::open(rt, file),
-    };
-    let opener = || open_store(rt, database);
-    Ok(tick(alloc, building, opener, at, &mut out, &mut rt.stderr()).status)
-}
-
-/// Runs `desk report`: the building's file and the database by their paths, and the day as `YYYY-MM-DD`.
-pub fn run_report(rt: &HostRuntime, file: &str, database: &str, date: &str) -> io::Result<Status> {
-    let alloc = rt.alloc();
-    let mut out = BufWriter::new(alloc, io::writer(rt))?;
-    let building = Input {
-        path: file,
-        reader: fs::open(rt, file),
-    };
-    let opener = || open_store(rt, database);
-    Ok(report(alloc, building, opener, date, &mut out, &mut rt.stderr()).status)
-}
-
-/// Runs `desk serve`: the building's file and the database by their paths, and what the server is asked to do.
-pub fn run_serve(rt: &HostRuntime, file: &str, database: &str, serving: &Serving<'_>) -> Status {
-    let building = Input {
-        path: file,
-        reader: fs::open(rt, file),
-    };
-    let opener = || open_store(rt, database);
-    serve(
+    Ok(run_over(
         rt,
-        building,
+        file,
+        input_of,
         opener,
-        serving,
-        &mut io::writer(rt),
+        asked,
+        &mut out,
         &mut rt.stderr(),
-    )
+    ))
+}
+
+/// Runs what is asked over the files and the store that these calls open. It is generic over them, since a call that names
+/// their types is dear to prove.
+fn run_over<'a, B: Read + Drop, S: Store + Drop, I, O, W: Write, F: Write>(
+    rt: &HostRuntime,
+    file: &'a str,
+    input_of: I,
+    opener: O,
+    asked: &Asked<'a>,
+    out: &mut W,
+    fault: &mut F,
+) -> Status
+where
+    I: Fn(&'a str) -> Input<'a, B>,
+    O: FnOnce() -> Result<S, OpenFault>,
+    requires reads { I.IsAlwaysCallable input_of }
+    requires opens { O.IsAlwaysCallable opener }
+{
+    let alloc = rt.alloc();
+    match asked {
+        Asked::Import { holidays } => {
+            import(
+                alloc,
+                input_of(file),
+                input_of(holidays),
+                opener,
+                out,
+                fault,
+            )
+            .status
+        }
+        Asked::Tick { at } => tick(alloc, input_of(file), opener, *at, out, fault).status,
+        Asked::Report { date } => report(alloc, input_of(file), opener, date, out, fault).status,
+        Asked::Serve(serving) => serve(rt, input_of(file), opener, serving, out, fault),
+    }
 }

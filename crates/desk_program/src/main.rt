@@ -5,7 +5,7 @@ use command_line::{ArgFault, Line};
 use desk_check::check;
 use desk_cli::replay;
 use desk_console::{Input, Listed, Status};
-use desk_database::{Serving, run_import, run_report, run_serve, run_tick};
+use desk_database::{Asked, Serving};
 use std::env;
 use std::fs::{self, File};
 use std::io::{self, BufReader, BufWriter, Write};
@@ -92,15 +92,17 @@ fn run(rt: &HostRuntime, words: &[String]) -> io::Result<Status> {
                 database,
                 holidays,
             },
-        ) => run_import(rt, file, database, holidays),
-        Ok(Line::Tick { file, database, at }) => run_tick(rt, file, database, at),
+        ) => desk_database::run(rt, file, database, &Asked::Import { holidays }),
+        Ok(Line::Tick { file, database, at }) => {
+            desk_database::run(rt, file, database, &Asked::Tick { at })
+        }
         Ok(
             Line::Report {
                 file,
                 database,
                 date,
             },
-        ) => run_report(rt, file, database, date),
+        ) => desk_database::run(rt, file, database, &Asked::Report { date }),
         Ok(
             Line::Serve {
                 file,
@@ -109,16 +111,14 @@ fn run(rt: &HostRuntime, words: &[String]) -> io::Result<Status> {
                 requests,
                 clock,
             },
-        ) => Ok(run_serve(
-            rt,
-            file,
-            database,
-            &Serving {
+        ) => {
+            let serving = Serving {
                 address,
                 requests,
                 clock,
-            },
-        )),
+            };
+            desk_database::run(rt, file, database, &Asked::Serve(serving))
+        }
         Err(fault) => Ok(refuse(rt, &fault)),
     }
 }

@@ -1,51 +1,12 @@
 //! The worked reports of a day.
-use building::Building;
+use crate::desks::desk_over;
 use dates::Day;
 use deliveries::Delivery;
 use desk::Desk;
 use std::alloc::Global;
 use std::process::Abort;
 use std::test::Fail;
-use store::MemStore;
-
-/// The worked building, but for the exception of its schedule.
-const BUILDING: &str = r#"
-zone = "CET-1CEST,M3.5.0,M10.5.0/3"
-[[point]]
-name = "R101-SET"
-kind = "analog"
-low = 500
-high = 3500
-default = 1800
-[[point]]
-name = "LIGHT"
-kind = "binary"
-default = 0
-[[panel]]
-name = "P1"
-points = ["R101-SET", "LIGHT"]
-priorities = [8, 10]
-[[panel]]
-name = "P2"
-points = ["R101-SET"]
-priorities = [9, 15]
-[[calendar]]
-name = "HOLIDAYS"
-entries = ["2025-12-25"]
-[[schedule]]
-name = "R101-DAY"
-priority = 15
-targets = ["R101-SET"]
-default = 1600
-weekly = [["08:00=2100"], [], [], [], [], [], ["02:45=1900"]]
-"#;
-
-const EXCEPTION: &str = r#"
-[[schedule.exception]]
-priority = 5
-calendar = "HOLIDAYS"
-times = ["00:00=1500"]
-"#;
+use store::{MemStore, Store, StoreFault};
 
 /// A report that is asked after some ticks.
 #[derive(Clone, Copy)]
@@ -94,24 +55,30 @@ POINT LIGHT                                      0  0
     },
 ];
 
-/// A desk of the building over a store without rows.
-fn desk(alloc: Global, period: &str) -> Result<Desk<MemStore>, Fail> {
-    let text = format!(in alloc; "{BUILDING}{period}{EXCEPTION}")?;
-    let building = Building::read(alloc, text.as_bytes())?;
-    match Desk::open(alloc, building, MemStore::new(alloc)) {
-        Ok(desk) => Ok(desk),
-        Err((fault, _store)) => Err(fault.into()),
+// The report of a day after ticks, without what is promised of it.
+fn reported<S: Store + Drop>(
+    desk: &mut Desk<S>,
+    ticks: &[i64],
+    day: Day,
+) -> Result<String, StoreFault> {
+    for at in ticks {
+        let _reply = desk.deliver(&Delivery::Tick { at: *at })?;
     }
+    desk.report(day)
+}
+
+// The report of a day after ticks of a new desk: no exit drops a desk, which is dear to prove.
+fn report_of(alloc: Global, worked: &Worked, day: Day) -> Result<String, Fail> {
+    let mut desk = desk_over(alloc, worked.period, MemStore::new(alloc))?;
+    let report = reported(&mut desk, worked.ticks, day);
+    let _store = desk.into_store();
+    Ok(report?)
 }
 
 fn assert_reported(rt: &impl Abort, alloc: Global, worked: &Worked) -> Result<(), Fail> {
-    let mut desk = desk(alloc, worked.period)?;
-    for at in worked.ticks {
-        let _reply = desk.deliver(&Delivery::Tick { at: *at })?;
-    }
     let (year, month, day) = worked.day;
     let day = Day::new(year, month, day).expect(rt, "the calendar has the day");
-    let report = desk.report(day)?;
+    let report = report_of(alloc, worked, day)?;
     assert_eq!(rt; report.as_str(), worked.report);
     Ok(())
 }

@@ -3,7 +3,11 @@
 #![tactic(auto)]
 
 #[cfg(test)]
+mod both_stores;
+#[cfg(test)]
 mod calendars;
+#[cfg(test)]
+mod calls;
 #[cfg(test)]
 mod panels;
 #[cfg(test)]

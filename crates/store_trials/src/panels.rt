@@ -1,19 +1,23 @@
 //! What is kept of panels.
 ghost use Rattle.store.specs.Change.{IsKeptRow, IsNumber};
 
-use crate::stores::sql_store;
-use points::{Answer, CommandRow, CommandState, Content, Name};
+use crate::calls::{
+    assert_same, assert_text, commit, names_of, next_of, row_under, run_of, text_of_names,
+};
+use points::{Answer, CommandRow, CommandState, Content, Name, NumberedRow};
 use std::alloc::Global;
+use std::fmt::Write;
 use std::process::Abort;
 use std::test::Fail;
-use store::{Change, KeptRow, MemStore, NextNumber, RowsBelow, Store};
+use store::{Change, KeptRow, NextNumber, RowsBelow, Store};
 
-fn try_nothing<S: Store + Drop>(rt: &impl Abort, alloc: Global, mut store: S) -> Result<(), Fail> {
+/// Nothing is kept at first.
+pub(crate) fn try_nothing<S: Store>(rt: &impl Abort, store: &mut S) -> Result<(), Fail> {
     let panel = Name::read("P1")?;
-    assert_eq!(rt; store.panel_next(&panel)?, 1);
-    assert!(rt; store.command(&panel, 1)?.is_none());
-    assert!(rt; store.commands_run(&panel, 1, 5)?.is_empty());
-    assert_eq!(rt; store.failures(), 0);
+    assert_same(rt, next_of(store, &panel)?, 1, "the next number");
+    assert_same(rt, row_under(store, &panel, 1)?, None, "a row");
+    assert_same(rt, run_of(store, &panel, 1, 5)?.len(), 0, "a run");
+    assert_same(rt, store.failures(), 0, "failures");
     Ok(())
 }
 
@@ -38,44 +42,56 @@ fn row_of(panel: Name, point: Name, number: u64) -> KeptRow
     }
 }
 
-fn try_next_numbers<S: Store + Drop>(
+/// Next numbers are kept.
+pub(crate) fn try_next_numbers<S: Store>(
     rt: &impl Abort,
     alloc: Global,
-    mut store: S,
+    store: &mut S,
 ) -> Result<(), Fail> {
     let panel = Name::read("P1")?;
     let mut change = Change::new(alloc);
     change.nexts.push(NextNumber { panel, next: 2 })?;
-    store.commit(&change)?;
-    assert_eq!(rt; store.panel_next(&panel)?, 2);
-    assert_eq!(rt; store.panel_next(&Name::read("P2")?)?, 1);
+    commit(store, &change)?;
+    assert_same(rt, next_of(store, &panel)?, 2, "of the panel");
+    assert_same(rt, next_of(store, &Name::read("P2")?)?, 1, "of another");
     Ok(())
 }
 
-fn try_rows<S: Store + Drop>(rt: &impl Abort, alloc: Global, mut store: S) -> Result<(), Fail> {
+/// The numbers of a run, each with a space after it.
+fn text_of_run(alloc: Global, run: &[NumberedRow]) -> Result<String, Fail> {
+    let mut text = String::new(alloc);
+    for row in run {
+        write!(text, "{} ", row.number)?;
+    }
+    Ok(text)
+}
+
+/// Rows stand under their numbers.
+pub(crate) fn try_rows<S: Store>(
+    rt: &impl Abort,
+    alloc: Global,
+    store: &mut S,
+) -> Result<(), Fail> {
     let panel = Name::read("P1")?;
     let point = Name::read("R101-SET")?;
     let mut change = Change::new(alloc);
     change.rows.push(row_of(panel, point, 1))?;
     change.rows.push(row_of(panel, point, 3))?;
     change.rows.push(row_of(panel, point, 5))?;
-    store.commit(&change)?;
-    assert_eq!(rt;
-        store.command(&panel, 3)?,
-        Some(row_of(panel, point, 3).row)
-    );
-    assert!(rt; store.command(&panel, 2)?.is_none());
-    let run = store.commands_run(&panel, 1, 3)?;
-    assert_eq!(rt; run.len(), 2);
-    assert_eq!(rt; run[0].number, 1);
-    assert_eq!(rt; run[1].number, 3);
+    commit(store, &change)?;
+    let third = Some(row_of(panel, point, 3).row);
+    assert_same(rt, row_under(store, &panel, 3)?, third, "row 3");
+    assert_same(rt, row_under(store, &panel, 2)?, None, "row 2");
+    let run = text_of_run(alloc, run_of(store, &panel, 1, 3)?.as_slice())?;
+    assert_text(rt, run.as_str(), "1 3 ");
     Ok(())
 }
 
-fn try_dropped_rows<S: Store + Drop>(
+/// Of a panel the rows below a number go.
+pub(crate) fn try_dropped_rows<S: Store>(
     rt: &impl Abort,
     alloc: Global,
-    mut store: S,
+    store: &mut S,
 ) -> Result<(), Fail> {
     let panel = Name::read("P1")?;
     let other = Name::read("P2")?;
@@ -85,60 +101,16 @@ fn try_dropped_rows<S: Store + Drop>(
     change.rows.push(row_of(panel, point, 2))?;
     change.rows.push(row_of(other, point, 1))?;
     change.dropped.push(RowsBelow { panel, number: 2 })?;
-    store.commit(&change)?;
-    assert!(rt; store.command(&panel, 1)?.is_none());
-    assert!(rt; store.command(&panel, 2)?.is_some());
-    assert!(rt; store.command(&other, 1)?.is_some());
-    let names = store.names()?;
-    assert_eq!(rt; names.panels.len(), 2);
-    assert_eq!(rt; names.panels[0].as_str(), "P1");
+    commit(store, &change)?;
+    assert_same(rt, row_under(store, &panel, 1)?, None, "row 1");
+    assert_same(rt, row_under(store, &panel, 2)?.is_some(), true, "row 2");
+    assert_same(
+        rt,
+        row_under(store, &other, 1)?.is_some(),
+        true,
+        "the other's",
+    );
+    let names = text_of_names(alloc, names_of(store)?.panels.as_slice())?;
+    assert_text(rt, names.as_str(), "P1 P2 ");
     Ok(())
-}
-
-#[test]
-fn nothing_is_kept_at_first_in_memory(rt: HostRuntime) -> Result<(), Fail> {
-    let store = MemStore::new(rt.alloc());
-    try_nothing(&rt, rt.alloc(), store)
-}
-
-#[test]
-fn nothing_is_kept_at_first_in_sql(rt: HostRuntime) -> Result<(), Fail> {
-    let store = sql_store(rt.alloc())?;
-    try_nothing(&rt, rt.alloc(), store)
-}
-
-#[test]
-fn next_numbers_are_kept_in_memory(rt: HostRuntime) -> Result<(), Fail> {
-    let store = MemStore::new(rt.alloc());
-    try_next_numbers(&rt, rt.alloc(), store)
-}
-
-#[test]
-fn next_numbers_are_kept_in_sql(rt: HostRuntime) -> Result<(), Fail> {
-    let store = sql_store(rt.alloc())?;
-    try_next_numbers(&rt, rt.alloc(), store)
-}
-
-#[test]
-fn rows_stand_under_their_numbers_in_memory(rt: HostRuntime) -> Result<(), Fail> {
-    let store = MemStore::new(rt.alloc());
-    try_rows(&rt, rt.alloc(), store)
-}
-
-#[test]
-fn rows_stand_under_their_numbers_in_sql(rt: HostRuntime) -> Result<(), Fail> {
-    let store = sql_store(rt.alloc())?;
-    try_rows(&rt, rt.alloc(), store)
-}
-
-#[test]
-fn rows_below_a_number_go_in_memory(rt: HostRuntime) -> Result<(), Fail> {
-    let store = MemStore::new(rt.alloc());
-    try_dropped_rows(&rt, rt.alloc(), store)
-}
-
-#[test]
-fn rows_below_a_number_go_in_sql(rt: HostRuntime) -> Result<(), Fail> {
-    let store = sql_store(rt.alloc())?;
-    try_dropped_rows(&rt, rt.alloc(), store)
 }

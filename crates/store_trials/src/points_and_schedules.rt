@@ -1,12 +1,19 @@
 //! What is kept of points and schedules, and the last tick.
-use crate::stores::sql_store;
+use crate::calls::{
+    array_of, assert_same, assert_text, commit, last_tick, names_of, shown_by, text_of_names,
+};
 use points::Name;
 use std::alloc::Global;
 use std::process::Abort;
 use std::test::Fail;
-use store::{Change, MemStore, PlaceValue, ShownValue, Store};
+use store::{Change, PlaceValue, ShownValue, Store};
 
-fn try_places<S: Store + Drop>(rt: &impl Abort, alloc: Global, mut store: S) -> Result<(), Fail> {
+/// Values stand in places, and are taken out of them.
+pub(crate) fn try_places<S: Store>(
+    rt: &impl Abort,
+    alloc: Global,
+    store: &mut S,
+) -> Result<(), Fail> {
     let point = Name::read("LIGHT")?;
     let mut change = Change::new(alloc);
     change.places.push(PlaceValue {
@@ -29,21 +36,27 @@ fn try_places<S: Store + Drop>(rt: &impl Abort, alloc: Global, mut store: S) -> 
         priority: 1,
         value: None,
     })?;
-    store.commit(&change)?;
-    let array = store.array(&point)?;
-    assert_eq!(rt; array.value_at(3), Some(7));
-    assert_eq!(rt; array.value_at(8), None);
-    assert_eq!(rt; store.array(&Name::read("DOOR")?)?.value_at(1), None);
-    let names = store.names()?;
-    assert_eq!(rt; names.points.len(), 1);
-    assert_eq!(rt; names.points[0].as_str(), "LIGHT");
+    commit(store, &change)?;
+    assert_places(rt, store, &point)?;
+    let names = text_of_names(alloc, names_of(store)?.points.as_slice())?;
+    assert_text(rt, names.as_str(), "LIGHT ");
     Ok(())
 }
 
-fn try_schedules<S: Store + Drop>(
+fn assert_places<S: Store>(rt: &impl Abort, store: &mut S, point: &Name) -> Result<(), Fail> {
+    let array = array_of(store, point)?;
+    assert_same(rt, array.value_at(3), Some(7), "at 3");
+    assert_same(rt, array.value_at(8), None, "at 8");
+    let other = array_of(store, &Name::read("DOOR")?)?;
+    assert_same(rt, other.value_at(1), None, "the other's at 1");
+    Ok(())
+}
+
+/// Schedules show values, and the last tick is kept.
+pub(crate) fn try_schedules<S: Store>(
     rt: &impl Abort,
     alloc: Global,
-    mut store: S,
+    store: &mut S,
 ) -> Result<(), Fail> {
     let schedule = Name::read("OFFICE")?;
     let quiet = Name::read("HALL")?;
@@ -57,42 +70,17 @@ fn try_schedules<S: Store + Drop>(
         shown: Some(Some(3)),
     })?;
     change.last_tick = Some(-60);
-    store.commit(&change)?;
+    commit(store, &change)?;
     let mut change = Change::new(alloc);
     change.shown.push(ShownValue {
         schedule: quiet,
         shown: None,
     })?;
-    store.commit(&change)?;
-    assert_eq!(rt; store.shown(&schedule)?, Some(None));
-    assert_eq!(rt; store.shown(&quiet)?, None);
-    assert_eq!(rt; store.last_tick()?, Some(-60));
-    let names = store.names()?;
-    assert_eq!(rt; names.schedules.len(), 1);
-    assert_eq!(rt; names.schedules[0].as_str(), "OFFICE");
+    commit(store, &change)?;
+    assert_same(rt, shown_by(store, &schedule)?, Some(None), "NULL is shown");
+    assert_same(rt, shown_by(store, &quiet)?, None, "nothing is shown");
+    assert_same(rt, last_tick(store)?, Some(-60), "the last tick");
+    let names = text_of_names(alloc, names_of(store)?.schedules.as_slice())?;
+    assert_text(rt, names.as_str(), "OFFICE ");
     Ok(())
-}
-
-#[test]
-fn values_stand_in_places_in_memory(rt: HostRuntime) -> Result<(), Fail> {
-    let store = MemStore::new(rt.alloc());
-    try_places(&rt, rt.alloc(), store)
-}
-
-#[test]
-fn values_stand_in_places_in_sql(rt: HostRuntime) -> Result<(), Fail> {
-    let store = sql_store(rt.alloc())?;
-    try_places(&rt, rt.alloc(), store)
-}
-
-#[test]
-fn schedules_show_values_in_memory(rt: HostRuntime) -> Result<(), Fail> {
-    let store = MemStore::new(rt.alloc());
-    try_schedules(&rt, rt.alloc(), store)
-}
-
-#[test]
-fn schedules_show_values_in_sql(rt: HostRuntime) -> Result<(), Fail> {
-    let store = sql_store(rt.alloc())?;
-    try_schedules(&rt, rt.alloc(), store)
 }

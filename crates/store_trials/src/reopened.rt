@@ -1,24 +1,33 @@
 //! Databases that are opened again, or are not the desk's.
+use crate::calls::{assert_same, commit, next_of};
 use crate::stores::sql_store;
 use points::Name;
 use sqlite::Connection;
+use std::alloc::Global;
+use std::process::Abort;
 use std::test::Fail;
 use store::{Change, NextNumber, Store};
 use store_sql::{OpenFault, SqlStore};
 
+fn commit_next<S: Store>(alloc: Global, store: &mut S, panel: Name) -> Result<(), Fail> {
+    let mut change = Change::new(alloc);
+    change.nexts.push(NextNumber { panel, next: 7 })?;
+    Ok(commit(store, &change)?)
+}
+
+fn assert_next<S: Store>(rt: &impl Abort, store: &mut S, panel: &Name) -> Result<(), Fail> {
+    assert_same(rt, next_of(store, panel)?, 7, "the next number");
+    assert_same(rt, store.failures(), 0, "failures");
+    Ok(())
+}
+
 #[test]
 fn what_was_committed_is_found_again(rt: HostRuntime) -> Result<(), Fail> {
-    let mut store = sql_store(rt.alloc())?;
     let panel = Name::read("P1")?;
-    let mut change = Change::new(rt.alloc());
-    change.nexts.push(NextNumber { panel, next: 7 })?;
-    store.commit(&change)?;
+    let mut store = sql_store(rt.alloc())?;
+    commit_next(rt.alloc(), &mut store, panel)?;
     match SqlStore::open(rt.alloc(), store.into_connection()) {
-        Ok(mut opened) => {
-            assert_eq!(rt; opened.panel_next(&panel)?, 7);
-            assert_eq!(rt; opened.failures(), 0);
-            Ok(())
-        }
+        Ok(mut opened) => assert_next(&rt, &mut opened, &panel),
         Err((fault, _connection)) => Err(Fail::from(fault)),
     }
 }

@@ -2,10 +2,11 @@
 use std::alloc::Global;
 use std::io::{self, Read, Write};
 
-/// An input that gives at most `size` bytes in one read, and then ends or fails.
+/// An input that gives at most `first` bytes in its first read and `size` in each other, and then ends or fails.
 #[derive(Drop)]
 pub struct Pieces<'a> {
     pub text: &'a [u8],
+    pub first: usize,
     pub size: usize,
     pub fails: bool,
 }
@@ -15,7 +16,8 @@ impl Read for Pieces<'_> {
         if self.text.is_empty() && self.fails {
             return Err(io::Error::from(io::ErrorKind::ConnectionReset));
         }
-        let count = self.text.len().min(self.size);
+        let count = self.text.len().min(self.first);
+        self.first = self.size;
         let mut piece = &self.text[..count];
         let taken = piece.read(buffer)?;
         self.text = &self.text[taken..];
