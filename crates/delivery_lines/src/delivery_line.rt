@@ -13,6 +13,7 @@ ghost use Rattle.store.specs.declared.StoreFault.TheVariants.{NoMemory};
 
 use crate::clock_line::{import_in, tick_in};
 use crate::panel_line::panel_delivery_in;
+use crate::usual_command::usual_command;
 use crate::{LineFault, Told};
 use building::Building;
 use deliveries::Delivery;
@@ -21,11 +22,15 @@ use std::alloc::Global;
 use store::StoreFault;
 use texts::text_of;
 
-/// What a line tells, without its line end; an import is one of entries for calendars of the building.
+/// What a line tells, without its line end; an import is one of entries for calendars of the building. A command of
+/// the usual form is read in one pass, which memory may be refused for too: then the line is read as any other.
 #[tactic(auto, unfolding(crate::specs::DeliveryLine::told_of))]
 pub fn told_of(alloc: Global, building: &Building, line: &[u8]) -> Result<Told, LineFault>
     ensures { Tells (told_of building.now line.now) result }
 {
+    if let Some(command) = usual_command(alloc, line) {
+        return Ok(Told::Delivery(command));
+    }
     let value = value_of(alloc, line)?;
     told_in(alloc, building, &value)
 }

@@ -21,3 +21,4 @@ mod members;
 mod panel_line;
 mod reply_text;
 mod told;
+mod usual_command;

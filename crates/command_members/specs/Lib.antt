@@ -1,0 +1,3 @@
+pub mod CommandMembers
+pub mod Readings
+pub mod Scalars
