@@ -16,6 +16,9 @@ use holidays::ImportFault;
 use std::alloc::Global;
 use store::Store;
 
+/// Room for the text of nearly every reply, in bytes.
+const REPLY_ROOM: usize = 96;
+
 /// Delivers what a line tells, and answers the text of the reply with its line end (LF).
 ///
 /// The line is one JSON object without its line end; a CR at its end is white space. A line that
@@ -52,8 +55,10 @@ fn answer_delivery<S: Store + Drop>(
     ensures honest { (S.standing desk.new.store).is_honest → (S.standing desk.old.store).is_honest }
     ensures building { desk.new.building ≡ desk.old.building }
 {
+    // before the delivery, so that its reply is seldom lost for want of memory
+    let mut text = String::with_capacity(alloc, REPLY_ROOM)?;
     let reply = desk.deliver(delivery)?;
-    let text = format!(in alloc; "{}\n", ReplyText(reply))?;
+    writeln!(text, "{}", ReplyText(reply))?;
     Ok(text.into_bytes())
 }
 
