@@ -13,6 +13,7 @@ use deliveries::Delivery;
 use delivery_lines::{LineFault, RefusedImportText, ReplyText, Told, told_of};
 use desk::Desk;
 use holidays::ImportFault;
+use json::Scratch;
 use std::alloc::Global;
 use store::Store;
 
@@ -24,9 +25,10 @@ const REPLY_ROOM: usize = 96;
 /// The line is one JSON object without its line end; a CR at its end is white space. A line that
 /// tells no delivery changes nothing, and so does an import whose holiday list is at fault, which is
 /// answered with its refusal. After a want of memory the desk holds its tables from before the line,
-/// or those with the line's delivery.
+/// or those with the line's delivery. One `scratch` is lent to each line.
 pub fn answer_line<S: Store + Drop>(
     alloc: Global,
+    scratch: &mut Scratch,
     desk: &mut Desk<S>,
     line: &[u8],
 ) -> Result<Vec<u8>, LineFault>
@@ -36,7 +38,7 @@ pub fn answer_line<S: Store + Drop>(
     ensures honest { (S.standing desk.new.store).is_honest → (S.standing desk.old.store).is_honest }
     ensures building { desk.new.building ≡ desk.old.building }
 {
-    match told_of(alloc, desk.building(), line) {
+    match told_of(alloc, scratch, desk.building(), line) {
         Ok(Told::Delivery(delivery)) => answer_delivery(alloc, desk, &delivery),
         Ok(Told::RefusedImport(fault)) => refusal_of(alloc, fault),
         Err(fault) => Err(fault),

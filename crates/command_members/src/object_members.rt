@@ -7,14 +7,13 @@ ghost use Rattle.command_members.specs.CommandMembers.{IsReadAs};
 
 use crate::command_members::CommandMembers;
 use json::{Reader, Scratch, Token};
-use std::alloc::Global;
 
 /// The members of a text that is an object of the usual form; nothing of any other, or where memory is refused.
-pub fn read_members(alloc: Global, text: &str) -> Option<CommandMembers>
+/// `scratch` is the memory that the reading needs: one is lent to each reading, since to make it costs more than a text.
+pub fn read_members(scratch: &mut Scratch, text: &str) -> Option<CommandMembers>
     ensures { IfSome result (λ told. (ms : Members) × (read text.now ≡ Some (object ms)) × IsReadAs told ms) }
 {
-    let mut scratch = Scratch::new(alloc);
-    let mut reader = Reader::new(text, &mut scratch).ok()?;
+    let mut reader = Reader::new(text, scratch).ok()?;
     let Some(Token::BeginObject) = reader.next() else {
         return None;
     };

@@ -1,5 +1,6 @@
 //! Objects of the usual form.
 use command_members::{CommandMembers, read_members};
+use json::Scratch;
 use points::Name;
 use std::process::Abort;
 use std::test::Fail;
@@ -19,7 +20,7 @@ fn assert_names(
 #[test]
 fn a_command_of_the_usual_form_is_read(rt: HostRuntime) -> Result<(), Fail> {
     let text = r#"{"number":1,"panel":"P1","point":"R101-SET","priority":8,"value":2150}"#;
-    let told = read_members(rt.alloc(), text).expect(&rt, "its members");
+    let told = read_members(&mut Scratch::new(rt.alloc()), text).expect(&rt, "its members");
     assert_names(&rt, &told, "P1", "R101-SET")?;
     assert_eq!(rt; told.number, Some(1));
     assert_eq!(rt; told.priority, Some(8));
@@ -31,7 +32,7 @@ fn a_command_of_the_usual_form_is_read(rt: HostRuntime) -> Result<(), Fail> {
 fn members_stand_in_any_order_and_may_be_null(rt: HostRuntime) -> Result<(), Fail> {
     let text =
         r#" { "value" : null , "priority" : null , "point" : "LIGHT" , "panel" : "P\u0032" , "number" : -7 } "#;
-    let told = read_members(rt.alloc(), text).expect(&rt, "its members");
+    let told = read_members(&mut Scratch::new(rt.alloc()), text).expect(&rt, "its members");
     assert_names(&rt, &told, "P2", "LIGHT")?;
     assert_eq!(rt; told.number, Some(-7));
     assert_eq!(rt; told.priority, Some(16));

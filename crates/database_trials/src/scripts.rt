@@ -4,6 +4,7 @@ use answered_lines::answer_line;
 use building::Building;
 use delivery_lines::LineFault;
 use desk::{Desk, PointState};
+use json::Scratch;
 use points::Name;
 use std::alloc::Global;
 use std::fmt::{Debug, Display, Write};
@@ -45,7 +46,7 @@ fn answered<S: Store + Drop>(
     desk: &mut Desk<S>,
     line: &str,
 ) -> Result<Vec<u8>, LineFault> {
-    answer_line(alloc, desk, line.as_bytes())
+    answer_line(alloc, &mut Scratch::new(alloc), desk, line.as_bytes())
 }
 
 /// Appends a fault as a line.

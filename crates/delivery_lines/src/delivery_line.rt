@@ -17,18 +17,25 @@ use crate::usual_command::usual_command;
 use crate::{LineFault, Told};
 use building::Building;
 use deliveries::Delivery;
+use json::Scratch;
 use serde_json::Value;
 use std::alloc::Global;
 use store::StoreFault;
 use texts::text_of;
 
 /// What a line tells, without its line end; an import is one of entries for calendars of the building. A command of
-/// the usual form is read in one pass, which memory may be refused for too: then the line is read as any other.
+/// the usual form is read in one pass, which memory may be refused for too: then the line is read as any other. One
+/// `scratch` is lent to each line: it is the memory that the pass needs, and to make it costs more than a line.
 #[tactic(auto, unfolding(crate::specs::DeliveryLine::told_of))]
-pub fn told_of(alloc: Global, building: &Building, line: &[u8]) -> Result<Told, LineFault>
+pub fn told_of(
+    alloc: Global,
+    scratch: &mut Scratch,
+    building: &Building,
+    line: &[u8],
+) -> Result<Told, LineFault>
     ensures { Tells (told_of building.now line.now) result }
 {
-    if let Some(command) = usual_command(alloc, line) {
+    if let Some(command) = usual_command(scratch, line) {
         return Ok(Told::Delivery(command));
     }
     let value = value_of(alloc, line)?;

@@ -7,15 +7,15 @@ ghost use Rattle.delivery_lines.specs.DeliveryLine.{delivery_in, json_of};
 
 use command_members::{CommandMembers, read_members};
 use deliveries::Delivery;
+use json::Scratch;
 use points::{Content, LOWEST_PRIORITY};
-use std::alloc::Global;
 use texts::text_of;
 
 /// The command that a line of the usual form tells; nothing of any other, or where memory is refused.
-pub(crate) fn usual_command(alloc: Global, line: &[u8]) -> Option<Delivery>
+pub(crate) fn usual_command(scratch: &mut Scratch, line: &[u8]) -> Option<Delivery>
     ensures { IfSome result (λ command. option_and_then delivery_in (json_of line.now) ≡ Some command) }
 {
-    let members = read_members(alloc, text_of(line)?)?;
+    let members = read_members(scratch, text_of(line)?)?;
     command_of(&members)
 }
 

@@ -17,6 +17,7 @@ use answered_lines::answer_line;
 use delivery_lines::LineFault;
 use desk::Desk;
 use desk_console::{Input, Listed, RunFault, Status, flush, print_text, read_building};
+use json::Scratch;
 use point_lines::point_line;
 use points::Name;
 use std::alloc::Global;
@@ -112,6 +113,7 @@ fn print_replies<'a, S: Store + Drop, D: Read + Drop, W: Write>(
     ensures honest { (S.standing desk.new.store).is_honest → (S.standing desk.old.store).is_honest }
     ensures building { desk.new.building ≡ desk.old.building }
 {
+    let mut scratch = Scratch::new(alloc);
     let mut line = Vec::new(alloc);
     for number in 1..u64::MAX {
         line.clear();
@@ -120,7 +122,7 @@ fn print_replies<'a, S: Store + Drop, D: Read + Drop, W: Write>(
             Ok(_) => {
                 let waits = reader.buffer().is_empty();
                 let line = without_end(line.as_slice());
-                print_reply_and_flush(alloc, desk, number, line, waits, out)?;
+                print_reply_and_flush(alloc, &mut scratch, desk, number, line, waits, out)?;
             }
             Err(error) => return Err(RunFault::of_read(&error, path)),
         }
@@ -132,6 +134,7 @@ fn print_replies<'a, S: Store + Drop, D: Read + Drop, W: Write>(
 /// what was printed is flushed, so that whoever sends it sees the reply.
 fn print_reply_and_flush<'a, S: Store + Drop, W: Write>(
     alloc: Global,
+    scratch: &mut Scratch,
     desk: &mut Desk<S>,
     number: u64,
     line: &[u8],
@@ -148,13 +151,14 @@ fn print_reply_and_flush<'a, S: Store + Drop, W: Write>(
     ensures honest { (S.standing desk.new.store).is_honest → (S.standing desk.old.store).is_honest }
     ensures building { desk.new.building ≡ desk.old.building }
 {
-    print_reply(alloc, desk, number, line, out)?;
+    print_reply(alloc, scratch, desk, number, line, out)?;
     if waits { flush(out) } else { Ok(()) }
 }
 
 /// Answers one line, with its number from 1, unless it is empty.
 fn print_reply<'a, S: Store + Drop, W: Write>(
     alloc: Global,
+    scratch: &mut Scratch,
     desk: &mut Desk<S>,
     number: u64,
     line: &[u8],
@@ -173,7 +177,7 @@ fn print_reply<'a, S: Store + Drop, W: Write>(
     if is_empty(line) {
         return Ok(());
     }
-    match answer_line(alloc, desk, line) {
+    match answer_line(alloc, scratch, desk, line) {
         Ok(text) => print_text(out, text.as_slice()),
         Err(LineFault::NotDelivery) => Err(RunFault::NotDelivery { line: number }),
         Err(LineFault::NotDone(fault)) => Err(RunFault::from(fault)),

@@ -159,6 +159,10 @@ impl Panels {
         ensures rows { (q : Text) (n : ℕ) → row_of self.new q n ≡ without_rows item.now (row_of self.old) q n }
         ensures next { (q : Text) → next_of self.new q ≡ next_of self.old q }
     {
+        // No number is below 0: so it is for each panel of at most 1,000 numbers.
+        if item.number == 0 {
+            return;
+        }
         if let Some(table) = self.tables.get_mut(&item.panel) {
             table.drop_below(item.number);
         }
