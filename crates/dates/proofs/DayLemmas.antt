@@ -4,11 +4,14 @@ use Rattle.std.proofs.Common.{Option, Some, None, option_map, IsSome, IfSome}
 use Rattle.std.specs.Cmp.{first_so}
 use Rattle.std.proofs.lemmas.Bool.{false≢true}
 use Rattle.std.proofs.lemmas.Bool.Decides.{nat_tests}
-use Rattle.jiff.specs.Words.{IsYmd}
+use Rattle.std.proofs.Props.{props}
+use Rattle.std.specs.Int.{IsInRange}
+use mathlib.Core.HLevel.{is_prop→PathP}
+use Rattle.jiff_core.specs.Calendar.{IsYear, days_in_month}
+use Rattle.jiff_core.specs.Date.{IsYmd, epoch_day}
 use Rattle.jiff_core.specs.declared.civil.date.Date.{Date}
-use Rattle.jiff_core.proofs.DateLemmas.{epoch_day_same}
+use Rattle.jiff_core.proofs.DateLemmas.{epoch_day_injective, epoch_day_same}
 use Rattle.jiff_core.proofs.SignedLemmas.{signed_arith}
-use Rattle.jiff.proofs.Family.{same_date}
 use Rattle.dates.specs.Day.{day_of, day_with, passed, is_day-year, is_day-month, is_day-day, is_between-true, IsDay, is_day}
 
 pub IsDay-is_day : (y m d : ℕ) → is_day y m d ≡ true → IsDay (pos y) m d
@@ -22,6 +25,19 @@ IsDay-is_day y m d e =
 
 pub is_day-IsDay : (y m d : ℕ) → IsDay (pos y) m d → is_day y m d ≡ true
 is_day-IsDay y m d h = grind (arith, signed_arith, nat_tests)
+
+-- `jiff` has it too, in a crate that stands on all of its time zones.
+pub same_date : (a b : Date) → epoch_day a ≡ epoch_day b → a ≡ b
+same_date a b e =
+    let p = epoch_day_injective a b e in
+    λ i. record {
+      year = p.0 i;
+      month = p.1 i;
+      day = p.2 i;
+      year_in = is_prop→PathP (λ j. IsYear (p.0 j)) (λ j. hlevel props) a.year_in b.year_in i;
+      month_in = is_prop→PathP (λ j. IsInRange 1 12 (p.1 j)) (λ j. hlevel props) a.month_in b.month_in i;
+      day_in = is_prop→PathP (λ j. IsInRange 1 (days_in_month (p.0 j) (p.1 j)) (p.2 j)) (λ j. hlevel props) a.day_in b.day_in i;
+    }
 
 pub same_parts : (a b : Date) → a.year ≡ b.year → a.month ≡ b.month → a.day ≡ b.day → a ≡ b
 same_parts a b year month day = same_date a b (epoch_day_same a b year month day)

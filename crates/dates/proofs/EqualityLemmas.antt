@@ -7,11 +7,11 @@ use Rattle.std.proofs.lemmas.Bool.{false≢true}
 use Rattle.std.proofs.lemmas.Bool.Decides.{Decides-int_eq}
 use Rattle.jiff_core.specs.declared.civil.date.Date.{Date}
 use Rattle.jiff_core.specs.declared.civil.weekday.Weekday.{Weekday}
-use Rattle.jiff.specs.Words.{epoch_day}
-use Rattle.jiff.proofs.Family.{same_date}
+use Rattle.jiff_core.specs.Date.{epoch_day}
 use Rattle.jiff_core.specs.contracts.civil.weekday.Weekday as weekday_type
 use denote.Enum.Bare.{same_true}
 use Rattle.dates.specs.contracts.year.YearPartialEq.TheImpl as year_eq
+use Rattle.dates.proofs.DayLemmas.{same_date}
 use Rattle.dates.specs.declared.months.Months.{Months}
 use Rattle.dates.specs.declared.months.Months.TheVariants as month
 use Rattle.dates.specs.contracts.months.MonthsPartialEq.TheImpl as months_eq

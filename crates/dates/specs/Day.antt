@@ -7,7 +7,8 @@ use Rattle.std.proofs.Common.{lit≤}
 use Rattle.std.proofs.Math.Nat.{le_trans}
 use Rattle.std.proofs.lemmas.Bool.{leb-true, le-leb}
 use Rattle.std.proofs.lemmas.Float.{T_from_true}
-use Rattle.jiff.specs.Words.{IsBetween, IsDate, IsYear, days_in_month, month_length}
+use Rattle.jiff_core.specs.Calendar.{IsBetween, IsDate, IsYear, days_in_month}
+use Rattle.jiff_core.specs.Date.{month_length}
 use Rattle.jiff_core.specs.declared.civil.date.Date.{Date}
 use Rattle.dates.specs.Between.{is_between}
 use Rattle.dates.specs.Notation.{Text, two_digit_text, four_digit_text}

@@ -1,7 +1,7 @@
 -- A date range: the days from its start to its end, each a day or unspecified.
 use Rattle.std.specs.Prelude.{Bool, true, ◌&&◌, ◌++◌, int_le, codes, Option, Some, None, Result, Ok, if◌then◌else◌}
 use Rattle.std.specs.Str.{bytes_eq}
-use Rattle.jiff.specs.Words.{epoch_day}
+use Rattle.jiff_core.specs.Date.{epoch_day}
 use Rattle.jiff_core.specs.declared.civil.date.Date.{Date}
 use Rattle.dates.specs.declared.range.Range.{Range}
 use Rattle.dates.specs.declared.entry_fault.EntryFault.{EntryFault}

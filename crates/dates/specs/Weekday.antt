@@ -1,7 +1,7 @@
 -- A weekday, and the weekdays that an entry names: one, or any.
 use Rattle.std.specs.Prelude.{◌==◌, Bool, true, codes, Option, Some, None, option_map, if◌then◌else◌}
 use Rattle.std.specs.Str.{bytes_eq}
-use Rattle.jiff.specs.Words.{weekday_of}
+use Rattle.jiff_core.specs.Date.{weekday_of}
 use Rattle.jiff_core.specs.Weekday.{monday_zero}
 use Rattle.jiff_core.specs.declared.civil.date.Date.{Date}
 use Rattle.jiff_core.specs.declared.civil.weekday.Weekday.{Weekday}

@@ -1,10 +1,10 @@
 ghost use Rattle.std.specs.Prelude.{◌≡◌, ◌↔◌, pos, IsSome, IfSome};
 ghost use Rattle.std.specs.Int.{IsInRange};
-ghost use Rattle.jiff.specs.Words.{IsYmd, weekday_of};
+ghost use Rattle.jiff_core.specs.Date.{IsYmd, weekday_of};
 ghost use Rattle.jiff_core.specs.Weekday.{monday_zero};
 ghost use Rattle.dates.specs.Day.{days_left, IsDay};
 
-use jiff::civil::{Date, Weekday};
+use jiff_core::civil::{self, Date, Weekday};
 use std::fmt;
 use std::marker::Model;
 
@@ -47,7 +47,7 @@ impl Day {
         ensures value { pos result ≡ self.year }
         ensures range { IsInRange 1900 2154 result }
     {
-        self.date.year() as u16
+        self.date.year as u16
     }
 
     /// The month, 1 to 12.
@@ -55,7 +55,7 @@ impl Day {
         ensures value { result ≡ self.month }
         ensures range { IsInRange 1 12 result }
     {
-        self.date.month() as u8
+        self.date.month
     }
 
     /// The day of the month, 1 to 31.
@@ -63,7 +63,7 @@ impl Day {
         ensures value { result ≡ self.day }
         ensures range { IsInRange 1 31 result }
     {
-        self.date.day() as u8
+        self.date.day
     }
 
     /// The day of the week.
@@ -77,7 +77,7 @@ impl Day {
     pub fn days_left_in_month(self) -> u8
         ensures { result ≡ days_left self }
     {
-        (self.date.days_in_month() - self.date.day()) as u8
+        civil::days_in_month(self.date.year, self.date.month) - self.date.day
     }
 }
 

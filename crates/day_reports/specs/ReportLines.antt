@@ -4,7 +4,7 @@ use Rattle.std.specs.Fmt.{signed_decimal}
 use Rattle.std.specs.List.{flat_map}
 use Rattle.dates.specs.Day.{day_text}
 use Rattle.dates.specs.Notation.{Text}
-use Rattle.jiff.specs.Words.{weekday_of}
+use Rattle.jiff_core.specs.Date.{weekday_of}
 use Rattle.jiff_core.specs.declared.civil.date.Date.{Date}
 use Rattle.point_lines.specs.PointLine.{right_in}
 use Rattle.sched.specs.declared.calendar.Calendar.{Calendar}

@@ -3,7 +3,7 @@ use Rattle.std.proofs.Common.{◌≡◌, ◌↔◌, ℕ, zero, suc, ◌+◌, ◌
 use Rattle.std.proofs.Common.{ℤ, pos, negsuc, ◌+ℤ◌, ◌-ℤ◌, ◌≤ℤ◌, ◌<ℤ◌, unsigned_abs, if◌then◌else◌, Option, Some, None, option_map, IsSome, IfSome}
 use Rattle.std.proofs.lemmas.Bool.{false≢true}
 use Rattle.std.proofs.lemmas.Bool.Decides.{leb_tells}
-use Rattle.jiff.specs.Words.{IsYmd}
+use Rattle.jiff_core.specs.Date.{IsYmd}
 use Rattle.jiff_core.specs.Calendar.{days_of_months, days_from_civil}
 use Rattle.jiff_core.specs.Date.{epoch_day, ordinal}
 use Rattle.jiff_core.specs.declared.civil.date.Date.{Date}

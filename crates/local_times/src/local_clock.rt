@@ -6,8 +6,7 @@ ghost use Rattle.jiff_core.specs.Time.{time_nanos};
 ghost use Rattle.local_times.specs.LocalTimes.{clock_at, IsShown, local_at, local_on};
 
 use dates::Day;
-use jiff::Timestamp;
-use jiff_core::civil;
+use jiff_core::{Timestamp, civil};
 use sched::Time;
 use zone_rules::ZoneRule;
 
@@ -34,7 +33,7 @@ pub fn local_time(zone: &ZoneRule, moment: i64) -> Option<LocalTime>
         return None;
     }
     let instant = Timestamp::from_nanosecond(moment as i128 * NANOSECONDS).ok()?;
-    let shown = zone.time_zone().to_datetime(instant).to_plain();
+    let shown = zone.time_zone().to_datetime(instant);
     shown_at(shown.date, shown.time)
 }
 

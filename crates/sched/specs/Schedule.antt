@@ -1,5 +1,5 @@
 use Rattle.std.specs.Prelude.{ℕ, Bool, List, [], Option, Some, None, ℤ, slice_index_or}
-use Rattle.jiff.specs.Words.{weekday_of}
+use Rattle.jiff_core.specs.Date.{weekday_of}
 use Rattle.jiff_core.specs.declared.civil.date.Date.{Date}
 use Rattle.dates.specs.Range.{in_range}
 use Rattle.sched.specs.declared.calendar.Calendar.{Calendar}

@@ -1,14 +1,13 @@
 //! The rule of a time zone.
 
 ghost use Rattle.std.specs.Prelude.{◌≡◌, option_map, Some};
-ghost use Rattle.jiff.specs.ZoneView.{plain_zone};
 ghost use Rattle.jiff_tz.specs.PosixReader.{read_whole};
 ghost use Rattle.zone_rules.specs.ZoneRule.{rule_text};
 
-use jiff::tz::TimeZone;
+use jiff_tz::{TimeZone, posix};
 use std::marker::Model;
 
-/// The rule of a time zone, as a POSIX rule text says it. Contracts see it as the time zone of `jiff`. It
+/// The rule of a time zone, as a POSIX rule text says it. Contracts see it as the time zone of `jiff_tz`. It
 /// takes no memory.
 #[derive(Clone, Copy)]
 pub struct ZoneRule {
@@ -16,14 +15,13 @@ pub struct ZoneRule {
 }
 
 impl Model for ZoneRule {
-    ghost use Rattle.jiff.specs.ZoneView.{plain_zone};
     ghost use Rattle.jiff_tz.specs.declared.timezone.TimeZone.{TimeZone as plain_time_zone};
 
     ghost Value = { plain_time_zone };
 
-    ghost view = { λ rule. plain_zone rule.zone };
+    ghost view = { λ rule. rule.zone };
 
-    ghost inverse = { λ zone. record { zone = record { inner = zone } } };
+    ghost inverse = { λ zone. record { zone = zone } };
 }
 
 impl ZoneRule {
@@ -31,13 +29,15 @@ impl ZoneRule {
     pub fn read(text: &str) -> Option<ZoneRule>
         ensures { option_map rule_text result ≡ option_map Some (read_whole text.now) }
     {
-        let zone = TimeZone::posix(text).ok()?;
-        Some(ZoneRule { zone })
+        let rule = posix::TimeZone::parse(text.as_bytes()).ok()?;
+        Some(ZoneRule {
+            zone: TimeZone::Posix(rule),
+        })
     }
 
-    /// The rule as a time zone of `jiff`.
+    /// The rule as a time zone of `jiff_tz`.
     pub fn time_zone(&self) -> TimeZone<'static>
-        ensures { plain_zone result ≡ self.now }
+        ensures { result ≡ self.now }
     {
         self.zone
     }

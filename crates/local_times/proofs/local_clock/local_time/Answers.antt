@@ -1,17 +1,13 @@
 -- What `jiff` shows in nanoseconds is the moment moved by the zone's offset.
-use Rattle.std.proofs.Common.{FitsSigned, w64, ◌≡◌, ◌/◌, false, pos, ◌+ℤ◌, ◌*ℤ◌, ◌≤ℤ◌, ◌<ℤ◌, Result, Ok, Err, Some, sym, subst, ◌∙◌, ap, ap₂, arith}
+use Rattle.std.proofs.Common.{FitsSigned, w64, ◌≡◌, false, pos, ◌+ℤ◌, ◌*ℤ◌, ◌≤ℤ◌, ◌<ℤ◌, Result, Ok, Err, Some, sym, subst, ◌∙◌, ap, ap₂, arith}
 use Rattle.std.specs.Int.{w128}
 use Rattle.std.specs.Option.{is_some}
 use Rattle.std.specs.Result.{IfOk, is_ok, result_ok}
 use Rattle.std.proofs.lemmas.Bool.{false≢true}
 use Rattle.std.proofs.lemmas.Int.{to_z-of_z}
 use Rattle.jiff_core.proofs.SignedLemmas.{signed_arith}
-use Rattle.jiff_core.specs.Date.{epoch_day}
-use Rattle.jiff_core.specs.Time.{time_nanos}
 use Rattle.jiff_core.specs.Timestamp.{nanos_of_seconds}
-use Rattle.jiff_core.specs.declared.civil.datetime.DateTime.{DateTime}
 use Rattle.jiff_tz.specs.Zone.{offset_at}
-use Rattle.local_times.specs.LocalTimes.{local_on}
 use Rattle.local_times.proofs.ClockLemmas.{local_before, local_far, local_from, local_of-shown, shown_parts}
 use Rattle.local_times.proofs.local_clock.local_time.Goals as goal
 
@@ -53,11 +49,9 @@ returns-clause-value c =
     let value = simp to_z-of_z at c.from_nanosecond.ensures.value in
     let instant = sym c.ok.ensures.value ∙ c.in_ok-instant.was in
     let nanos = ok_value (λ t. t.nanosecond ≡ moment *ℤ pos 10_000_000) c.from_nanosecond.result c.in_ok-instant.instant instant value in
-    let shown = c.to_datetime.ensures
+    let shown = c.to_datetime-shown.ensures
     ∙ ap₂ (λ z n. n +ℤ nanos_of_seconds (offset_at z n)) c.time_zone.ensures nanos in
-    c.shown_at.ensures.value
-    ∙ ap (λ (dt : DateTime). local_on (epoch_day dt.date) (time_nanos dt.time / 10_000_000)) c.to_plain-shown.ensures
-    ∙ local_of-shown zone moment c.to_datetime.result shown ∙ sym (local_from zone moment from)
+    c.shown_at.ensures.value ∙ local_of-shown zone moment c.to_datetime-shown.result shown ∙ sym (local_from zone moment from)
 
 pub returns-clause-shows : goal.returns-clause-shows
 returns-clause-shows c =
@@ -69,7 +63,6 @@ returns-clause-shows c =
     let value = simp to_z-of_z at c.from_nanosecond.ensures.value in
     let instant = sym c.ok.ensures.value ∙ c.in_ok-instant.was in
     let nanos = ok_value (λ t. t.nanosecond ≡ moment *ℤ pos 10_000_000) c.from_nanosecond.result c.in_ok-instant.instant instant value in
-    let shown = c.to_datetime.ensures
+    let shown = c.to_datetime-shown.ensures
     ∙ ap₂ (λ z n. n +ℤ nanos_of_seconds (offset_at z n)) c.time_zone.ensures nanos in
-    let plain = rw c.to_plain-shown.ensures at c.shown_at.ensures.parts in
-    shown_parts zone moment c.to_datetime.result c.shown_at.result shown plain
+    shown_parts zone moment c.to_datetime-shown.result c.shown_at.result shown c.shown_at.ensures.parts
