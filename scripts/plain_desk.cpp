@@ -1,13 +1,20 @@
 // What a plain C++ program over libsqlite3 does for commands in order: the measure beside the desk's own speed over a file.
 //
-// plain_desk DB PANELS POINTS COMMANDS: delivers so many commands to a new database of the desk's tables, each in a
+// plain_desk DB PANELS POINTS COMMANDS [PORT]: delivers so many commands to a new database of the desk's tables, each in a
 // transaction of its own at the same durability, with statements that are prepared once: it reads the panel's next
 // number, the row under the number and the places of the point, writes the row, the place and the next number, drops
-// the row that falls out, and prints the reply.
+// the row that falls out, and prints the reply. With a port of the loopback it makes no commands itself: it takes them as
+// requests over HTTP, one connection after another, as `desk serve` does, and answers each with its reply. It takes what
+// the load sends as it stands, and looks for nothing wrong in it.
+#include <arpa/inet.h>
 #include <cstdio>
 #include <cstdlib>
+#include <cstring>
+#include <netinet/in.h>
 #include <sqlite3.h>
 #include <string>
+#include <sys/socket.h>
+#include <unistd.h>
 
 namespace {
 
@@ -69,7 +76,7 @@ struct Desk {
           drop(db, "DELETE FROM command WHERE panel = ?1 AND number < ?2") {}
     Statement begin, commit, next, row, places, put_row, put_place, put_next, drop;
 
-    void command(const std::string &panel, sqlite3_int64 number, const std::string &point, int priority, sqlite3_int64 value) {
+    std::string command(const std::string &panel, sqlite3_int64 number, const std::string &point, int priority, sqlite3_int64 value) {
         begin.run();
         next.text(1, panel);
         sqlite3_int64 front = next.step() ? next.column(0) : 1;
@@ -96,16 +103,94 @@ struct Desk {
         put_next.text(1, panel).number(2, number + 1).run();
         drop.text(1, panel).number(2, number + 1 - kKept).run();
         commit.run();
-        std::printf("{\"answer\":\"done\",\"number\":%lld,\"present\":%lld,\"priority\":%d}\n", static_cast<long long>(number),
-                    static_cast<long long>(present), at);
+        char reply[128];
+        int length = std::snprintf(reply, sizeof reply, "{\"answer\":\"done\",\"number\":%lld,\"present\":%lld,\"priority\":%d}\n",
+                                   static_cast<long long>(number), static_cast<long long>(present), at);
+        return std::string(reply, length);
     }
 };
+
+void give_up(const char *why) {
+    std::perror(why);
+    std::exit(1);
+}
+
+// The text behind this key, up to the next quote, comma or brace.
+std::string member(const std::string &text, const char *key) {
+    size_t from = text.find(key);
+    if (from == std::string::npos) {
+        std::exit(1);
+    }
+    from += std::strlen(key);
+    return text.substr(from, text.find_first_of("\",}", from) - from);
+}
+
+// One request: the head to its empty line, and as much of a body as its length says.
+std::string request_of(int client) {
+    std::string request;
+    for (char part[4096];;) {
+        size_t head = request.find("\r\n\r\n");
+        if (head != std::string::npos && request.size() >= head + 4 + std::stoul(member(request, "Content-Length: "))) {
+            return request;
+        }
+        ssize_t more = recv(client, part, sizeof part, 0);
+        if (more <= 0) {
+            give_up("recv");
+        }
+        request.append(part, more);
+    }
+}
+
+void answer(Desk &desk, int client) {
+    std::string request = request_of(client);
+    size_t from = std::strlen("POST /panels/");
+    std::string panel = request.substr(from, request.find('/', from) - from);
+    std::string body = desk.command(panel, std::stoll(member(request, "\"number\":")), member(request, "\"point\":\""),
+                                    std::stoi(member(request, "\"priority\":")), std::stoll(member(request, "\"value\":")));
+    std::string response = "HTTP/1.1 200 OK\r\nContent-Type: application/json\r\nContent-Length: " + std::to_string(body.size()) +
+                           "\r\nConnection: close\r\n\r\n" + body;
+    if (send(client, response.data(), response.size(), 0) != static_cast<ssize_t>(response.size())) {
+        give_up("send");
+    }
+    close(client);
+}
+
+void serve(Desk &desk, int port, int requests) {
+    int listener = socket(AF_INET, SOCK_STREAM, 0), on = 1;
+    setsockopt(listener, SOL_SOCKET, SO_REUSEADDR, &on, sizeof on);
+    sockaddr_in address{};
+    address.sin_family = AF_INET;
+    address.sin_port = htons(static_cast<uint16_t>(port));
+    address.sin_addr.s_addr = htonl(INADDR_LOOPBACK);
+    if (bind(listener, reinterpret_cast<const sockaddr *>(&address), sizeof address) != 0 || listen(listener, 128) != 0) {
+        give_up("listen");
+    }
+    std::puts("listening");
+    std::fflush(stdout);
+    for (int taken = 0; taken < requests; ++taken) {
+        int client = accept(listener, nullptr, nullptr);
+        if (client < 0) {
+            give_up("accept");
+        }
+        answer(desk, client);
+    }
+}
+
+// Commands in each panel's number order, the same as those of the bench.
+void deliver(Desk &desk, int panels, int points, int commands) {
+    for (int index = 0; index < commands; ++index) {
+        int panel = index % panels, number = index / panels + 1, point = (panel * points / panels + number) % points;
+        std::string reply = desk.command("PANEL-" + std::to_string(panel + 1), number, "ROOM-" + std::to_string(point + 1), 8,
+                                         500 + index * 7 % 3001);
+        std::fwrite(reply.data(), 1, reply.size(), stdout);
+    }
+}
 
 }  // namespace
 
 int main(int count, char **words) {
-    if (count != 5) {
-        std::fputs("plain_desk DB PANELS POINTS COMMANDS\n", stderr);
+    if (count != 5 && count != 6) {
+        std::fputs("plain_desk DB PANELS POINTS COMMANDS [PORT]\n", stderr);
         return 2;
     }
     int panels = std::atoi(words[2]), points = std::atoi(words[3]), commands = std::atoi(words[4]);
@@ -114,9 +199,10 @@ int main(int count, char **words) {
     check(db, sqlite3_exec(db, kTables, nullptr, nullptr, nullptr));
     {
         Desk desk(db);
-        for (int index = 0; index < commands; ++index) {
-            int panel = index % panels, number = index / panels + 1, point = (panel * points / panels + number) % points;
-            desk.command("PANEL-" + std::to_string(panel + 1), number, "ROOM-" + std::to_string(point + 1), 8, 500 + index * 7 % 3001);
+        if (count == 6) {
+            serve(desk, std::atoi(words[5]), commands);
+        } else {
+            deliver(desk, panels, points, commands);
         }
     }
     sqlite3_close(db);
