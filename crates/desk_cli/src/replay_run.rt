@@ -1,10 +1,12 @@
 //! The run of a list of deliveries over a building, in memory.
 
-ghost use Rattle.std.specs.Prelude.{◌≡◌, List, ℕ, [], ◌∷◌, IfOk, OnOk, Some, string_bytes};
+ghost use Rattle.std.specs.Prelude.{◌≡◌, List, ℕ, [], ◌∷◌, IfOk, Ok, OnOk, Some, string_bytes};
 ghost use Rattle.std.specs.Io.BufRead.{strip_last};
 ghost use Rattle.std.specs.Io.Buffered.{reader_remaining};
 ghost use Rattle.std.specs.Io.KnownBytes.{Appends, Keeps};
 ghost use Rattle.points.specs.Rights.{point_named};
+ghost use Rattle.building.specs.Building.{contents_of};
+ghost use Rattle.building.specs.BuildingFile.{building_of};
 ghost use Rattle.desk.specs.PointState.{state_of};
 ghost use Rattle.deliveries.specs.Delivered.{Holds};
 ghost use Rattle.deliveries.specs.declared.delivery.Delivery.{Delivery as a_delivery};
@@ -82,14 +84,38 @@ where
         → PrintsNoMore file_bytes list_bytes (W.contents out.old) (W.contents out.new) }
 {
     let building = read_building(alloc, file)?;
-    let store = MemStore::new(alloc);
-    let mut desk = Desk::new(alloc, building, store);
+    let mut desk = Desk::new(alloc, building, MemStore::new(alloc));
+    print_list(alloc, &mut desk, deliveries, out)
+}
+
+/// Answers each line of the list, and then tells the points. The desk is lent, so that no exit here drops one: at the
+/// type of one store that is dear to prove.
+fn print_list<'a, S: Store + Drop, D: Read + Drop, O, W: Write>(
+    alloc: Global,
+    desk: &mut Desk<S>,
+    deliveries: Listed<'a, O>,
+    out: &mut W,
+) -> Result<(), RunFault<'a>>
+where
+    O: FnOnce() -> io::Result<BufReader<D>>,
+    requires { O.IsAlwaysCallable deliveries.open }
+    ensures done { OnOk result ((file_bytes list_bytes : List ℕ) → (S.standing desk.new.store).is_honest
+        → building_of file_bytes ≡ Ok (contents_of desk.old.building)
+        → Opens (O.post deliveries.entry.open) (bytes_of (reader_remaining D.remaining)) list_bytes
+        → Holds desk.old.building [] (S.standing desk.old.store)
+        → Replays file_bytes list_bytes (W.contents out.old) (W.contents out.new)) }
+    ensures no_more { (file_bytes list_bytes : List ℕ) → (S.standing desk.new.store).is_honest
+        → building_of file_bytes ≡ Ok (contents_of desk.old.building)
+        → Opens (O.post deliveries.entry.open) (bytes_of (reader_remaining D.remaining)) list_bytes
+        → Holds desk.old.building [] (S.standing desk.old.store)
+        → PrintsNoMore file_bytes list_bytes (W.contents out.old) (W.contents out.new) }
+{
     let Listed { path, open } = deliveries;
     match open() {
-        Ok(reader) => print_replies(alloc, &mut desk, path, reader, out)?,
+        Ok(reader) => print_replies(alloc, desk, path, reader, out)?,
         Err(error) => return Err(RunFault::of_read(&error, path)),
     }
-    print_points(alloc, &mut desk, out)?;
+    print_points(alloc, desk, out)?;
     flush(out)
 }
 
@@ -194,6 +220,7 @@ fn print_points<'a, S: Store + Drop, W: Write>(
         (point_lines desk.old.building (S.standing desk.old.store).content.tables)) }
     ensures no_more { (S.standing desk.new.store).is_honest → AppendsStart (W.contents out.old) (W.contents out.new)
         (point_lines desk.old.building (S.standing desk.old.store).content.tables) }
+    ensures honest { (S.standing desk.new.store).is_honest → (S.standing desk.old.store).is_honest }
 {
     let count = desk.building().points().len();
     for place in 0..count {

@@ -1,10 +1,12 @@
-//! The desk and requests to it, as calls: a run of deliveries, reports, and what requests get, row by row, in any pieces,
-//! cut, over ends that fail and over the loopback; the worked request over tables in memory and in a database. There is
-//! no code here but tests, so that no other crate is proved twice for them.
+//! The desk and requests to it, as calls: a run of deliveries, reports, inputs that are no request, the loopback, and the
+//! worked request in any two pieces, cut and with a lost reply, over tables in memory and in a database. What each request
+//! gets is tried on the program. There is no code here but tests, so that no other crate is proved twice for them.
 #![tactic(auto)]
 
 #[cfg(test)]
 mod asking;
+#[cfg(test)]
+mod databases;
 #[cfg(test)]
 mod desks;
 #[cfg(test)]
@@ -12,9 +14,9 @@ mod ends;
 #[cfg(test)]
 mod loopback;
 #[cfg(test)]
-mod reports;
+mod no_requests;
 #[cfg(test)]
-mod requests;
+mod reports;
 #[cfg(test)]
 mod runs;
 #[cfg(test)]

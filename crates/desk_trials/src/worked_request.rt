@@ -1,15 +1,14 @@
 //! The worked request over tables in memory and in a database: in two reads, cut inside its body, and with a lost reply.
 use crate::asking::{Got, HEAD, ask, assert_got, command, done, serve};
+use crate::databases::made;
 use crate::desks::desk_over;
 use crate::ends::Pieces;
 use http::StatusCode;
 use panel_http::Served;
-use sqlite::Connection;
 use std::alloc::Global;
 use std::process::Abort;
 use std::test::Fail;
 use store::{MemStore, Store};
-use store_sql::SqlStore;
 
 /// The response to a request that ends inside its body.
 fn cut() -> &'static str {
@@ -186,15 +185,6 @@ where
         try_case(rt, alloc, make()?, &case_of(*way))?;
     }
     Ok(())
-}
-
-// The tables of a database in memory that has nothing yet.
-fn made(alloc: Global) -> Result<SqlStore<sqlite::MemStore>, Fail> {
-    let connection = Connection::open_in_memory(alloc)?;
-    match SqlStore::create(alloc, connection) {
-        Ok(store) => Ok(store),
-        Err((fault, _connection)) => Err(Fail::from(fault)),
-    }
 }
 
 #[test]

@@ -1,0 +1,43 @@
+use Rattle.std.proofs.Common.{◌≡◌, [], Err, Ok, OnOk, Result, Some, refl}
+use Rattle.std.specs.Io.Buffered.{reader_remaining}
+use Rattle.desk_console.proofs.PrintedLemmas.{Keeps-same}
+use Rattle.desk_cli.proofs.ReplayLemmas.{Replays-Keeps, Replays-done}
+use Rattle.desk_cli.proofs.StopLemmas.{no_more-lines, no_more-points}
+use Rattle.desk_cli.proofs.replay_run.print_list.Goals as goal
+
+-- what holds at all holds at an `Ok`
+of_any : {T E : Type 0} (r : Result T E) (P : Type 0) → P → OnOk r P
+of_any {T} {E} (Ok x) P p = p
+of_any {T} {E} (Err e) P p = tt
+
+pub returns-clause-done : goal.returns-clause-done
+returns-clause-done g c =
+    of_any c.flush.result _ (λ file_bytes list_bytes honest file list holds.
+    let list_is : reader_remaining g.D.Read.remaining c.in-Ok.reader ≡ Some list_bytes = list (Ok c.in-Ok.reader) c.in-Ok.ensures in
+    let prints = c.in_ok-print_replies-in-Ok.ensures.prints list_bytes [] (c.in_ok-print_points.ensures.honest honest) list_is holds in
+    Replays-Keeps file_bytes list_bytes _ _ _
+    (Replays-done file_bytes list_bytes c.args.desk.now.building c.args.desk.now.building c.print_replies.new.desk.building _ _ _ _
+    file refl prints
+    c.in_ok-print_replies-in-Ok.ensures.building (c.in_ok-print_points.ensures.whole honest)) c.flush.ensures)
+
+pub returns-clause-no_more : goal.returns-clause-no_more
+returns-clause-no_more g c = λ file_bytes list_bytes honest file list holds.
+    let list_is : reader_remaining g.D.Read.remaining c.in-Ok.reader ≡ Some list_bytes = list (Ok c.in-Ok.reader) c.in-Ok.ensures in
+    let prints = c.in_ok-print_replies-in-Ok.ensures.prints list_bytes [] (c.print_points.ensures.honest honest) list_is holds in
+    no_more-points file_bytes list_bytes c.args.desk.now.building c.args.desk.now.building c.print_replies.new.desk.building _ _ _ _ _
+    file refl prints
+    c.in_ok-print_replies-in-Ok.ensures.building (c.print_points.ensures.no_more honest) c.flush.ensures
+
+pub returns-in_err-print_points-clause-no_more : goal.returns-in_err-print_points-clause-no_more
+returns-in_err-print_points-clause-no_more g c = λ file_bytes list_bytes honest file list holds.
+    let list_is : reader_remaining g.D.Read.remaining c.in-Ok.reader ≡ Some list_bytes = list (Ok c.in-Ok.reader) c.in-Ok.ensures in
+    let prints = c.in_ok-print_replies-in-Ok.ensures.prints list_bytes [] (c.print_points.ensures.honest honest) list_is holds in
+    no_more-points file_bytes list_bytes c.args.desk.now.building c.args.desk.now.building c.print_replies.new.desk.building _ _ _ _ _
+    file refl prints
+    c.in_ok-print_replies-in-Ok.ensures.building (c.print_points.ensures.no_more honest) (Keeps-same _)
+
+pub returns-in_err-print_replies-in-Ok-clause-no_more : goal.returns-in_err-print_replies-in-Ok-clause-no_more
+returns-in_err-print_replies-in-Ok-clause-no_more g c = λ file_bytes list_bytes honest file list holds.
+    let list_is : reader_remaining g.D.Read.remaining c.in-Ok.reader ≡ Some list_bytes = list (Ok c.in-Ok.reader) c.in-Ok.ensures in
+    no_more-lines file_bytes list_bytes c.args.desk.now.building c.args.desk.now.building _ _ _
+    file refl (c.print_replies.ensures.no_more list_bytes [] honest list_is holds) (Keeps-same _)

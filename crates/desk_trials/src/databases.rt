@@ -1,0 +1,30 @@
+//! Tables in a database in memory, which are made once.
+use sqlite::Connection;
+use std::alloc::Global;
+use std::test::Fail;
+use store_sql::{OpenFault, SqlStore};
+
+/// The tables of a database in memory that has nothing yet.
+pub(crate) fn made(alloc: Global) -> Result<SqlStore<sqlite::MemStore>, Fail> {
+    let connection = Connection::open_in_memory(alloc)?;
+    match SqlStore::create(alloc, connection) {
+        Ok(store) => Ok(store),
+        Err((fault, _connection)) => Err(Fail::from(fault)),
+    }
+}
+
+// Why no tables were made, if none were.
+fn fault_of<T: Drop, C: Drop>(made: Result<T, (OpenFault, C)>) -> Option<OpenFault> {
+    match made {
+        Ok(_store) => None,
+        Err((fault, _connection)) => Some(fault),
+    }
+}
+
+#[test]
+fn tables_are_not_made_twice(rt: HostRuntime) -> Result<(), Fail> {
+    let connection = made(rt.alloc())?.into_connection();
+    let fault = fault_of(SqlStore::create(rt.alloc(), connection));
+    assert_eq!(rt; fault, Some(OpenFault::UnknownTables));
+    Ok(())
+}
