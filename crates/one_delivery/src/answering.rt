@@ -70,6 +70,23 @@ fn reply_line(alloc: Global, reply: Reply) -> Result<String, AllocError>
     format!(in alloc; "{}\n", ReplyText(reply))
 }
 
+/// Delivers, and prints the reply as a line. The desk is lent, so that no exit here drops one, which is dear to prove.
+fn deliver<'a, S: Store + Drop, W: Write>(
+    alloc: Global,
+    desk: &mut Desk<S>,
+    delivery: &Delivery,
+    out: &mut W,
+) -> Result<Reply, RunFault<'a>>
+    ensures answers { OnOk result ((earlier : List a_delivery) → (S.standing desk.new.store).is_honest
+        → Holds desk.old.building earlier (S.standing desk.old.store)
+        → Answers desk.old.building earlier delivery.now (S.standing desk.new.store) (W.contents out.old) (W.contents out.new)) }
+    ensures honest { OnOk result ((S.standing desk.new.store).is_honest → (S.standing desk.old.store).is_honest) }
+{
+    let reply = desk.deliver(delivery)?;
+    print_reply(alloc, reply, out)?;
+    Ok(reply)
+}
+
 /// Delivers to the store that is opened, and prints the reply as a line.
 pub fn answer<'a, S: Store + Drop, O, W: Write>(
     alloc: Global,
@@ -87,10 +104,8 @@ where
         → Answers building earlier delivery.now (S.standing told.store) (W.contents out.old) (W.contents out.new)) }
 {
     let mut desk = open_desk(alloc, building, opener)?;
-    let reply = desk.deliver(delivery)?;
-    print_reply(alloc, reply, out)?;
-    Ok(Answered {
-        reply,
-        store: desk.into_store(),
-    })
+    let told = deliver(alloc, &mut desk, delivery, out);
+    let store = desk.into_store();
+    let reply = told?;
+    Ok(Answered { reply, store })
 }

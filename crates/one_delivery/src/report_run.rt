@@ -1,5 +1,5 @@
 //! The report of a day, from the file of the building to its text.
-ghost use Rattle.std.specs.Prelude.{◌≡◌, List, ℕ, Some, IfErr, IfOk};
+ghost use Rattle.std.specs.Prelude.{◌≡◌, List, ℕ, Some, IfErr, IfOk, OnOk};
 ghost use Rattle.std.specs.Io.KnownBytes.{Keeps};
 ghost use Rattle.day_reports.specs.AskedDay.{SpellsDay};
 ghost use Rattle.deliveries.specs.declared.delivery.Delivery.{Delivery as a_delivery};
@@ -15,6 +15,7 @@ use crate::clock_run::Ended;
 use building::Building;
 use dates::Day;
 use day_reports::read_day;
+use desk::Desk;
 use desk_console::{Input, RunFault, Status, print_whole, read_building};
 use std::alloc::Global;
 use std::io::{Read, Write};
@@ -88,6 +89,22 @@ fn asked_day<'a>(alloc: Global, date: &str) -> Result<Day, RunFault<'a>>
     }
 }
 
+/// Prints the report of a day. The desk is lent, so that no exit here drops one, which is dear to prove.
+fn print_day<'a, S: Store + Drop, W: Write>(
+    desk: &mut Desk<S>,
+    day: Day,
+    out: &mut W,
+) -> Result<(), RunFault<'a>>
+    ensures reports { OnOk result ((earlier : List a_delivery) → (S.standing desk.new.store).is_honest
+        → Holds desk.old.building earlier (S.standing desk.old.store)
+        → Reports desk.old.building earlier day (S.standing desk.new.store) (W.contents out.old) (W.contents out.new)) }
+    ensures honest { OnOk result ((S.standing desk.new.store).is_honest → (S.standing desk.old.store).is_honest) }
+{
+    let text = desk.report(day)?;
+    print_whole(out, text.as_str())?;
+    Ok(())
+}
+
 /// Prints the report of a day over the store that is opened, and hands the store back.
 fn print_report<'a, S: Store + Drop, O, W: Write>(
     alloc: Global,
@@ -105,7 +122,8 @@ where
         → Reports building earlier day (S.standing left) (W.contents out.old) (W.contents out.new)) }
 {
     let mut desk = open_desk(alloc, building, opener)?;
-    let text = desk.report(day)?;
-    print_whole(out, text.as_str())?;
-    Ok(desk.into_store())
+    let told = print_day(&mut desk, day, out);
+    let store = desk.into_store();
+    told?;
+    Ok(store)
 }
