@@ -22,6 +22,8 @@ import tables
 SECONDS = 60
 # What a connection may take, and how much later a busy machine may tell.
 LIMIT, GRACE = 5, 3
+# The sizes of the pieces of a request that comes in many.
+SIZES = (1, 2, 7)
 BROKEN = 2_000
 REASONS = {200: "OK", 202: "Accepted", 400: "Bad Request", 404: "Not Found", 409: "Conflict", 410: "Gone",
            422: "Unprocessable Entity", 500: "Internal Server Error", 503: "Service Unavailable"}
@@ -123,9 +125,12 @@ def rows(folder, statement):
 # ---- what panels get
 
 def a_request_is_answered_however_it_is_cut(program, folder):
-    with serving(program, folder, len(REQUEST)) as server:
+    with serving(program, folder, len(REQUEST) + len(SIZES)) as server:
         for cut in range(1, len(REQUEST)):
             expect(server.ask(REQUEST[:cut], REQUEST[cut:]), RESPONSE)
+        for size in SIZES:
+            pieces = [REQUEST[place:place + size] for place in range(0, len(REQUEST), size)]
+            expect(server.ask(*pieces), RESPONSE)
         expect(server.ask(REQUEST), RESPONSE)
         server.end()
     expect(rows(folder, "SELECT * FROM place"), [("R101-SET", 8, 2150)])
