@@ -2,5 +2,6 @@ pub mod HeldLemmas
 pub mod NameLemmas
 pub mod PanelLemmas
 pub mod ReadLemmas
+pub mod SlotLemmas
 pub mod StandLemmas
 pub mod TextLemmas

@@ -1,5 +1,5 @@
 -- What stands in tables: a test of an entry against what the tables tell.
-use Rattle.std.proofs.Common.{◌≡◌, ℕ, ◌↔◌, ◌⊎◌, ◌==◌, ◌||◌, Bool, true, false, not, List, [], ◌∷◌, Option, Some, None, IsSome, is_some, unwrap_or}
+use Rattle.std.proofs.Common.{◌≡◌, ℕ, ◌↔◌, ◌⊎◌, ◌==◌, ◌||◌, Bool, true, false, not, List, [], ◌∷◌, Option, Some, None, IsSome, is_some, unwrap_or, nat_lt, cond}
 use Rattle.std.proofs.Common.{string_bytes, refl, sym, ap, ◌∙◌, inl, inr}
 use Rattle.std.specs.Bool.{IsTrue}
 use Rattle.std.specs.BTreeMap.{keys}
@@ -49,6 +49,11 @@ some_of_flat : {A : Type 0} (o : Option (Option A)) → IsSome (flatten o) → I
 some_of_flat None is = is
 some_of_flat (Some slot) is = refl
 
+-- an entry that counts is one
+some_if_counts : {A : Type 0} (early : Bool) (o : Option A) → IsSome (cond early None o) → IsSome o
+some_if_counts true o is = absurd (false≢true is)
+some_if_counts false o is = is
+
 first_of_two : (a b : Bool) → (a || b) ≡ true → a ≡ false → b ≡ true
 first_of_two true b some other = absurd (false≢true (sym other))
 first_of_two false b some other = some
@@ -83,7 +88,7 @@ panel_stands (Some table) = (
     | inr row ↦ second_of_two (not (table.next == 1)) _
         (found_any (λ k. is_eq (nat_cmp row.0 k)) (λ number. is_some (kept_rows table number))
         (λ k same. ap (λ n. is_some (kept_rows table n)) (sym (same_number row.0 k same)) ∙ row.1)
-        table.rows.entries (some_of_flat (slot_in (Some table) row.0) row.1))
+        table.rows.entries (some_if_counts (nat_lt row.0 table.first) _ (some_of_flat (slot_in (Some table) row.0) row.1)))
   ]),
 )
 

@@ -1,5 +1,5 @@
 -- What the tables in memory hold. An entry may hold nothing, and is then room for what is to come.
-use Rattle.std.specs.Prelude.{◌≡◌, ℕ, ◌==◌, Bool, not, ◌||◌, Option, Some, None, IsSome, is_some, unwrap_or, ℤ}
+use Rattle.std.specs.Prelude.{◌≡◌, ℕ, ◌==◌, Bool, not, ◌||◌, nat_lt, if◌then◌else◌, Option, Some, None, IsSome, is_some, unwrap_or, ℤ}
 use Rattle.std.specs.BTreeMap.{get, keys}
 use Rattle.std.specs.HashMap as hash
 use Rattle.std.specs.Cmp.Lexicographic.{slice_cmp}
@@ -22,9 +22,9 @@ use Rattle.store.specs.Tables.{Text}
 
 -- ---- panels
 
--- the entry of a number
+-- the entry of a number, if it counts
 abbrev pub slot_at : PanelTable → ℕ → Option (Option CommandRow)
-slot_at table number = get nat_cmp table.rows number
+slot_at table number = if nat_lt number table.first then None else get nat_cmp table.rows number
 
 abbrev pub kept_rows : PanelTable → Rows
 kept_rows table number = flatten (slot_at table number)

@@ -10,7 +10,7 @@ use Rattle.store.proofs.panels.Panels.set_next.Goals as goal
 pub returns-in-Some-clause-next : goal.returns-in-Some-clause-next
 returns-in-Some-clause-next c = λ q.
     let panel = c.args.item.now.panel in
-    let made : PanelTable = record { next = c.args.item.now.next; rows = c.in-Some.table.now.rows } in
+    let made : PanelTable = record { next = c.args.item.now.next; first = c.in-Some.table.now.first; rows = c.in-Some.table.now.rows } in
     let was = c.in-Some.table.now in
     let old = hash.get bytes_eq c.args.self.now.tables in
     let now = hash.get bytes_eq (c.get_mut.follows.lender made) in
@@ -22,7 +22,7 @@ returns-in-Some-clause-next c = λ q.
 pub returns-in-Some-clause-rows : goal.returns-in-Some-clause-rows
 returns-in-Some-clause-rows c = λ q number.
     let panel = c.args.item.now.panel in
-    let made : PanelTable = record { next = c.args.item.now.next; rows = c.in-Some.table.now.rows } in
+    let made : PanelTable = record { next = c.args.item.now.next; first = c.in-Some.table.now.first; rows = c.in-Some.table.now.rows } in
     let was = c.in-Some.table.now in
     let old = hash.get bytes_eq c.args.self.now.tables in
     let now = hash.get bytes_eq (c.get_mut.follows.lender made) in
@@ -34,7 +34,7 @@ returns-in-Some-clause-rows c = λ q number.
 pub returns-in-Some-clause-room : goal.returns-in-Some-clause-room
 returns-in-Some-clause-room c =
     let panel = c.args.item.now.panel in
-    let made : PanelTable = record { next = c.args.item.now.next; rows = c.in-Some.table.now.rows } in
+    let made : PanelTable = record { next = c.args.item.now.next; first = c.in-Some.table.now.first; rows = c.in-Some.table.now.rows } in
     let was = c.in-Some.table.now in
     let old = hash.get bytes_eq c.args.self.now.tables in
     let now = hash.get bytes_eq (c.get_mut.follows.lender made) in
