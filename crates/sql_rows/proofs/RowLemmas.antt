@@ -1,5 +1,5 @@
 -- What becomes of the rows of a table.
-use Rattle.std.proofs.Common.{◌≡◌, inl, inr, ℕ, ℤ, Bool, true, false, not, ◌&&◌, ◌||◌, List, [], ◌∷◌, map, filter, refl, sym, ap, subst, ◌∙◌, IsTrue, Ordering, true≢false}
+use Rattle.std.proofs.Common.{◌≡◌, inl, inr, ℕ, ℤ, Bool, true, false, not, ◌&&◌, ◌||◌, List, [], ◌∷◌, ◌++◌, map, filter, refl, sym, ap, subst, ◌∙◌, IsTrue, Ordering, true≢false}
 use Rattle.std.specs.declared.cmp.Ordering.TheVariants.{Less, Equal, Greater}
 use Rattle.std.specs.List.{list_any}
 use Rattle.std.specs.List.Sorted.{IsPermutation}
@@ -33,7 +33,7 @@ filter_both p q [] = refl
 filter_both p q (r ∷ rows) =
     elim (cases_Bool (q r)) [ inl is ↦ rw (is, filter_both p q rows) | inr not_it ↦ rw (not_it, filter_both p q rows) ]
 
-filter_all : (rows : List Row) → rows ≡ filter (λ r. true) rows
+pub filter_all : (rows : List Row) → rows ≡ filter (λ r. true) rows
 filter_all [] = refl
 filter_all (r ∷ rows) = ap (λ l. r ∷ l) (filter_all rows)
 
@@ -103,6 +103,16 @@ put_apart new (r ∷ rows) free = go (value_cmp (rowid r) (rowid new)) refl (or_
     go Less is other later = record { before = r ∷ later.before; after = later.after; was = ap (λ l. r ∷ l) later.was; is = ap (λ l. r ∷ l) later.is }
     go Equal is other later = absurd (true≢false (ap is_eq (sym is) ∙ other))
     go Greater is other later = record { before = []; after = r ∷ rows; was = refl; is = refl }
+
+-- all that was there is there with one more row, and so is that
+pub has_more : (before after : List Row) (new row : Row) → Has (before ++ after) row → Has (before ++ new ∷ after) row
+has_more [] after new row h = inr h
+has_more (r ∷ before) after new row (inl same) = inl same
+has_more (r ∷ before) after new row (inr h) = inr (has_more before after new row h)
+
+pub has_new : (before after : List Row) (new : Row) → Has (before ++ new ∷ after) new
+has_new [] after new = inl refl
+has_new (r ∷ before) after new = inr (has_new before after new)
 
 -- fewer rows are apart too
 pub own_filtered : (p : Row → Bool) (key : List ℕ) (rows : List Row) → AreOwn key rows → AreOwn key (filter p rows)

@@ -1,8 +1,14 @@
 -- What a statement in a transaction keeps.
-use Rattle.std.proofs.Common.{◌≡◌, inl, inr, ℕ, List, Ok, Err, Result, refl, sym, subst}
+use Rattle.std.proofs.Common.{◌≡◌, ◌∙◌, inl, inr, ℕ, List, IsTrue, true, false, Ok, Err, Result, refl, sym, subst}
+use Rattle.std.proofs.lemmas.Bool.{cases_Bool}
+use Rattle.sqlite_schema.specs.declared.schema.Constraint.TheVariants.{Unique}
 use Rattle.sqlite_value.specs.Order.{Row}
 use Rattle.sqlite.specs.declared.error.Error.{Error}
-use Rattle.sqlite.specs.State.{ExecutesInside, IsRolledBack, IsUnchanged, KeepsCommit, State}
+use Rattle.sqlite.specs.declared.error.Error.TheVariants.{SqliteFailure}
+use Rattle.sqlite.specs.declared.error.ErrorCode.TheVariants.{ConstraintViolation}
+use Rattle.sqlite.specs.State.{ExecutesIn, ExecutesInside, Fails, IsNotRun, IsRolledBack, IsUnchanged, KeepsCommit, Shows, State, shows_rows, store_error}
+use Rattle.sqlite_trees.specs.declared.error.StoreError.{StoreError}
+use Rattle.sqlite_trees.specs.declared.error.StoreError.TheVariants.{Broken, Corrupt, Full, Io, OutOfMemory, Unstorable}
 
 unchanged_keeps : (old new : State) → IsUnchanged old new → KeepsCommit old new
 unchanged_keeps old new same = record { was_open = λ _. same.0.was_open; committed = λ _. same.0.committed_is }
@@ -17,3 +23,37 @@ inside_keeps sql params old new (Err e) (inr h) = unchanged_keeps old new h.2
 
 pub same_keeps : (old new : State) → new ≡ old → KeepsCommit old new
 same_keeps old new same = subst (KeepsCommit old) (sym same) (record { was_open = λ stands. stands; committed = λ _. refl })
+
+-- ---- a key that another row has
+
+no_failure : (cause : StoreError) → ◌≡◌ {A = Error} (SqliteFailure (ConstraintViolation Unique)) (store_error cause) → ⊥
+no_failure OutOfMemory e = cc
+no_failure Io e = cc
+no_failure Corrupt e = cc
+no_failure Full e = cc
+no_failure Broken e = cc
+no_failure Unstorable e = cc
+
+unless_failed : (old new : State) (Big : Type 0) → Fails old new Big (SqliteFailure (ConstraintViolation Unique)) → ⊥
+unless_failed old new Big failed = no_failure failed.0 failed.1
+
+module _ (sql : List ℕ) (params : Row) (old new : State) where
+  refused_whole : ExecutesIn false sql params old new (Err (SqliteFailure (ConstraintViolation Unique))) → IsUnchanged old new
+  unfolding ExecutesIn IsNotRun
+  refused_whole (inl (inl refused)) = refused.1
+  refused_whole (inl (inr failed)) = absurd (unless_failed old new _ failed)
+  refused_whole (inr ran) = elim (cases_Bool (shows_rows false ran.0)) [
+    | inl shows ↦ (rw shows at ran.2).1
+    | inr runs ↦ elim (rw runs at ran.2) [ inl refused ↦ refused.1 | inr failed ↦ absurd (unless_failed old new _ failed) ]
+  ]
+
+  -- a statement that meets another row's key leaves all as it was, and the transaction goes on
+  pub refused_inside : (result : Result ℕ Error) → IsTrue old.in_transaction → ExecutesInside 0 sql params old new result
+      → result ≡ Err (SqliteFailure (ConstraintViolation Unique)) → Shows old new old.now old.committed true
+  refused_inside result inside h is =
+      let stays = still (subst (ExecutesInside 0 sql params old new) is h) in
+      record { was_open = stays.0.was_open; is_open = stays.0.is_open; now_is = stays.0.now_is; committed_is = stays.0.committed_is; mode = stays.0.mode ∙ inside }
+    where
+      still : ExecutesInside 0 sql params old new (Err (SqliteFailure (ConstraintViolation Unique))) → IsUnchanged old new
+      still (inl run) = refused_whole run.0
+      still (inr ends) = ends.2

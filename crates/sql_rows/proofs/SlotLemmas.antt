@@ -186,4 +186,4 @@ module _ (slot : Slot) (is_slot : IsSlot slot) (sql : List ℕ) (plain : IsPlain
       let free : is_taken rows row ≡ false = not_true _ (and_parts _ _ (subst (λ l. are_fresh rows l ≡ true) news ran.applies.fresh)).0 in
       let now : new.now.trees slot.table.tree ≡ put_row row rows = ran.applies.rows ∙ ap (put_all rows) news in
       changed (Gains cells) _ old new refl inside h.1 ran (subst (AreOwn slot.key) (sym now) (own_put row slot.key rows refl free (own_rows old inside)))
-      (record { id = id; more = subst (HasOneMore row rows) (sym now) (put_apart row rows free) })
+      (record { id = id; free = free; more = subst (HasOneMore row rows) (sym now) (put_apart row rows free) })

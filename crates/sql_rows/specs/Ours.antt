@@ -1,6 +1,7 @@
 -- A database of the six tables.
-use Rattle.std.specs.Prelude.{◌≡◌, ℕ, zero, suc, Bool, true, not, filter, IsTrue, List, [], ◌∷◌, ◌++◌, map}
+use Rattle.std.specs.Prelude.{◌≡◌, ℕ, zero, suc, Bool, true, false, not, filter, IsTrue, List, [], ◌∷◌, ◌++◌, map}
 use Rattle.sqlite_value.specs.declared.value.Value.{Value}
+use Rattle.sqlite_rules.specs.Edit.{is_taken}
 use Rattle.sqlite_rules.specs.Lists.{Has}
 use Rattle.sqlite_trees.specs.Tree.{Trees, rowid}
 use Rattle.sqlite_trees.specs.View.{is_int}
@@ -72,10 +73,15 @@ pub record HasOneMore (row : Row) (old now : List Row) : Type 0 where
 abbrev pub Loses : (Row → Bool) → List Row → List Row → Type 0
 Loses gone old now = now ≡ filter (λ row. not (gone row)) old
 
--- there is one more row, with these cells
+-- there is one more row, with these cells, under a number that none had
 pub record Gains (cells : Row) (old now : List Row) : Type 0 where
   pub id : Value
+  pub free : is_taken old (id ∷ cells) ≡ false
   pub more : HasOneMore (id ∷ cells) old now
+
+-- no row passed, and there is one more, with these cells
+abbrev pub Adds : (Row → Bool) → Row → List Row → List Row → Type 0
+Adds gone cells old now = Loses gone old old × Gains cells old now
 
 -- so many rows passed: where none did, the rows are as they were; else those that passed are gone, and there is one row with these cells
 abbrev pub Rewrites : (Row → Bool) → Row → ℕ → List Row → List Row → Type 0

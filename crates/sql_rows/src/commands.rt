@@ -1,11 +1,14 @@
 //! The statements on the rows of commands.
-ghost use Rattle.std.specs.Prelude.{◌≡◌, ◌<◌, ◌^◌, ◌&&◌, false, IfOk, OnOk, pos, [], ◌∷◌};
+ghost use Rattle.std.specs.Prelude.{◌≡◌, ◌<◌, ◌^◌, ◌&&◌, true, false, Err, IfOk, OnOk, pos, [], ◌∷◌};
 ghost use Rattle.sqlite.specs.Held.{state};
-ghost use Rattle.sqlite.specs.State.{HasCleanDisk, IsUnchanged, KeepsCommit, Survives};
+ghost use Rattle.sqlite.specs.declared.error.Error.TheVariants.{SqliteFailure};
+ghost use Rattle.sqlite.specs.declared.error.ErrorCode.TheVariants.{ConstraintViolation};
+ghost use Rattle.sqlite_schema.specs.declared.schema.Constraint.TheVariants.{Unique};
+ghost use Rattle.sqlite.specs.State.{HasCleanDisk, IsUnchanged, KeepsCommit, Shows, Survives};
 ghost use Rattle.sqlite_value.specs.declared.value.Value.TheVariants.{Int, Text};
 ghost use Rattle.sqlite_value.specs.Order.{column};
 ghost use Rattle.sql_rows.specs.Looking.{Finds, FindsLeast, Rests, is_after, is_from};
-ghost use Rattle.sql_rows.specs.Ours.{Changes, Gains, IsInside, IsOurs, Loses, kept_in};
+ghost use Rattle.sql_rows.specs.Ours.{Adds, Changes, IsInside, IsOurs, Loses, kept_in};
 ghost use Rattle.sql_rows.specs.Slot.{On, command_slot};
 ghost use Rattle.stored_rows.specs.Cells.{cell_of, is_text};
 ghost use Rattle.stored_rows.specs.Rows.{of_command, of_lower_command};
@@ -36,7 +39,7 @@ pub fn clear<S: Alter>(
     )
 }
 
-/// Adds the row under a number of a panel.
+/// Adds the row under a number of a panel. Where one stands there it is refused as not unique, and nothing changes.
 pub fn add<S: Alter>(
     transaction: &mut Transaction<'_, S>,
     panel: &Name,
@@ -46,7 +49,8 @@ pub fn add<S: Alter>(
 ) -> Result<usize, Error>
     requires { number < 2 ^ 63 }
     ensures same_reference { transaction.new.conn.ghost_name ≡ transaction.old.conn.ghost_name }
-    ensures done { HasCleanDisk (state S.Store transaction.new.conn.now) → IsInside (state S.Store transaction.old.conn.now) → OnOk result (Changes (On command_slot (Gains (Text panel.now ∷ Int (pos number) ∷ Text content.now.point ∷ Int content.now.priority ∷ cell_of content.now.value ∷ Int cells.now.code ∷ cell_of cells.now.a ∷ cell_of cells.now.b ∷ []))) (state S.Store transaction.old.conn.now) (state S.Store transaction.new.conn.now)) }
+    ensures refused { HasCleanDisk (state S.Store transaction.new.conn.now) → IsInside (state S.Store transaction.old.conn.now) → result ≡ Err (SqliteFailure (ConstraintViolation Unique)) → Shows (state S.Store transaction.old.conn.now) (state S.Store transaction.new.conn.now) (state S.Store transaction.old.conn.now).now (state S.Store transaction.old.conn.now).committed true }
+    ensures done { HasCleanDisk (state S.Store transaction.new.conn.now) → IsInside (state S.Store transaction.old.conn.now) → OnOk result (Changes (On command_slot (Adds (of_command panel.now number) (Text panel.now ∷ Int (pos number) ∷ Text content.now.point ∷ Int content.now.priority ∷ cell_of content.now.value ∷ Int cells.now.code ∷ cell_of cells.now.a ∷ cell_of cells.now.b ∷ []))) (state S.Store transaction.old.conn.now) (state S.Store transaction.new.conn.now)) }
     ensures kept { HasCleanDisk (state S.Store transaction.new.conn.now) → KeepsCommit (state S.Store transaction.old.conn.now) (state S.Store transaction.new.conn.now) }
     ensures survives { Survives (state S.Store transaction.old.conn.now) (state S.Store transaction.new.conn.now) (λ _. ⊥) }
 {

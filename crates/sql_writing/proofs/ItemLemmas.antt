@@ -18,7 +18,7 @@ use Rattle.stored_rows.specs.Rows.{of_command, of_entry, of_lower_command, of_pa
 use Rattle.stored_rows.specs.Stored.{HasPut, Kept, is_sound_in, tables_in}
 use Rattle.stored_rows.proofs.MadeLemmas.{made_cells, made_command, made_content, made_imported, made_next, made_place, made_shown}
 use Rattle.stored_rows.proofs.StoredLemmas.{clear_place, clear_shown, drop_commands, put_command, put_imported, put_next, put_place, put_shown, set_last}
-use Rattle.sql_rows.specs.Ours.{Gains, Loses, Makes, Rewrites, SetsDesk}
+use Rattle.sql_rows.specs.Ours.{Adds, Gains, Loses, Makes, Rewrites, SetsDesk}
 use Rattle.sql_rows.specs.Slot.{On, Slot, command_slot, imported_slot, panel_slot, place_slot, shown_slot}
 use Rattle.sql_writing.specs.Steps.{imported_put, last_put, next_put, place_put, row_put, rows_dropped, shown_put}
 use Rattle.sql_writing.proofs.DropLemmas.{drops_the_same}
@@ -90,20 +90,33 @@ module _ (item : PlaceValue) (value : ℤ) (some_value : item.value ≡ Some val
   place_added count none a b c set gains =
       place_from a c (put_on place_slot (λ x y k. refl) place_gone place_cells a b c (none_lost place_slot place_gone place_cells count a b none set) gains)
 
-module _ (a b c : Kept) where
-  pub row_made : (item : KeptRow) (code : ℤ) (first second : Option ℤ) → IsName item.panel → IsName item.row.content.point → IsKeptRow item
-      → state_in (Int code) (cell_of first) (cell_of second) ≡ Some item.row.state → On command_slot (Loses (of_command item.panel item.number)) a b
-      → On command_slot (Gains (Text item.panel ∷ Int (pos item.number) ∷ Text item.row.content.point ∷ Int item.row.content.priority
-      ∷ cell_of item.row.content.value ∷ Int code ∷ cell_of first ∷ cell_of second ∷ [])) b c → Makes (row_put item) a c
-  row_made item code first second named point in' says lost gains =
+module _ (item : KeptRow) (code : ℤ) (first second : Option ℤ) (named : IsName item.panel) (point : IsName item.row.content.point) (in' : IsKeptRow item)
+    (says : state_in (Int code) (cell_of first) (cell_of second) ≡ Some item.row.state) where
+  abbrev row_gone : Row → Bool
+  row_gone = of_command item.panel item.number
+
+  abbrev row_cells : Row
+  row_cells = Text item.panel ∷ Int (pos item.number) ∷ Text item.row.content.point ∷ Int item.row.content.priority ∷ cell_of item.row.content.value ∷ Int code ∷ cell_of first ∷ cell_of second ∷ []
+
+  row_from : (a b : Kept) → Put command_slot row_gone row_cells a b → Makes (row_put item) a b
+  row_from a b put =
       let content = item.row.content in
-      let cells = Text item.panel ∷ Int (pos item.number) ∷ Text content.point ∷ Int content.priority ∷ cell_of content.value ∷ Int code ∷ cell_of first ∷ cell_of second ∷ [] in
-      let put = put_on command_slot (λ x y k. refl) (of_command item.panel item.number) cells a b c lost gains in
       let asks = made_content content (Text content.point) (Int content.priority) (cell_of content.value) refl refl refl point in
       let kept = made_cells item.row (Text content.point) (Int content.priority) (cell_of content.value) (Int code) (cell_of first) (cell_of second) asks says in
-      makes_from (row_put item) a (record a { command = c.command }) c put.is
-      (put_command item (put.id ∷ cells) a c.command (made_command item (put.id ∷ cells) refl refl named in'.number kept) put.has)
+      makes_from (row_put item) a (record a { command = b.command }) b put.is
+      (put_command item (put.id ∷ row_cells) a b.command (made_command item (put.id ∷ row_cells) refl refl named in'.number kept) put.has)
 
+  -- one that is new
+  pub row_added : (a b : Kept) → On command_slot (Adds row_gone row_cells) a b → Makes (row_put item) a b
+  row_added a b added =
+      row_from a b (put_on command_slot (λ x y k. refl) row_gone row_cells a a b (record { others = refl; rows = added.rows.0 }) (record { others = added.others; rows = added.rows.1 }))
+
+  -- one in place of another
+  pub row_made : (a b c : Kept) → On command_slot (Loses row_gone) a b → On command_slot (Adds row_gone row_cells) b c → Makes (row_put item) a c
+  row_made a b c lost added =
+      row_from a c (put_on command_slot (λ x y k. refl) row_gone row_cells a b c lost (record { others = added.others; rows = added.rows.1 }))
+
+module _ (a b c : Kept) where
   pub shown_made : (item : ShownValue) (value : Option ℤ) → item.shown ≡ Some value → IsName item.schedule
       → On shown_slot (Loses (of_schedule item.schedule)) a b → On shown_slot (Gains (Text item.schedule ∷ cell_of value ∷ [])) b c → Makes (shown_put item) a c
   shown_made item value some named lost gains =

@@ -5,7 +5,7 @@ ghost use Rattle.store.specs.Change.{IsKeptRow, IsNext, IsPlace};
 ghost use Rattle.sql_writing.specs.Steps.{Steps, Turns, imported_put, last_put, next_put, place_put, row_put, rows_dropped, shown_put};
 
 use sql_rows::{calendars, commands, desk_row, panels, places, schedules};
-use sqlite::{Alter, Error, Transaction};
+use sqlite::{Alter, Constraint, Error, ErrorCode, Transaction};
 use std::alloc::Global;
 use store::{ImportedEntry, KeptRow, NextNumber, PlaceValue, RowsBelow, ShownValue};
 use stored_rows::cells_of;
@@ -29,8 +29,11 @@ pub fn put_next<S: Alter>(
     Ok(())
 }
 
-/// Puts the row of a command.
-pub fn put_row<S: Alter>(transaction: &mut Transaction<'_, S>, item: &KeptRow) -> Result<(), Error>
+// Puts the row of a command in place of the one that stands there.
+fn replace_row<S: Alter>(
+    transaction: &mut Transaction<'_, S>,
+    item: &KeptRow,
+) -> Result<(), Error>
     requires { IsKeptRow item.now }
     ensures same_reference { transaction.new.conn.ghost_name ≡ transaction.old.conn.ghost_name }
     ensures steps { Steps (Turns (row_put item.now)) (state S.Store transaction.old.conn.now) (state S.Store transaction.new.conn.now) result }
@@ -47,6 +50,30 @@ pub fn put_row<S: Alter>(transaction: &mut Transaction<'_, S>, item: &KeptRow) -
         &cells,
     )?;
     Ok(())
+}
+
+/// Puts the row of a command. Most are new, so that it is added first, and one that stands there is removed only where
+/// that is refused.
+pub fn put_row<S: Alter>(transaction: &mut Transaction<'_, S>, item: &KeptRow) -> Result<(), Error>
+    requires { IsKeptRow item.now }
+    ensures same_reference { transaction.new.conn.ghost_name ≡ transaction.old.conn.ghost_name }
+    ensures steps { Steps (Turns (row_put item.now)) (state S.Store transaction.old.conn.now) (state S.Store transaction.new.conn.now) result }
+{
+    let _name = item.panel.as_str();
+    let _point = item.row.content.point.as_str();
+    let cells = cells_of(&item.row.state);
+    match commands::add(
+        transaction,
+        &item.panel,
+        item.number,
+        &item.row.content,
+        &cells,
+    ) {
+        Ok(_) => Ok(()),
+        Err(Error::SqliteFailure(ErrorCode::ConstraintViolation(Constraint::Unique))) =>
+            replace_row(transaction, item),
+        Err(error) => Err(error),
+    }
 }
 
 /// Drops the rows of a panel below a number: below 0 there is none, so that nothing is asked of the database.

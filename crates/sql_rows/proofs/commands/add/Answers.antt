@@ -3,6 +3,7 @@ use Rattle.std.specs.Int.{cast_signed as to_z, cast_unsigned as of_z}
 use Rattle.sqlite.specs.Held.{state}
 use Rattle.sql_rows.proofs.CellLemmas.{bound_cell}
 use Rattle.sql_rows.proofs.CommandLemmas.{adds}
+use Rattle.sql_rows.proofs.RunLemmas.{refused_inside}
 use Rattle.sql_rows.proofs.commands.add.Goals as goal
 
 pub returns-clause-done : goal.returns-clause-done
@@ -26,3 +27,7 @@ returns-clause-done g c clean inside =
       bound_cell c.args.cells.now.a,
       bound_cell c.args.cells.now.b,
     ) at (c.run.ensures.runs clean inside.in_transaction))
+
+pub returns-clause-refused : goal.returns-clause-refused
+returns-clause-refused g c clean inside is =
+    refused_inside _ _ (state g.S.Store c.args.transaction.now.conn.now) (state g.S.Store c.run.new.transaction.conn.now) c.run.result inside.in_transaction (c.run.ensures.runs clean inside.in_transaction) is
