@@ -2,3 +2,4 @@ pub mod CarryLemmas
 pub mod CommandLemmas
 pub mod DeliverLemmas
 pub mod PlannedLemmas
+pub mod ViewLemmas

@@ -1,6 +1,7 @@
 //! What is read of a panel.
-ghost use Rattle.std.specs.Prelude.{◌≡◌, ◌≤◌, None, IfOk, IfSome};
+ghost use Rattle.std.specs.Prelude.{◌≡◌, ◌+◌, ◌≤◌, None, IfOk, IfSome};
 ghost use Rattle.std.specs.Result.{result_err};
+ghost use Rattle.points.specs.Run.{IsRun, Rows};
 ghost use Rattle.store.specs.Standing.{IsOpen, Reads};
 ghost use Rattle.window.specs.RunNeeded.{run_behind, run_over};
 ghost use Rattle.window.specs.View.{IsRunNeeded};
@@ -8,7 +9,7 @@ ghost use Rattle.window.specs.declared.TheConstants.{LAST_NUMBER};
 ghost use Rattle.window.specs.declared.run_needed.RunNeeded.{RunNeeded as a_run};
 ghost use Rattle.panel_commands.specs.Views.{Views};
 
-use points::{Listing, Name, NumberedRow};
+use points::{CommandRow, Listing, Name, NumberedRow};
 use std::alloc::Global;
 use store::{Store, StoreFault};
 use window::{PanelView, RunNeeded, run_for_command, run_for_skip};
@@ -31,6 +32,23 @@ fn rows_needed<S: Store>(
     }
 }
 
+// The row that stands at a number, and those behind it, of the rows from that number on.
+fn asked_and_behind(
+    mut rows: Vec<NumberedRow>,
+    number: u64,
+) -> (Option<CommandRow>, Vec<NumberedRow>)
+    ensures { (all : Rows) → IsRun all number (number + 1) rows.items
+        → (result.0 ≡ all number) × IsRun all (number + 1) (number + 1) result.1.items }
+{
+    match rows.first() {
+        Some(found) if found.number == number => {
+            let first = rows.remove(0);
+            (Some(first.row), rows)
+        }
+        _ => (None, rows),
+    }
+}
+
 /// What is kept of a panel, as far as its command at `number` needs it. `next` is its next number.
 pub fn view_for_command<S: Store>(
     alloc: Global,
@@ -45,9 +63,22 @@ pub fn view_for_command<S: Store>(
         Views ((S.standing store.old).content.tables.row panel.now) next
         ((S.standing store.old).content.tables.row panel.now number) (run_behind next number) view) }
 {
-    let asked = store.command(panel, number)?;
-    let run = rows_needed(alloc, store, panel, run_for_command(next, number))?;
-    Ok(PanelView { next, asked, run })
+    let Some(needed) = run_for_command(next, number) else {
+        let asked = store.command(panel, number)?;
+        return Ok(PanelView {
+            next,
+            asked,
+            run: Listing::from_vec(Vec::new(alloc)),
+        });
+    };
+    // One read tells both: the row at the number, and the run behind it.
+    let rows = store.commands_run(panel, number, needed.upto)?;
+    let (asked, behind) = asked_and_behind(rows, number);
+    Ok(PanelView {
+        next,
+        asked,
+        run: Listing::from_vec(behind),
+    })
 }
 
 /// What is kept of a panel, as far as its skip to `upto` needs it. `next` is its next number.
