@@ -87,9 +87,9 @@ adds_alone panel number rest old new it =
     let none : (row : Row) → Has rows row → true ≡ not (of_command panel number row) =
     λ row h. elim (cases_Bool (of_command panel number row)) [
       | inl same ↦
-      let still : Has (new.now.trees command_tree) row = subst (λ l. Has l row) (sym more.is) (has_more more.before more.after added row (subst (λ l. Has l row) more.was h)) in
-      let taken = tied_taken added rows row h (one_command new.now it.ours panel number row added still there same its_own) in
-      absurd (true≢false (sym taken ∙ gains.free))
+          let still : Has (new.now.trees command_tree) row = subst (λ l. Has l row) (sym more.is) (has_more more.before more.after added row (subst (λ l. Has l row) more.was h)) in
+          let taken = tied_taken added rows row h (one_command new.now it.ours panel number row added still there same its_own) in
+          absurd (true≢false (sym taken ∙ gains.free))
       | inr other ↦ ap not (sym other)
     ] in
     record { seen = it.seen; ours = it.ours; change = record { others = it.change.others; rows = (filter_all rows ∙ filter_same (λ r. true) (λ r. not (of_command panel number r)) rows none, gains) } }

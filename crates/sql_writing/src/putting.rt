@@ -30,10 +30,7 @@ pub fn put_next<S: Alter>(
 }
 
 // Puts the row of a command in place of the one that stands there.
-fn replace_row<S: Alter>(
-    transaction: &mut Transaction<'_, S>,
-    item: &KeptRow,
-) -> Result<(), Error>
+fn replace_row<S: Alter>(transaction: &mut Transaction<'_, S>, item: &KeptRow) -> Result<(), Error>
     requires { IsKeptRow item.now }
     ensures same_reference { transaction.new.conn.ghost_name ≡ transaction.old.conn.ghost_name }
     ensures steps { Steps (Turns (row_put item.now)) (state S.Store transaction.old.conn.now) (state S.Store transaction.new.conn.now) result }
