@@ -5,23 +5,27 @@ ghost use Rattle.std.specs.Str.{bytes_eq};
 ghost use Rattle.points.specs.Names.{is_among};
 
 use crate::name::Name;
-use indexmap::IndexSet;
 use std::alloc::{AllocError, Global};
+use std::collections::HashMap;
 use std::marker::Model;
 
 /// Names, each once, in the order in which they came. One is found by an index, in about the same time
 /// whatever their number. Contracts see the list.
 #[derive(Debug, Drop)]
 pub struct Names {
-    names: IndexSet<Name>,
+    names: Vec<Name>,
+    places: HashMap<Name, usize>,
 }
 
 impl Model for Names {
     ghost use Rattle.std.specs.Prelude.{List, ℕ};
+    ghost use Rattle.points.specs.Names.{IsIndex};
 
     ghost Value = { List (List ℕ) };
 
-    ghost view = { λ names. names.names.keys };
+    ghost view = { λ names. names.names.items };
+
+    ghost invariant = { λ names. IsIndex names.places names.names.items };
 }
 
 impl Names {
@@ -30,34 +34,39 @@ impl Names {
         ensures { result ≡ [] }
     {
         Names {
-            names: IndexSet::new(alloc),
+            names: Vec::new(alloc),
+            places: HashMap::new(alloc),
         }
     }
 
     /// Puts a name last, unless it is there already, and tells whether it was put there.
-    #[tactic(auto, using(crate::proofs::NamesLemmas::among_turned))]
     pub fn insert(&mut self, name: Name) -> Result<bool, AllocError>
         ensures new { IfOk result (λ new. new ≡ not (is_among name self.old)) }
         ensures names { IfOk result (λ new. self.new ≡ (if new then self.old ++ name ∷ [] else self.old)) }
         ensures unchanged { OnErr result (self.new ≡ self.old) }
     {
-        Ok(self.names.insert(name)?)
+        if self.contains(&name) {
+            return Ok(false);
+        }
+        let place = self.as_slice().len();
+        self.names.reserve(1)?;
+        self.places.insert(name, place)?;
+        self.names.push(name)?;
+        Ok(true)
     }
 
     /// Whether the name is one of them.
-    #[tactic(auto, using(crate::proofs::NamesLemmas::among_turned))]
     pub fn contains(&self, name: &Name) -> bool
         ensures { result ≡ is_among name.now self.now }
     {
-        self.names.contains(name)
+        self.position(name).is_some()
     }
 
     /// The place of the name, from 0.
-    #[tactic(auto, using(crate::proofs::NamesLemmas::position_turned))]
     pub fn position(&self, name: &Name) -> Option<usize>
         ensures { result ≡ position (λ n. bytes_eq n name.now) self.now }
     {
-        self.names.get_index_of(name)
+        self.places.get(name).copied()
     }
 
     /// The names as a slice.
