@@ -2,3 +2,12 @@ pub mod EarlyLemmas
 pub mod OpenLemmas
 pub mod RaiseLemmas
 pub mod VersionLemmas
+pub mod AnswerLemmas
+pub mod AskLemmas
+pub mod CellLemmas
+pub mod DeskLemmas
+pub mod EmptyLemmas
+pub mod OwnLemmas
+pub mod Questions
+pub mod TableLemmas
+pub mod Texts

@@ -1,1 +1,4 @@
 pub mod Opening
+pub mod Asking
+pub mod Fitting
+pub mod Own

@@ -15,7 +15,7 @@ use Rattle.stored_rows.specs.declared.read_fault.ReadFault.TheVariants as read
 use Rattle.sql_schema.specs.Schema.{desk_schema, desk_tree, schema_0}
 use Rattle.sql_rows.specs.Ours.{AreOurs, IsOurs, Makes, content_of, kept_in}
 use Rattle.sql_writing.specs.Steps.{Turns}
-use Rattle.sql_checks.specs.Fitting.{IsFitting}
+use Rattle.sql_opening.specs.Fitting.{IsFitting}
 use Rattle.sql_opening.specs.declared.open_fault.OpenFault.{OpenFault}
 use Rattle.sql_opening.specs.declared.open_fault.OpenFault.TheVariants.{BadRow, NotOurs, Sql}
 

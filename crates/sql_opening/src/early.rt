@@ -11,8 +11,7 @@ ghost use Rattle.stored_rows.specs.declared.read_fault.ReadFault.TheVariants.{Ba
 ghost use Rattle.sql_opening.specs.Opening.{DropsEarly, early_rows};
 
 use points::Name;
-use sql_listing::names_of;
-use sql_reading::next_of;
+use sql_reading::{names_of, next_of};
 use sqlite::{Alter, Connection, Error, ErrorCode};
 use std::alloc::Global;
 use store::{Change, RowsBelow};

@@ -8,9 +8,9 @@ ghost use Rattle.sql_opening.specs.Opening.{IsFaultOf, IsFirst, IsFound, IsJudge
 
 use crate::early::dropping;
 use crate::open_fault::OpenFault;
+use crate::own_rows::are_own;
 use crate::raising::commit_raised;
 use crate::version::version_of;
-use sql_checks::are_own;
 use sql_create::{VERSION, has_desk_schema};
 use sqlite::{Alter, Connection, Error};
 use std::alloc::Global;

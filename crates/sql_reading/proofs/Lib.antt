@@ -2,3 +2,9 @@ pub mod FoundLemmas
 pub mod PlacingLemmas
 pub mod ReadLemmas
 pub mod ToldLemmas
+pub mod StepLemmas
+pub mod NumberLemmas
+pub mod TextLemmas
+pub mod EntryLemmas
+pub mod NameLemmas
+pub mod PlaceLemmas

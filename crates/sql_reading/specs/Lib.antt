@@ -1,2 +1,5 @@
 pub mod Asking
 pub mod Placing
+pub mod Stepping
+pub mod Texts
+pub mod Naming

@@ -1,11 +1,21 @@
-//! What do the tables in a database hold?
+//! What do the tables in a database hold, and what do they list?
 //!
-//! Each function reads one of the six tables and answers what they hold, or that a row cannot stand.
+//! Each function of `finding` and `placing` reads one of the six tables and answers what they hold, or that a row
+//! cannot stand. The others list: a panel's run of rows, the entries of a calendar, and the names, each read one row
+//! after the other, by rising number or name.
 #![tactic(auto)]
 
+pub use entries::entries_of;
 pub use finding::{command_under, last_tick, next_of, shown_by, value_at};
+pub use names::names_of;
 pub use placing::array_of;
+pub use rows::{command_of, commands_run};
 
+mod entries;
 mod finding;
+mod memory;
+mod names;
+mod next_names;
 mod only;
 mod placing;
+mod rows;

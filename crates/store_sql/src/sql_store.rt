@@ -14,9 +14,10 @@ use crate::open_fault::OpenFault;
 use crate::session::Session;
 use dates::Entry;
 use points::{CommandRow, Name, NumberedRow, PriorityArray};
-use sql_listing::{command_of, commands_run, entries_of, names_of};
 use sql_opening::{is_bare, make, take};
-use sql_reading::{array_of, last_tick, next_of, shown_by};
+use sql_reading::{
+    array_of, command_of, commands_run, entries_of, last_tick, names_of, next_of, shown_by,
+};
 use sql_writing::commit_change;
 use sqlite::{Alter, Connection};
 use std::alloc::Global;

@@ -1,9 +1,0 @@
-pub mod AnswerLemmas
-pub mod AskLemmas
-pub mod CellLemmas
-pub mod DeskLemmas
-pub mod EmptyLemmas
-pub mod OwnLemmas
-pub mod Questions
-pub mod TableLemmas
-pub mod Texts

@@ -1,3 +1,0 @@
-pub mod Stepping
-pub mod Texts
-pub mod Naming

@@ -1,0 +1,92 @@
+//! A calendar's entries, in the byte order of their texts.
+ghost use Rattle.std.specs.Prelude.{◌≡◌, ◌&&◌, false, Err, IfErr, IfOk, IsTrue, Some, string_bytes};
+ghost use Rattle.std.specs.Result.{result_err};
+ghost use Rattle.sqlite.specs.Held.{state};
+ghost use Rattle.sqlite.specs.State.{HasCleanDisk, Survives};
+ghost use Rattle.sqlite_value.specs.Order.{column};
+ghost use Rattle.sql_rows.specs.Looking.{FindsLeast, is_after};
+ghost use Rattle.sql_rows.specs.Ours.{IsOurs, kept_in};
+ghost use Rattle.sql_reading.specs.Asking.{Asks, is_sql};
+ghost use Rattle.dates.specs.Entry.{spelling};
+ghost use Rattle.store.specs.Listed.{AreEntries};
+ghost use Rattle.stored_rows.specs.Cells.{is_text};
+ghost use Rattle.stored_rows.specs.declared.read_fault.ReadFault.TheVariants.{BadRow};
+ghost use Rattle.stored_rows.specs.Stored.{Kept, is_sound_in, tables_in};
+ghost use Rattle.sql_reading.specs.Texts.{IsNextEntry};
+
+use crate::memory::{no_memory, push};
+use dates::Entry;
+use points::Name;
+use sql_rows::calendars;
+use sqlite::{Alter, Connection, Row};
+use std::alloc::Global;
+use stored_rows::{ReadFault, entry_at};
+
+// What the answer of the query on the least entry tells.
+fn told_entry(calendar: &Name, after: &str, rows: Vec<Row>) -> Result<Option<Entry>, ReadFault>
+    ensures value { (kept : Kept) → FindsLeast (λ row. is_text calendar.now (column row 1) && is_after after.now (column row 2)) 2 kept.imported rows.items → IfOk result (IsNextEntry (tables_in kept) calendar.now after.now) }
+    ensures bad { (kept : Kept) → FindsLeast (λ row. is_text calendar.now (column row 1) && is_after after.now (column row 2)) 2 kept.imported rows.items → IfErr result (λ _. is_sound_in kept ≡ false) }
+    ensures fault { IfErr result (λ fault. fault ≡ BadRow) }
+{
+    // What is asked for is a name, as a row's own has to be.
+    let _name = calendar.as_str();
+    match rows.first() {
+        None => Ok(None),
+        Some(row) => Ok(Some(entry_at(row, 0)?)),
+    }
+}
+
+/// The entry of a calendar whose text is the next after another, if there is one.
+#[tactic(auto, using(crate::proofs::StepLemmas::sees_same))]
+pub fn next_entry<S: Alter>(
+    connection: &mut Connection<S>,
+    calendar: &Name,
+    after: &str,
+) -> Result<Option<Entry>, ReadFault>
+    ensures mode { connection.old.in_transaction ≡ false → connection.new.in_transaction ≡ false }
+    ensures asks { HasCleanDisk (state S.Store connection.new) → IsOurs (state S.Store connection.old).now → Asks (result_err result) (state S.Store connection.old) (state S.Store connection.new) }
+    ensures value { HasCleanDisk (state S.Store connection.new) → IsOurs (state S.Store connection.old).now → IfOk result (IsNextEntry (tables_in (kept_in (state S.Store connection.old).now.trees)) calendar.now after.now) }
+    ensures bad { HasCleanDisk (state S.Store connection.new) → IsOurs (state S.Store connection.old).now → result ≡ Err BadRow → is_sound_in (kept_in (state S.Store connection.old).now.trees) ≡ false }
+    ensures survives { Survives (state S.Store connection.old) (state S.Store connection.new) (λ _. IsOurs (state S.Store connection.old).now → ⊥) }
+{
+    let rows = calendars::next_entry(connection, calendar, after)?;
+    told_entry(calendar, after, rows)
+}
+
+// The text of an entry.
+fn text_of(alloc: Global, entry: &Entry) -> Result<String, ReadFault>
+    ensures value { IfOk result (λ text. string_bytes text ≡ spelling entry.now) }
+    ensures fault { IfErr result (λ fault. IsTrue (is_sql (Some fault))) }
+{
+    match entry.write(alloc) {
+        Ok(text) => Ok(text),
+        Err(_) => Err(no_memory()),
+    }
+}
+
+/// The entries that are imported into a calendar, in the byte order of their texts.
+pub fn entries_of<S: Alter>(
+    alloc: Global,
+    connection: &mut Connection<S>,
+    calendar: &Name,
+) -> Result<Vec<Entry>, ReadFault>
+    ensures mode { connection.old.in_transaction ≡ false → connection.new.in_transaction ≡ false }
+    ensures asks { HasCleanDisk (state S.Store connection.new) → IsOurs (state S.Store connection.old).now → Asks (result_err result) (state S.Store connection.old) (state S.Store connection.new) }
+    ensures value { HasCleanDisk (state S.Store connection.new) → IsOurs (state S.Store connection.old).now → IfOk result (λ it. AreEntries (tables_in (kept_in (state S.Store connection.old).now.trees)) calendar.now it.items) }
+    ensures bad { HasCleanDisk (state S.Store connection.new) → IsOurs (state S.Store connection.old).now → result ≡ Err BadRow → is_sound_in (kept_in (state S.Store connection.old).now.trees) ≡ false }
+    ensures survives { Survives (state S.Store connection.old) (state S.Store connection.new) (λ _. IsOurs (state S.Store connection.old).now → ⊥) }
+{
+    let mut entries = Vec::new(alloc);
+    let mut after = String::new(alloc);
+    for _ in 0..u64::MAX {
+        match next_entry(connection, calendar, &after)? {
+            Some(entry) => {
+                after = text_of(alloc, &entry)?;
+                push(&mut entries, entry)?;
+            }
+            None => return Ok(entries),
+        }
+    }
+    // So many entries have no room in memory.
+    Err(no_memory())
+}
