@@ -18,7 +18,7 @@ import time
 ROOT = pathlib.Path(__file__).resolve().parent.parent
 FOLDER = ROOT / "build" / "bench"
 COPY = FOLDER / "database"
-LINE = "database_bench: answered_lines building desk desk_console desk_database json store\n"
+LINE = "database_bench: building desk desk_cli desk_console desk_database json store\n"
 PANELS, POINTS = 20, 40
 COMMANDS, COUNTED = 10_000, 2_000
 RUNS = 5

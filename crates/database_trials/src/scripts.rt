@@ -1,6 +1,6 @@
 //! Lines that are delivered to a desk over a store, and what is told of it as text.
 use crate::contents::push_content;
-use answered_lines::answer_line;
+use desk_cli::answer_line;
 use building::Building;
 use delivery_lines::LineFault;
 use desk::{Desk, PointState};

@@ -11,7 +11,7 @@ use Rattle.deliveries.specs.declared.delivery.Delivery.{Delivery}
 use Rattle.deliveries.specs.Reply.{reply}
 use Rattle.deliveries.specs.Tables.{tables}
 use Rattle.store.specs.Standing.{Content, Standing, sound}
-use Rattle.answered_lines.specs.LineAnswer.{AnswersLine}
+use Rattle.desk_cli.specs.LineAnswer.{AnswersLine}
 use Rattle.delivery_lines.specs.declared.told.Told.{Told}
 use Rattle.delivery_lines.specs.declared.told.Told.TheVariants as of
 use Rattle.delivery_lines.specs.DeliveryLine.{told_of}

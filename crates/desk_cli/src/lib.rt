@@ -1,10 +1,15 @@
-//! What does a replay of deliveries print, and how does it end?
+//! What do the runs that use no database print, and how do they end?
 //!
-//! `replay` reads the building of a file, runs the deliveries of a list over it in memory, and prints what each
-//! line is answered (`answered_lines`) and then the line of each point (`point_lines`). What it shares with the other
-//! subcommands, faults and statuses among it, is `desk_console`'s.
+//! `check` reads the building of a file and prints what it has as one line. `replay` reads it, runs the deliveries of a
+//! list over it in memory, and prints what each line is answered (`answer_line`) and then the line of each point
+//! (`point_lines`). `answer_line` delivers to a desk what a line tells (`delivery_lines`), and gives the text of the
+//! reply. What they share with the other subcommands, faults and statuses among it, is `desk_console`'s.
 #![tactic(auto)]
 
+pub use check_run::check;
+pub use line_answer::answer_line;
 pub use replay_run::replay;
 
+mod check_run;
+mod line_answer;
 mod replay_run;

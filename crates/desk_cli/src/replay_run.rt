@@ -15,7 +15,7 @@ ghost use Rattle.desk_console.specs.Printed.{AppendsStart};
 ghost use Rattle.desk_cli.specs.Replay.{Opens, Prints, PrintsNoMore, PrintsStart, Replays};
 ghost use Rattle.desk_cli.specs.Replay.{is_empty_line, lines_of, point_lines, state_line};
 
-use answered_lines::answer_line;
+use crate::line_answer::answer_line;
 use delivery_lines::LineFault;
 use desk::Desk;
 use desk_console::{Input, Listed, RunFault, Status, flush, print_text, read_building};

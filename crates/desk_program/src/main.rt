@@ -2,8 +2,7 @@
 #![tactic(auto)]
 
 use command_line::{ArgFault, Line};
-use desk_check::check;
-use desk_cli::replay;
+use desk_cli::{check, replay};
 use desk_console::{Input, Listed, Status};
 use desk_database::{Asked, Serving};
 use std::env;

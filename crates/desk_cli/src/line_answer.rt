@@ -6,7 +6,7 @@ ghost use Rattle.deliveries.specs.Delivered.{Holds};
 ghost use Rattle.delivery_lines.specs.declared.line_fault.LineFault.{LineFault as a_fault};
 ghost use Rattle.delivery_lines.specs.DeliveryLine.{told_of};
 ghost use Rattle.delivery_lines.specs.ReplyText.{refusal_line};
-ghost use Rattle.answered_lines.specs.LineAnswer.{AnswersDelivery, AnswersLine};
+ghost use Rattle.desk_cli.specs.LineAnswer.{AnswersDelivery, AnswersLine};
 ghost use Rattle.store.specs.declared.fault.StoreFault.TheVariants.{NoMemory};
 
 use deliveries::Delivery;

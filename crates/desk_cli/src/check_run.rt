@@ -6,7 +6,7 @@ ghost use Rattle.building.specs.Building.{contents_of};
 ghost use Rattle.building.specs.BuildingFile.{building_of};
 ghost use Rattle.building_fault.specs.Steps.{result_map};
 ghost use Rattle.desk_console.specs.Input.{bytes_of};
-ghost use Rattle.desk_check.specs.Check.{Checks, counts_line, ok_line};
+ghost use Rattle.desk_cli.specs.Check.{Checks, counts_line, ok_line};
 
 use building::Building;
 use desk_console::{Input, RunFault, Status, flush, print_text, read_building};
