@@ -30,7 +30,7 @@ bench: build/desk
 	@python3 scripts/bench.py
 	@python3 scripts/bench_database.py
 	@python3 scripts/bench_server.py
-	@cd crates/sched_bench && rt run -- measure 2> /dev/null
+	@python3 scripts/bench_schedules.py
 
 install: build/desk
 	install -D -m 755 build/desk $(DESTDIR)$(PREFIX)/bin/desk

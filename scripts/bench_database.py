@@ -1,10 +1,9 @@
 """Measures the desk over a file: commands in order, delivered one by one to the tables in a database.
 
-The program that does it, `scripts/database_bench`, is no part of the desk, and what it costs to prove would be paid at
-each gate. So it is proved here, in a copy of the repository below `build/bench`: some minutes the first time, seconds
-after that. Beside it stands the same work done by `scripts/plain_desk.cpp` over the C library of SQLite, where a
-compiler and that library are installed. The two take turns, and the fastest run of each is told. Where `strace` is
-installed the waits for the disk are counted, and where `valgrind` is the instructions.
+The program that does it, `scripts/database_bench`, is proved apart (`proved_apart`). Beside it stands the same work
+done by `scripts/plain_desk.cpp` over the C library of SQLite, where a compiler and that library are installed. The two
+take turns, and the fastest run of each is told. Where `strace` is installed the waits for the disk are counted, and
+where `valgrind` is the instructions.
 """
 import os
 import pathlib
@@ -15,10 +14,11 @@ import subprocess
 import sys
 import time
 
+import proved_apart
+
 ROOT = pathlib.Path(__file__).resolve().parent.parent
 FOLDER = ROOT / "build" / "bench"
-COPY = FOLDER / "database"
-LINE = "database_bench: building desk desk_cli desk_console desk_database json store\n"
+LIBRARIES = "building desk desk_cli desk_console desk_database json store"
 PANELS, POINTS = 20, 40
 COMMANDS, COUNTED = 10_000, 2_000
 RUNS = 5
@@ -44,22 +44,6 @@ def write_commands(path, count):
                 f'{{"number":{number},"panel":"PANEL-{panel + 1}","point":"ROOM-{point + 1}",'
                 f'"priority":8,"value":{500 + index * 7 % 3001}}}\n'
             )
-
-
-def built_desk():
-    """The measuring program, proved and built in the copy."""
-    shutil.copytree(ROOT / "crates", COPY / "crates", dirs_exist_ok=True)
-    shutil.copy(ROOT / "HANDLES", COPY / "HANDLES")
-    (COPY / "crates.txt").write_text((ROOT / "crates.txt").read_text() + LINE)
-    crate = COPY / "crates" / "database_bench"
-    (crate / "src").mkdir(parents=True, exist_ok=True)
-    shutil.copy(ROOT / "scripts" / "database_bench" / "main.rattle", crate / "src" / "main.rt")
-    program = crate / "out" / "database_bench"
-    # without words it does nothing, and ends with status 1
-    subprocess.run(["rt", "run"], cwd=crate, capture_output=True)
-    if not program.exists():
-        sys.exit("the measuring program was not built: run `rt check` in build/bench/database/crates/database_bench")
-    return program
 
 
 def built_plain():
@@ -136,7 +120,7 @@ def main():
     write_building(FOLDER / "database.toml")
     for count in (0, COUNTED, COMMANDS):
         write_commands(FOLDER / f"database-{count}.jsonl", count)
-    desk, plain = built_desk(), built_plain()
+    desk, plain = proved_apart.built("database_bench", LIBRARIES), built_plain()
     programs = [program for program in (desk, plain) if program]
     runs = {program: [] for program in programs}
     for _ in range(RUNS):
