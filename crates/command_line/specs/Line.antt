@@ -24,33 +24,33 @@ number_rule id = record (needed_rule id) {
   parser = Some (vp.Signed (negsuc 9223372036854775807) (pos 9223372036854775807));
 }
 
+-- a subcommand that takes FILE
+abbrev pub file_app : Text → App
+file_app name = with_rule (new_app name) (needed_rule (codes "file"))
+
+-- a subcommand that takes FILE, DB and one argument more
+abbrev pub database_app : Text → Rule → App
+database_app name last = with_rule (with_rule (file_app name) (needed_rule (codes "database"))) last
+
 -- `check FILE`
 abbrev pub check_app : App
-check_app = with_rule (new_app (codes "check")) (needed_rule (codes "file"))
+check_app = file_app (codes "check")
 
 -- `replay FILE DELIVERIES`
 abbrev pub replay_app : App
-replay_app =
-    with_rule (with_rule (new_app (codes "replay")) (needed_rule (codes "file")))
-    (needed_rule (codes "deliveries"))
+replay_app = with_rule (file_app (codes "replay")) (needed_rule (codes "deliveries"))
 
 -- `import FILE DB CSV`
 abbrev pub import_app : App
-import_app =
-    with_rule (with_rule (with_rule (new_app (codes "import")) (needed_rule (codes "file")))
-    (needed_rule (codes "database"))) (needed_rule (codes "holidays"))
+import_app = database_app (codes "import") (needed_rule (codes "holidays"))
 
 -- `tick FILE DB AT`
 abbrev pub tick_app : App
-tick_app =
-    with_rule (with_rule (with_rule (new_app (codes "tick")) (needed_rule (codes "file")))
-    (needed_rule (codes "database"))) (number_rule (codes "at"))
+tick_app = database_app (codes "tick") (number_rule (codes "at"))
 
 -- `report FILE DB DATE`
 abbrev pub report_app : App
-report_app =
-    with_rule (with_rule (with_rule (new_app (codes "report")) (needed_rule (codes "file")))
-    (needed_rule (codes "database"))) (needed_rule (codes "date"))
+report_app = database_app (codes "report") (needed_rule (codes "date"))
 
 -- an option with a number from 1 to 1,000,000, and a flag
 abbrev pub requests_rule : Rule
@@ -59,15 +59,10 @@ requests_rule = record (needed_rule (codes "requests")) { long = Some (codes "re
 abbrev pub clock_rule : Rule
 clock_rule = record (new_rule (codes "clock")) { long = Some (codes "clock"); action = Some SetTrue }
 
--- `serve FILE DB ADDRESS`
-abbrev pub served_app : App
-served_app =
-    with_rule (with_rule (with_rule (new_app (codes "serve")) (needed_rule (codes "file")))
-    (needed_rule (codes "database"))) (needed_rule (codes "address"))
-
 -- `serve FILE DB ADDRESS --requests N [--clock]`
 abbrev pub serve_app : App
-serve_app = with_rule (with_rule served_app requests_rule) clock_rule
+serve_app = with_rule (with_rule
+    (database_app (codes "serve") (needed_rule (codes "address"))) requests_rule) clock_rule
 
 -- `desk`, which needs a subcommand, with those that use no database
 abbrev pub memory_app : App

@@ -4,7 +4,7 @@ use std::alloc::AllocError;
 use std::fmt;
 
 /// Why the words ask nothing.
-#[derive(Debug, Drop)]
+#[derive(Drop)]
 pub enum ArgFault {
     /// The words are refused, or they ask for help. Its text is `clap`'s.
     Words(clap::Error),

@@ -1,6 +1,6 @@
 //! What the words of a command line ask.
 
-ghost use Rattle.std.specs.Prelude.{◌≡◌, [], IfErr, IfOk, codes, false, map, option_and_then};
+ghost use Rattle.std.specs.Prelude.{◌≡◌, [], IfErr, IfOk, false, map, option_and_then};
 ghost use Rattle.std.specs.Prelude.{option_map, string_bytes};
 ghost use Rattle.clap.specs.Words.{HasKind, Kinds, app_of, fault_of, first_of, found_of};
 ghost use Rattle.clap.specs.Words.{rows_of, rule_of, subcommand_rows_of};
@@ -8,8 +8,8 @@ ghost use Rattle.clap.specs.declared.builder.command.Command.TheViews.{out-Comma
 ghost use Rattle.command_line.specs.ArgFault.{IsRefusedBy};
 ghost use Rattle.command_line.specs.Line.{asked, asked_in, asked_of, check_app, check_in, desk_app};
 ghost use Rattle.command_line.specs.Line.{import_app, import_in, memory_app, moment_in};
-ghost use Rattle.command_line.specs.Line.{clock_app, clock_rule, count_in, count_of, is_told, needed_rule, number_rule, requests_rule};
-ghost use Rattle.command_line.specs.Line.{serve_app, serve_in, served_app};
+ghost use Rattle.command_line.specs.Line.{clock_app, clock_rule, count_in, count_of, database_app, file_app, is_told};
+ghost use Rattle.command_line.specs.Line.{needed_rule, requests_rule, serve_app, serve_in};
 ghost use Rattle.command_line.specs.Line.{replay_app, replay_in, report_app, report_in, tick_app, tick_in};
 
 use crate::ArgFault;
@@ -18,7 +18,7 @@ use clap::{Arg, ArgAction, ArgMatches, Command};
 use std::alloc::{AllocError, Global};
 
 /// What the words of a command line ask of the program.
-#[derive(Clone, Copy, Debug)]
+#[derive(Clone, Copy)]
 pub enum Line<'a> {
     /// `check FILE`: reads the building of the file, and tells what it has.
     Check {
@@ -127,9 +127,11 @@ fn check_command<'a>(alloc: Global) -> Result<Command<'a>, AllocError>
     ensures app { IfOk result (λ c. app_of c ≡ check_app) }
     ensures local { IfOk result (λ c. (fields_of c).has_globals ≡ false) }
 {
-    Command::new(alloc, "check")
-        .about("Reads a building, and tells what it has or its first fault")
-        .arg(file_argument(alloc))
+    file_command(
+        alloc,
+        "check",
+        "Reads a building, and tells what it has or its first fault",
+    )
 }
 
 /// The subcommand `replay FILE DELIVERIES`.
@@ -137,10 +139,10 @@ fn replay_command<'a>(alloc: Global) -> Result<Command<'a>, AllocError>
     ensures app { IfOk result (λ c. app_of c ≡ replay_app) }
     ensures local { IfOk result (λ c. (fields_of c).has_globals ≡ false) }
 {
-    Command::new(alloc, "replay")
-        .about("Runs deliveries in memory, and prints each reply and then each point")
-        .arg(file_argument(alloc))?
-        .arg(deliveries_argument(alloc))
+    let about = "Runs deliveries in memory, and prints each reply and then each point";
+    let help = "The deliveries, one JSON object a line";
+    file_command(alloc, "replay", about)?
+        .arg(needed(alloc, "deliveries", "DELIVERIES", help))
 }
 
 /// The subcommand `import FILE DB CSV`.
@@ -148,11 +150,9 @@ fn import_command<'a>(alloc: Global) -> Result<Command<'a>, AllocError>
     ensures app { IfOk result (λ c. app_of c ≡ import_app) }
     ensures local { IfOk result (λ c. (fields_of c).has_globals ≡ false) }
 {
-    Command::new(alloc, "import")
-        .about("Adds a list of holidays to the calendars of a database, and prints the reply")
-        .arg(file_argument(alloc))?
-        .arg(database_argument(alloc))?
-        .arg(holidays_argument(alloc))
+    let about = "Adds a list of holidays to the calendars of a database, and prints the reply";
+    let help = "The holidays, as CSV with the header calendar,entry";
+    database_command(alloc, "import", about, needed(alloc, "holidays", "CSV", help))
 }
 
 /// The subcommand `tick FILE DB AT`.
@@ -160,11 +160,10 @@ fn tick_command<'a>(alloc: Global) -> Result<Command<'a>, AllocError>
     ensures app { IfOk result (λ c. app_of c ≡ tick_app) }
     ensures local { IfOk result (λ c. (fields_of c).has_globals ≡ false) }
 {
-    Command::new(alloc, "tick")
-        .about("Settles the schedules in a database at a moment, and prints the reply")
-        .arg(file_argument(alloc))?
-        .arg(database_argument(alloc))?
-        .arg(moment_argument(alloc))
+    let about = "Settles the schedules in a database at a moment, and prints the reply";
+    let help = "The moment, in hundredths of a second since 1970-01-01T00:00:00Z";
+    let at = needed(alloc, "at", "AT", help).value_parser(clap::value_parser!(i64));
+    database_command(alloc, "tick", about, at)
 }
 
 /// The subcommand `report FILE DB DATE`.
@@ -172,11 +171,9 @@ fn report_command<'a>(alloc: Global) -> Result<Command<'a>, AllocError>
     ensures app { IfOk result (λ c. app_of c ≡ report_app) }
     ensures local { IfOk result (λ c. (fields_of c).has_globals ≡ false) }
 {
-    Command::new(alloc, "report")
-        .about("Prints when each schedule has which value on a day, and how each point is now")
-        .arg(file_argument(alloc))?
-        .arg(database_argument(alloc))?
-        .arg(date_argument(alloc))
+    let about = "Prints when each schedule has which value on a day, and how each point is now";
+    let help = "The day, as YYYY-MM-DD";
+    database_command(alloc, "report", about, needed(alloc, "date", "DATE", help))
 }
 
 /// The subcommand `serve FILE DB ADDRESS --requests N [--clock]`.
@@ -184,99 +181,50 @@ fn serve_command<'a>(alloc: Global) -> Result<Command<'a>, AllocError>
     ensures app { IfOk result (λ c. app_of c ≡ serve_app) }
     ensures local { IfOk result (λ c. (fields_of c).has_globals ≡ false) }
 {
-    served_command(alloc)?
+    let about = "Answers the requests of wall panels and of who asks, over HTTP";
+    let help = "The address to listen on, with its port, as 127.0.0.1:8080";
+    let address = needed(alloc, "address", "ADDRESS", help);
+    database_command(alloc, "serve", about, address)?
         .arg(requests_argument(alloc))?
         .arg(clock_argument(alloc))
 }
 
-/// The subcommand `serve` with what it takes by its place.
-fn served_command<'a>(alloc: Global) -> Result<Command<'a>, AllocError>
-    ensures app { IfOk result (λ c. app_of c ≡ served_app) }
+/// A subcommand that takes FILE, DB and one argument more.
+fn database_command<'a>(
+    alloc: Global,
+    name: &'a str,
+    about: &'a str,
+    last: Arg<'a>,
+) -> Result<Command<'a>, AllocError>
+    requires { last.global ≡ false }
+    ensures app { IfOk result (λ c. app_of c ≡ database_app name.now (rule_of last.entry)) }
     ensures local { IfOk result (λ c. (fields_of c).has_globals ≡ false) }
 {
-    Command::new(alloc, "serve")
-        .about("Answers the requests of wall panels and of who asks, over HTTP")
-        .arg(file_argument(alloc))?
-        .arg(database_argument(alloc))?
-        .arg(address_argument(alloc))
+    let help = "The database of the desk, which is made where there is none";
+    file_command(alloc, name, about)?
+        .arg(needed(alloc, "database", "DB", help))?
+        .arg(last)
 }
 
-/// The path of the building file.
-fn file_argument<'a>(alloc: Global) -> Arg<'a>
-    ensures rule { rule_of result ≡ needed_rule (codes "file") }
-    ensures local { result.global ≡ false }
+/// A subcommand that takes FILE.
+fn file_command<'a>(alloc: Global, name: &'a str, about: &'a str) -> Result<Command<'a>, AllocError>
+    ensures app { IfOk result (λ c. app_of c ≡ file_app name.now) }
+    ensures local { IfOk result (λ c. (fields_of c).has_globals ≡ false) }
 {
-    Arg::new(alloc, "file")
-        .required(true)
-        .value_name("FILE")
-        .help("The building, as TOML")
+    Command::new(alloc, name)
+        .about(about)
+        .arg(needed(alloc, "file", "FILE", "The building, as TOML"))
 }
 
-/// The path of the list of deliveries.
-fn deliveries_argument<'a>(alloc: Global) -> Arg<'a>
-    ensures rule { rule_of result ≡ needed_rule (codes "deliveries") }
+/// An argument that has to be there, by its place among the words.
+fn needed<'a>(alloc: Global, id: &'a str, value_name: &'a str, help: &'a str) -> Arg<'a>
+    ensures rule { rule_of result ≡ needed_rule id.now }
     ensures local { result.global ≡ false }
 {
-    Arg::new(alloc, "deliveries")
+    Arg::new(alloc, id)
         .required(true)
-        .value_name("DELIVERIES")
-        .help("The deliveries, one JSON object a line")
-}
-
-/// The path of the database.
-fn database_argument<'a>(alloc: Global) -> Arg<'a>
-    ensures rule { rule_of result ≡ needed_rule (codes "database") }
-    ensures local { result.global ≡ false }
-{
-    Arg::new(alloc, "database")
-        .required(true)
-        .value_name("DB")
-        .help("The database of the desk, which is made where there is none")
-}
-
-/// The path of the holiday list.
-fn holidays_argument<'a>(alloc: Global) -> Arg<'a>
-    ensures rule { rule_of result ≡ needed_rule (codes "holidays") }
-    ensures local { result.global ≡ false }
-{
-    Arg::new(alloc, "holidays")
-        .required(true)
-        .value_name("CSV")
-        .help("The holidays, as CSV with the header calendar,entry")
-}
-
-/// The moment of a tick.
-fn moment_argument<'a>(alloc: Global) -> Arg<'a>
-    ensures rule { rule_of result ≡ number_rule (codes "at") }
-    ensures local { result.global ≡ false }
-{
-    Arg::new(alloc, "at")
-        .required(true)
-        .value_name("AT")
-        .value_parser(clap::value_parser!(i64))
-        .help("The moment, in hundredths of a second since 1970-01-01T00:00:00Z")
-}
-
-/// The day of a report.
-fn date_argument<'a>(alloc: Global) -> Arg<'a>
-    ensures rule { rule_of result ≡ needed_rule (codes "date") }
-    ensures local { result.global ≡ false }
-{
-    Arg::new(alloc, "date")
-        .required(true)
-        .value_name("DATE")
-        .help("The day, as YYYY-MM-DD")
-}
-
-/// The address to listen on.
-fn address_argument<'a>(alloc: Global) -> Arg<'a>
-    ensures rule { rule_of result ≡ needed_rule (codes "address") }
-    ensures local { result.global ≡ false }
-{
-    Arg::new(alloc, "address")
-        .required(true)
-        .value_name("ADDRESS")
-        .help("The address to listen on, with its port, as 127.0.0.1:8080")
+        .value_name(value_name)
+        .help(help)
 }
 
 /// The number of connections.
