@@ -5,7 +5,10 @@ use Rattle.std.specs.Str.{bytes_eq}
 use Rattle.std.specs.Str.Parse.{signed_digits_value, without_leading_sign}
 use Rattle.clap.specs.ValueTests.{fits_i64, is_numeral}
 use Rattle.clap.specs.declared.builder.action.ArgAction.TheVariants.{SetTrue}
-use Rattle.clap.specs.Words.{App, Row, Rule, Text, first_of, new_app, new_rule, subcommand_of}
+use Rattle.std.specs.Prelude.{◌≡◌, IfOk, Result}
+use Rattle.clap.specs.declared.builder.command.Command.{Command}
+use Rattle.clap.specs.declared.builder.command.Command.TheViews.{out-Command as fields_of}
+use Rattle.clap.specs.Words.{App, Row, Rule, Text, app_of, first_of, new_app, new_rule, subcommand_of}
 use Rattle.clap.specs.Words.{with_rule, with_subcommand}
 use Rattle.clap.specs.Simple.{on_top}
 use Rattle.clap.specs.declared.builder.value_parser.ValueParser.TheVariants as vp
@@ -64,18 +67,16 @@ abbrev pub serve_app : App
 serve_app = with_rule (with_rule
     (database_app (codes "serve") (needed_rule (codes "address"))) requests_rule) clock_rule
 
--- `desk`, which needs a subcommand, with those that use no database
-abbrev pub memory_app : App
-memory_app = with_subcommand (with_subcommand
-    (on_top (λ s. record s { subcommand_required = true }) (new_app (codes "desk"))) check_app.top) replay_app.top
-
--- the same with those that deliver to one
-abbrev pub clock_app : App
-clock_app = with_subcommand (with_subcommand memory_app import_app.top) tick_app.top
-
--- `desk`
+-- `desk`, which needs a subcommand
 abbrev pub desk_app : App
-desk_app = with_subcommand (with_subcommand clock_app report_app.top) serve_app.top
+desk_app =
+    with_subcommand (with_subcommand (with_subcommand (with_subcommand (with_subcommand (with_subcommand
+    (on_top (λ s. record s { subcommand_required = true }) (new_app (codes "desk"))) check_app.top)
+    replay_app.top) import_app.top) tick_app.top) report_app.top) serve_app.top
+
+-- what is made, if memory is had, is the command `app`, with no argument for its subcommands too
+abbrev pub Makes : {E : Type 0} → App → Result Command E → Type 0
+Makes app r = IfOk r (λ c. (app_of c ≡ app) × ((fields_of c).has_globals ≡ false))
 
 -- ---- what they ask
 

@@ -2,15 +2,14 @@
 
 ghost use Rattle.std.specs.Prelude.{◌≡◌, [], IfErr, IfOk, false, map, option_and_then};
 ghost use Rattle.std.specs.Prelude.{option_map, string_bytes};
-ghost use Rattle.clap.specs.Words.{HasKind, Kinds, app_of, fault_of, first_of, found_of};
-ghost use Rattle.clap.specs.Words.{rows_of, rule_of, subcommand_rows_of};
-ghost use Rattle.clap.specs.declared.builder.command.Command.TheViews.{out-Command as fields_of};
+ghost use Rattle.clap.specs.Words.{App, HasKind, Kinds, fault_of, first_of, found_of};
+ghost use Rattle.clap.specs.Words.{rows_of, rule_of, subcommand_rows_of, with_rule, with_subcommand};
 ghost use Rattle.command_line.specs.ArgFault.{IsRefusedBy};
-ghost use Rattle.command_line.specs.Line.{asked, asked_in, asked_of, check_app, check_in, desk_app};
-ghost use Rattle.command_line.specs.Line.{import_app, import_in, memory_app, moment_in};
-ghost use Rattle.command_line.specs.Line.{clock_app, clock_rule, count_in, count_of, database_app, file_app, is_told};
-ghost use Rattle.command_line.specs.Line.{needed_rule, requests_rule, serve_app, serve_in};
-ghost use Rattle.command_line.specs.Line.{replay_app, replay_in, report_app, report_in, tick_app, tick_in};
+ghost use Rattle.command_line.specs.Line.{Makes, asked, asked_in, asked_of, check_app, check_in};
+ghost use Rattle.command_line.specs.Line.{clock_rule, count_in, count_of, database_app, desk_app};
+ghost use Rattle.command_line.specs.Line.{file_app, import_app, import_in, is_told, moment_in};
+ghost use Rattle.command_line.specs.Line.{needed_rule, replay_app, replay_in, report_app, report_in};
+ghost use Rattle.command_line.specs.Line.{requests_rule, serve_app, serve_in, tick_app, tick_in};
 
 use crate::ArgFault;
 use clap::error::ErrorKind;
@@ -95,37 +94,22 @@ impl<'a> Line<'a> {
 
 /// The command `desk` with its subcommands.
 fn desk_command<'a>(alloc: Global) -> Result<Command<'a>, AllocError>
-    ensures { IfOk result (λ c. app_of c ≡ desk_app) }
+    ensures { Makes desk_app result }
 {
-    clock_command(alloc)?
-        .subcommand(report_command(alloc)?)?
-        .subcommand(serve_command(alloc)?)
-}
-
-/// The command `desk` without the subcommands that answer who asks.
-fn clock_command<'a>(alloc: Global) -> Result<Command<'a>, AllocError>
-    ensures { IfOk result (λ c. app_of c ≡ clock_app) }
-{
-    memory_command(alloc)?
-        .subcommand(import_command(alloc)?)?
-        .subcommand(tick_command(alloc)?)
-}
-
-/// The command `desk` with the subcommands that use no database.
-fn memory_command<'a>(alloc: Global) -> Result<Command<'a>, AllocError>
-    ensures { IfOk result (λ c. app_of c ≡ memory_app) }
-{
-    Command::new(alloc, "desk")
+    let desk = Command::new(alloc, "desk")
         .about("The operating desk of a building: BACnet schedules and command priorities")
-        .subcommand_required(true)
-        .subcommand(check_command(alloc)?)?
-        .subcommand(replay_command(alloc)?)
+        .subcommand_required(true);
+    let desk = with_subcommand(Ok(desk), check_command(alloc));
+    let desk = with_subcommand(desk, replay_command(alloc));
+    let desk = with_subcommand(desk, import_command(alloc));
+    let desk = with_subcommand(desk, tick_command(alloc));
+    let desk = with_subcommand(desk, report_command(alloc));
+    with_subcommand(desk, serve_command(alloc))
 }
 
 /// The subcommand `check FILE`.
 fn check_command<'a>(alloc: Global) -> Result<Command<'a>, AllocError>
-    ensures app { IfOk result (λ c. app_of c ≡ check_app) }
-    ensures local { IfOk result (λ c. (fields_of c).has_globals ≡ false) }
+    ensures { Makes check_app result }
 {
     file_command(
         alloc,
@@ -136,19 +120,17 @@ fn check_command<'a>(alloc: Global) -> Result<Command<'a>, AllocError>
 
 /// The subcommand `replay FILE DELIVERIES`.
 fn replay_command<'a>(alloc: Global) -> Result<Command<'a>, AllocError>
-    ensures app { IfOk result (λ c. app_of c ≡ replay_app) }
-    ensures local { IfOk result (λ c. (fields_of c).has_globals ≡ false) }
+    ensures { Makes replay_app result }
 {
     let about = "Runs deliveries in memory, and prints each reply and then each point";
     let help = "The deliveries, one JSON object a line";
-    file_command(alloc, "replay", about)?
-        .arg(needed(alloc, "deliveries", "DELIVERIES", help))
+    let deliveries = needed(alloc, "deliveries", "DELIVERIES", help);
+    with_argument(file_command(alloc, "replay", about), deliveries)
 }
 
 /// The subcommand `import FILE DB CSV`.
 fn import_command<'a>(alloc: Global) -> Result<Command<'a>, AllocError>
-    ensures app { IfOk result (λ c. app_of c ≡ import_app) }
-    ensures local { IfOk result (λ c. (fields_of c).has_globals ≡ false) }
+    ensures { Makes import_app result }
 {
     let about = "Adds a list of holidays to the calendars of a database, and prints the reply";
     let help = "The holidays, as CSV with the header calendar,entry";
@@ -157,8 +139,7 @@ fn import_command<'a>(alloc: Global) -> Result<Command<'a>, AllocError>
 
 /// The subcommand `tick FILE DB AT`.
 fn tick_command<'a>(alloc: Global) -> Result<Command<'a>, AllocError>
-    ensures app { IfOk result (λ c. app_of c ≡ tick_app) }
-    ensures local { IfOk result (λ c. (fields_of c).has_globals ≡ false) }
+    ensures { Makes tick_app result }
 {
     let about = "Settles the schedules in a database at a moment, and prints the reply";
     let help = "The moment, in hundredths of a second since 1970-01-01T00:00:00Z";
@@ -168,8 +149,7 @@ fn tick_command<'a>(alloc: Global) -> Result<Command<'a>, AllocError>
 
 /// The subcommand `report FILE DB DATE`.
 fn report_command<'a>(alloc: Global) -> Result<Command<'a>, AllocError>
-    ensures app { IfOk result (λ c. app_of c ≡ report_app) }
-    ensures local { IfOk result (λ c. (fields_of c).has_globals ≡ false) }
+    ensures { Makes report_app result }
 {
     let about = "Prints when each schedule has which value on a day, and how each point is now";
     let help = "The day, as YYYY-MM-DD";
@@ -178,15 +158,13 @@ fn report_command<'a>(alloc: Global) -> Result<Command<'a>, AllocError>
 
 /// The subcommand `serve FILE DB ADDRESS --requests N [--clock]`.
 fn serve_command<'a>(alloc: Global) -> Result<Command<'a>, AllocError>
-    ensures app { IfOk result (λ c. app_of c ≡ serve_app) }
-    ensures local { IfOk result (λ c. (fields_of c).has_globals ≡ false) }
+    ensures { Makes serve_app result }
 {
     let about = "Answers the requests of wall panels and of who asks, over HTTP";
     let help = "The address to listen on, with its port, as 127.0.0.1:8080";
     let address = needed(alloc, "address", "ADDRESS", help);
-    database_command(alloc, "serve", about, address)?
-        .arg(requests_argument(alloc))?
-        .arg(clock_argument(alloc))
+    let serve = database_command(alloc, "serve", about, address);
+    with_argument(with_argument(serve, requests_argument(alloc)), clock_argument(alloc))
 }
 
 /// A subcommand that takes FILE, DB and one argument more.
@@ -197,26 +175,45 @@ fn database_command<'a>(
     last: Arg<'a>,
 ) -> Result<Command<'a>, AllocError>
     requires { last.global ≡ false }
-    ensures app { IfOk result (λ c. app_of c ≡ database_app name.now (rule_of last.entry)) }
-    ensures local { IfOk result (λ c. (fields_of c).has_globals ≡ false) }
+    ensures { Makes (database_app name.now (rule_of last.entry)) result }
 {
     let help = "The database of the desk, which is made where there is none";
-    file_command(alloc, name, about)?
-        .arg(needed(alloc, "database", "DB", help))?
-        .arg(last)
+    let database = needed(alloc, "database", "DB", help);
+    with_argument(with_argument(file_command(alloc, name, about), database), last)
 }
 
 /// A subcommand that takes FILE.
 fn file_command<'a>(alloc: Global, name: &'a str, about: &'a str) -> Result<Command<'a>, AllocError>
-    ensures app { IfOk result (λ c. app_of c ≡ file_app name.now) }
-    ensures local { IfOk result (λ c. (fields_of c).has_globals ≡ false) }
+    ensures { Makes (file_app name.now) result }
 {
     Command::new(alloc, name)
         .about(about)
         .arg(needed(alloc, "file", "FILE", "The building, as TOML"))
 }
 
-/// An argument that has to be there, by its place among the words.
+/// A command with one subcommand more, where memory was had for both.
+fn with_subcommand<'a>(
+    command: Result<Command<'a>, AllocError>,
+    subcommand: Result<Command<'a>, AllocError>,
+) -> Result<Command<'a>, AllocError>
+    ensures { (app sub : App) → Makes app command.entry → Makes sub subcommand.entry
+        → Makes (with_subcommand app sub.top) result }
+{
+    command?.subcommand(subcommand?)
+}
+
+/// A command with one argument more, where memory was had for it.
+fn with_argument<'a>(
+    command: Result<Command<'a>, AllocError>,
+    argument: Arg<'a>,
+) -> Result<Command<'a>, AllocError>
+    requires { argument.global ≡ false }
+    ensures { (app : App) → Makes app command.entry → Makes (with_rule app (rule_of argument.entry)) result }
+{
+    command?.arg(argument)
+}
+
+/// An argument that has to be there, by its place among the words unless it gets a name.
 fn needed<'a>(alloc: Global, id: &'a str, value_name: &'a str, help: &'a str) -> Arg<'a>
     ensures rule { rule_of result ≡ needed_rule id.now }
     ensures local { result.global ≡ false }
@@ -232,12 +229,10 @@ fn requests_argument<'a>(alloc: Global) -> Arg<'a>
     ensures rule { rule_of result ≡ requests_rule }
     ensures local { result.global ≡ false }
 {
-    Arg::new(alloc, "requests")
+    let help = "After how many connections to end, from 1 to 1000000";
+    needed(alloc, "requests", "N", help)
         .long("requests")
-        .required(true)
-        .value_name("N")
         .value_parser(clap::value_parser!(u64).range(1..1_000_001))
-        .help("After how many connections to end, from 1 to 1000000")
 }
 
 /// Whether ticks come from the machine's clock.

@@ -20,14 +20,14 @@ of_told words (Err fault) is = tt
 
 pub returns-in-Ok-clause-takes : goal.returns-in-Ok-clause-takes
 returns-in-Ok-clause-takes c =
-    let app_is : app_of c.in_ok-desk.desk ≡ desk_app = c.in_ok-desk.ensures in
+    let app_is : app_of c.in_ok-desk.desk ≡ desk_app = c.in_ok-desk.ensures.0 in
     let words : List Text = map string_bytes c.args.words.now in
     of_any c.ok_or.result (fault_of desk_app words ≡ [])
     (ap (λ (app : App). fault_of app words) (sym app_is) ∙ c.in-Ok.ensures.kinds (ap is_simple_and_free app_is))
 
 pub returns-in-Ok-clause-asks : goal.returns-in-Ok-clause-asks
 returns-in-Ok-clause-asks c =
-    let app_is : app_of c.in_ok-desk.desk ≡ desk_app = c.in_ok-desk.ensures in
+    let app_is : app_of c.in_ok-desk.desk ≡ desk_app = c.in_ok-desk.ensures.0 in
     let words : List Text = map string_bytes c.args.words.now in
     let rows : subcommand_rows_of c.in-Ok.matches ≡ subcommand_of desk_app words =
     (c.in-Ok.ensures.matches (ap is_simple app_is)).1 ∙ ap (λ (app : App). subcommand_of app words) app_is in
@@ -35,7 +35,7 @@ returns-in-Ok-clause-asks c =
 
 pub returns-in-Err-clause-refuses : goal.returns-in-Err-clause-refuses
 returns-in-Err-clause-refuses c =
-    let app_is : app_of c.in_ok-desk.desk ≡ desk_app = c.in_ok-desk.ensures in
+    let app_is : app_of c.in_ok-desk.desk ≡ desk_app = c.in_ok-desk.ensures.0 in
     let words : List Text = map string_bytes c.args.words.now in
     subst (λ (app : App). IsRefusedBy (fault_of app words) c.fault_in.result) app_is
     (c.fault_in.ensures (fault_of (app_of c.in_ok-desk.desk) words) (c.in-Err.ensures.kinds (ap is_simple_and_free app_is)))
