@@ -199,7 +199,13 @@ fn with_subcommand<'a>(
     ensures { (app sub : App) → Makes app command.entry → Makes sub subcommand.entry
         → Makes (with_subcommand app sub.top) result }
 {
-    command?.subcommand(subcommand?)
+    match command {
+        Ok(command) => match subcommand {
+            Ok(subcommand) => command.subcommand(subcommand),
+            Err(error) => Err(error),
+        },
+        Err(error) => Err(error),
+    }
 }
 
 /// A command with one argument more, where memory was had for it.
@@ -210,7 +216,10 @@ fn with_argument<'a>(
     requires { argument.global ≡ false }
     ensures { (app : App) → Makes app command.entry → Makes (with_rule app (rule_of argument.entry)) result }
 {
-    command?.arg(argument)
+    match command {
+        Ok(command) => command.arg(argument),
+        Err(error) => Err(error),
+    }
 }
 
 /// An argument that has to be there, by its place among the words unless it gets a name.
