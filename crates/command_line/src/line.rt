@@ -134,7 +134,12 @@ fn import_command<'a>(alloc: Global) -> Result<Command<'a>, AllocError>
 {
     let about = "Adds a list of holidays to the calendars of a database, and prints the reply";
     let help = "The holidays, as CSV with the header calendar,entry";
-    database_command(alloc, "import", about, needed(alloc, "holidays", "CSV", help))
+    database_command(
+        alloc,
+        "import",
+        about,
+        needed(alloc, "holidays", "CSV", help),
+    )
 }
 
 /// The subcommand `tick FILE DB AT`.
@@ -164,7 +169,10 @@ fn serve_command<'a>(alloc: Global) -> Result<Command<'a>, AllocError>
     let help = "The address to listen on, with its port, as 127.0.0.1:8080";
     let address = needed(alloc, "address", "ADDRESS", help);
     let serve = database_command(alloc, "serve", about, address);
-    with_argument(with_argument(serve, requests_argument(alloc)), clock_argument(alloc))
+    with_argument(
+        with_argument(serve, requests_argument(alloc)),
+        clock_argument(alloc),
+    )
 }
 
 /// A subcommand that takes FILE, DB and one argument more.
@@ -179,7 +187,10 @@ fn database_command<'a>(
 {
     let help = "The database of the desk, which is made where there is none";
     let database = needed(alloc, "database", "DB", help);
-    with_argument(with_argument(file_command(alloc, name, about), database), last)
+    with_argument(
+        with_argument(file_command(alloc, name, about), database),
+        last,
+    )
 }
 
 /// A subcommand that takes FILE.
@@ -199,12 +210,12 @@ fn with_subcommand<'a>(
     ensures { (app sub : App) → Makes app command.entry → Makes sub subcommand.entry
         → Makes (with_subcommand app sub.top) result }
 {
-    match command {
-        Ok(command) => match subcommand {
-            Ok(subcommand) => command.subcommand(subcommand),
-            Err(error) => Err(error),
-        },
-        Err(error) => Err(error),
+    if let Ok(command) = command
+        && let Ok(subcommand) = subcommand
+    {
+        command.subcommand(subcommand)
+    } else {
+        Err(AllocError)
     }
 }
 
@@ -218,7 +229,7 @@ fn with_argument<'a>(
 {
     match command {
         Ok(command) => command.arg(argument),
-        Err(error) => Err(error),
+        Err(AllocError) => Err(AllocError),
     }
 }
 
@@ -283,65 +294,85 @@ fn check_line<'a>(matches: &ArgMatches<'a>) -> Option<Line<'a>>
 fn replay_line<'a>(matches: &ArgMatches<'a>) -> Option<Line<'a>>
     ensures { option_map asked_of result ≡ replay_in (rows_of (found_of matches.now)) }
 {
-    let file = text_at(matches, "file")?;
-    let deliveries = text_at(matches, "deliveries")?;
-    Some(Line::Replay { file, deliveries })
+    if let Some(file) = text_at(matches, "file")
+        && let Some(deliveries) = text_at(matches, "deliveries")
+    {
+        Some(Line::Replay { file, deliveries })
+    } else {
+        None
+    }
 }
 
 /// What the arguments of `import` ask.
 fn import_line<'a>(matches: &ArgMatches<'a>) -> Option<Line<'a>>
     ensures { option_map asked_of result ≡ import_in (rows_of (found_of matches.now)) }
 {
-    let file = text_at(matches, "file")?;
-    let database = text_at(matches, "database")?;
-    let holidays = text_at(matches, "holidays")?;
-    Some(Line::Import {
-        file,
-        database,
-        holidays,
-    })
+    if let Some(file) = text_at(matches, "file")
+        && let Some(database) = text_at(matches, "database")
+        && let Some(holidays) = text_at(matches, "holidays")
+    {
+        Some(Line::Import {
+            file,
+            database,
+            holidays,
+        })
+    } else {
+        None
+    }
 }
 
 /// What the arguments of `tick` ask.
 fn tick_line<'a>(matches: &ArgMatches<'a>) -> Option<Line<'a>>
     ensures { option_map asked_of result ≡ tick_in (rows_of (found_of matches.now)) }
 {
-    let file = text_at(matches, "file")?;
-    let database = text_at(matches, "database")?;
-    let at = moment_at(matches, "at")?;
-    Some(Line::Tick { file, database, at })
+    if let Some(file) = text_at(matches, "file")
+        && let Some(database) = text_at(matches, "database")
+        && let Some(at) = moment_at(matches, "at")
+    {
+        Some(Line::Tick { file, database, at })
+    } else {
+        None
+    }
 }
 
 /// What the arguments of `report` ask.
 fn report_line<'a>(matches: &ArgMatches<'a>) -> Option<Line<'a>>
     ensures { option_map asked_of result ≡ report_in (rows_of (found_of matches.now)) }
 {
-    let file = text_at(matches, "file")?;
-    let database = text_at(matches, "database")?;
-    let date = text_at(matches, "date")?;
-    Some(Line::Report {
-        file,
-        database,
-        date,
-    })
+    if let Some(file) = text_at(matches, "file")
+        && let Some(database) = text_at(matches, "database")
+        && let Some(date) = text_at(matches, "date")
+    {
+        Some(Line::Report {
+            file,
+            database,
+            date,
+        })
+    } else {
+        None
+    }
 }
 
 /// What the arguments of `serve` ask.
 fn serve_line<'a>(matches: &ArgMatches<'a>) -> Option<Line<'a>>
     ensures { option_map asked_of result ≡ serve_in (rows_of (found_of matches.now)) }
 {
-    let file = text_at(matches, "file")?;
-    let database = text_at(matches, "database")?;
-    let address = text_at(matches, "address")?;
-    let requests = count_at(matches, "requests")?;
-    let clock = is_told(matches, "clock");
-    Some(Line::Serve {
-        file,
-        database,
-        address,
-        requests,
-        clock,
-    })
+    if let Some(file) = text_at(matches, "file")
+        && let Some(database) = text_at(matches, "database")
+        && let Some(address) = text_at(matches, "address")
+        && let Some(requests) = count_at(matches, "requests")
+    {
+        let clock = is_told(matches, "clock");
+        Some(Line::Serve {
+            file,
+            database,
+            address,
+            requests,
+            clock,
+        })
+    } else {
+        None
+    }
 }
 
 /// The value of an argument, as a count.
