@@ -272,6 +272,27 @@ CASES = [
     ("B10 schedule 1 exception", [(EXCEPTION, 'on_leave = "drop"\n' + EXCEPTION.replace("5", "17", 1))]),
 ]
 
+# entries at fault: of two faults the first is told
+ENTRIES = [
+    ("", "E1"),
+    ("2025-06", "E1"),
+    ("2025-06-02..", "E1"),
+    ("wnd:1:2", "E1"),
+    ("WND:*:1:*", "E1"),
+    ("1899-01-01", "E2"),
+    ("2155-01-01", "E2"),
+    ("2025-13-01", "E3"),
+    ("2025-6-2", "E3"),
+    ("2025-02-30..*", "E4"),
+    ("*..2025-02-30", "E4"),
+    ("2025-06-32", "E4"),
+    ("2025-06-02/Mon", "E5"),
+    ("2025-06-02/", "E5"),
+    ("wnd:*:0:*", "E6"),
+    ("2025-*-01..*", "E7"),
+    ("2025-13-01..1899-01-01", "E3"),
+]
+
 # bytes that no change of a text makes
 BYTES = [
     ("B1 top 0 -", b"\xff"),
@@ -316,6 +337,8 @@ def all_cases():
     """The fault's line or `ok`, the bytes of the file, and how the case is told."""
     for wanted, changes in CASES:
         yield wanted, changed(changes), "; ".join(f"{old[:40]!r} to {new[:60]!r}" for old, new, *_ in changes) or "as it is"
+    for entry, fault in ENTRIES:
+        yield f"B8 {fault} calendar 1 entries", changed([("2025-12-25", entry)]), f"the entry {entry!r}"
     for wanted, file in BYTES:
         yield wanted, file, repr(file[:40])
 

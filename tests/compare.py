@@ -1,5 +1,5 @@
 """Compares the program with the plain slow desk: on random lists over small buildings, short ones over few
-numbers and long ones past 1,000 of them, and on every list of a few deliveries.
+numbers, long ones past 1,000 of them and ones about the window far from 1, and on every list of a few deliveries.
 
 Usage: compare.py PROGRAM [SEED [LISTS]]
 """
@@ -18,7 +18,9 @@ from slow_schedules import HUNDREDTHS_A_DAY, Calendar, Exception_, Schedule
 LISTS = 3000
 LONGEST = 24
 LONG_LISTS = 12
+FAR_LISTS = 60
 SHORT = 3
+NEAR = 3
 NAMES = ["R101-SET", "LIGHT", "MODE", "fan_2.a"]
 PRIORITIES = [1, 2, 5, 8, 9, 10, 15, 16]
 ZONES = ["CET-1CEST,M3.5.0,M10.5.0/3", "CET-1CEST,M3.5.0,M10.5.0/3", "UTC0", "EST5"]
@@ -143,9 +145,37 @@ def long_deliveries(rng, building):
     return deliveries + [Skip(panel, last + rng.randint(-40, 64))] + asked
 
 
+def blocks(panel, count, content):
+    """Deliveries that bring a panel's next number to 64 times so many, and one more, with a command of each 64."""
+    asked = [(Command(panel, 64 * block + 1, content), Skip(panel, 64 * block + 65)) for block in range(count)]
+    return [delivery for both in asked for delivery in both]
+
+
+def far_deliveries(rng, building):
+    """A list of commands and skips about the window of one panel, and 1,000 numbers before it."""
+    contents, panel = [some_content(rng, building) for _ in range(2)], building.panels[0].name
+    count = rng.choice([0, 1, 14, 15, 16, 17, 20])
+    deliveries, next_number = blocks(panel, count, contents[0]), 64 * count + 1
+    for _ in range(rng.randint(20, 60)):
+        near = next_number + rng.choice([-3, -2, -1, 0, 0, 0, 1, 1, 2, 3, 4, 62, 63, 64, 65, 66])
+        number = near - rng.choice([0, 0, 0, 0, 0, 999, 1000, 1001, 1002, 1003])
+        skips = rng.random() < 0.25
+        deliveries.append(Skip(panel, number) if skips else Command(panel, number, rng.choice(contents)))
+        if number == next_number or skips and next_number < number <= next_number + WINDOW:
+            next_number = number + (not skips)
+    return deliveries
+
+
+def clock_text(time):
+    """A time of the day: its hours and minutes, and its seconds and hundredths where it has some."""
+    seconds, hundredths = divmod(time, 100)
+    text = f"{seconds // 3600:02}:{seconds // 60 % 60:02}"
+    text += f":{seconds % 60:02}" if seconds % 60 or hundredths else ""
+    return text + (f".{hundredths:02}" if hundredths else "")
+
+
 def time_texts(times):
-    texts = [f"{time // HOUR:02}:{time % HOUR // 6000:02}={'NULL' if value is None else value}" for time, value in times]
-    return json.dumps(texts)
+    return json.dumps([f"{clock_text(time)}={'NULL' if value is None else value}" for time, value in times])
 
 
 def toml_of_schedule(schedule):
@@ -213,11 +243,17 @@ def differs(program, folder, name, rng, building, deliveries):
     return f"list {name}: {file.read_text()}{listed.read_text()}wanted:\n{wanted}printed:\n{ran.stdout}{ran.stderr}"
 
 
+def deliveries_at(index):
+    """How the list of this place is made."""
+    if index < LONG_LISTS:
+        return long_deliveries
+    return far_deliveries if index < LONG_LISTS + FAR_LISTS else some_deliveries
+
+
 def disagreement(program, folder, seed, index):
     rng = random.Random(f"{seed} {index}")
     building = some_building(rng)
-    deliveries = long_deliveries(rng, building) if index < LONG_LISTS else some_deliveries(rng, building)
-    return differs(program, folder, index, rng, building, deliveries)
+    return differs(program, folder, index, rng, building, deliveries_at(index)(rng, building))
 
 
 SMALL = Building((Point("LIGHT", "binary", 0, 1, 0),), (Panel("P1", ("LIGHT",), (8, 9)), Panel("P2", ("LIGHT",), (8,))))
@@ -231,9 +267,24 @@ def short_lists():
     return [list(few) for count in range(SHORT + 1) for few in itertools.product(some, repeat=count)]
 
 
+def near_lists():
+    """Every list of a few deliveries of one panel near both ends of the window."""
+    on, off = Content("LIGHT", 8, 1), Content("LIGHT", 9, 0)
+    some = [Command("P1", number, on) for number in (1, 2, 3, 64, 65, 66)] + [Command("P1", number, off) for number in (1, 2)]
+    some += [Skip("P1", upto) for upto in (2, 3, 65, 66)]
+    return [list(few) for few in itertools.product(some, repeat=NEAR)]
+
+
+def list_about_the_last_thousand():
+    """The next number is 1,281, so those below 281 are forgotten; of those asked here 257 and 321 were accepted."""
+    on, off = Content("LIGHT", 8, 1), Content("LIGHT", 9, 0)
+    asked = [Command("P1", number, content) for number in (1, 257, 279, 280, 281, 282, 321) for content in (on, off)]
+    return blocks("P1", 20, on) + asked
+
+
 def compare(program, seed, lists=LISTS):
     """How many lists agreed, and what was told of those that did not."""
-    short = short_lists()
+    short = short_lists() + near_lists() + [list_about_the_last_thousand()]
     with tempfile.TemporaryDirectory(prefix="desk-compare-") as room, ThreadPoolExecutor(4) as pool:
         folder = pathlib.Path(room)
         told = list(pool.map(lambda index: disagreement(program, folder, seed, index), range(lists)))

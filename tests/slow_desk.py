@@ -6,7 +6,7 @@ from the list by their definitions.
 """
 from dataclasses import dataclass, field
 
-from slow_schedules import local_time, schedule_value
+from slow_schedules import WEEKDAYS, local_time, schedule_value, segments
 
 WINDOW = 64
 REMEMBERED = 1000
@@ -317,8 +317,9 @@ def point_line(building, places, point):
     return f"POINT {point.name:<32}{value:>12} {priority:>2}"
 
 
-def printed(building, deliveries):
-    """What a replay of the list prints. An answer is told once and stays, so those of the whole list serve."""
+def run_of(building, deliveries):
+    """The reply to each delivery, and the machine after the last one. An answer is told once and stays, so those of
+    the whole list serve."""
     along, events = events_along(building, deliveries)
     state, told = machine(building, events)
     replies = [
@@ -327,5 +328,39 @@ def printed(building, deliveries):
         else reply(building, *along[delivery.panel][index : index + 2], delivery, state.answers)
         for index, delivery in enumerate(deliveries)
     ]
+    return replies, state
+
+
+def printed(building, deliveries):
+    """What a replay of the list prints."""
+    replies, state = run_of(building, deliveries)
     points = [point_line(building, state.places, point) for point in building.points]
     return "".join(line + "\n" for line in replies + points)
+
+
+# ---- what is told of a point and of a day
+
+
+def point_text(building, places, point):
+    """What is told of a point: its places, and its present value."""
+    value, priority = present(building, places, point.name)
+    values = [places.get((point.name, place)) for place in range(1, LOWEST_PRIORITY + 1)]
+    texts = ",".join("null" if each is None else str(each) for each in values)
+    return f'{{"answer":"point","places":[{texts}],"point":"{point.name}","present":{value},"priority":{priority}}}'
+
+
+def segment_line(time, value):
+    seconds, hundredths = divmod(time, 100)
+    clock = f"{seconds // 3600:02}:{seconds // 60 % 60:02}:{seconds % 60:02}.{hundredths:02}"
+    return f"{clock}{'NULL' if value is None else value:>13}"
+
+
+def report_text(building, day, imported=frozenset(), places=None):
+    """The report of a day, after these imported pairs and with these places."""
+    calendars = calendars_now(building, imported)
+    lines = [f"DAY {day} {WEEKDAYS[day.weekday()]}"]
+    for each in building.schedules:
+        lines.append(f"SCHEDULE {each.name} {'active' if each.active(day) else 'quiet'}")
+        lines += [segment_line(time, value) for time, value in segments(each, calendars, day)]
+    lines += [point_line(building, places or {}, point) for point in building.points]
+    return "".join(line + "\n" for line in lines)

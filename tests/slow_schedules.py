@@ -9,6 +9,7 @@ from dataclasses import dataclass
 
 FIRST_YEAR, LAST_YEAR = 1970, 2154
 HUNDREDTHS_A_DAY = 24 * 60 * 60 * 100
+QUARTER = HUNDREDTHS_A_DAY // 96
 WEEKDAYS = ["mon", "tue", "wed", "thu", "fri", "sat", "sun"]
 
 
@@ -106,17 +107,38 @@ def in_effect(exception, calendars, day):
     return any(holds(entry, day) for entry in calendars[exception.calendar])
 
 
-def schedule_value(schedule, calendars, day, now):
-    """The value now, where the calendars are the entries under each name."""
-    speaking = [
-        (exception.priority, index, list_value(exception.times, now))
-        for index, exception in enumerate(schedule.exceptions)
-        if in_effect(exception, calendars, day) and list_value(exception.times, now) is not None
-    ]
+def in_effect_on(schedule, calendars, day):
+    """The exceptions of a day, each with its place, where the calendars are the entries under each name."""
+    return [(place, each) for place, each in enumerate(schedule.exceptions) if in_effect(each, calendars, day)]
+
+
+def value_among(schedule, exceptions, day, now):
+    """The value now, with the exceptions that are in effect."""
+    values = [(each.priority, place, list_value(each.times, now)) for place, each in exceptions]
+    speaking = [spoken for spoken in values if spoken[2] is not None]
     if speaking:
         return min(speaking)[2]
     weekday = list_value(schedule.weekly[day.weekday()], now)
     return schedule.default if weekday is None else weekday
+
+
+def schedule_value(schedule, calendars, day, now):
+    """The value now."""
+    return value_among(schedule, in_effect_on(schedule, calendars, day), day, now)
+
+
+def segments(schedule, calendars, day):
+    """00:00 and each moment at which the value differs from that a hundredth earlier, each with its value.
+
+    The moments are looked for at each quarter of an hour: at other ones no list here has a time.
+    """
+    exceptions = in_effect_on(schedule, calendars, day)
+    told = [(0, value_among(schedule, exceptions, day, 0))]
+    for time in range(QUARTER, HUNDREDTHS_A_DAY, QUARTER):
+        earlier, value = (value_among(schedule, exceptions, day, now) for now in (time - 1, time))
+        if value != earlier:
+            told.append((time, value))
+    return told
 
 
 # ---- local time

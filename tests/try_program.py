@@ -1,4 +1,5 @@
-"""Tries the program: the cases, building files, the tables, its edges, and random lists against the plain slow desk.
+"""Tries the program: the cases, building files, the tables, its edges, holiday lists, local times, and random lists
+against the plain slow desk.
 
 Usage: try_program.py PROGRAM
 
@@ -25,6 +26,8 @@ import tempfile
 import check_cases
 import compare
 import edges
+import holiday_lists
+import local_times
 import tables
 
 # The header of a log and that of a frame.
@@ -117,7 +120,7 @@ def try_words(program, words, part, room):
     return difference(ran, 2, b"", ran.stderr)
 
 
-def try_edge(program, test, room):
+def try_call(program, test, room):
     try:
         test(program, room)
     except (AssertionError, OSError, subprocess.TimeoutExpired) as error:
@@ -147,8 +150,9 @@ def all_tests(program):
     for words, part in tables.WORDS_REFUSED:
         yield f"words refused: {words!r}", lambda room, words=words, part=part: try_words(program, words, part, room)
     yield "the first run of docs/OPERATING.md", lambda room: try_first_run_of_the_document(program, room)
-    for test in edges.TESTS:
-        yield f"edge: {test.__name__.replace('_', ' ')}", lambda room, test=test: try_edge(program, test, room)
+    for what, tests in (("edge", edges.TESTS), ("holiday lists", holiday_lists.TESTS), ("local times", local_times.TESTS)):
+        for test in tests:
+            yield f"{what}: {test.__name__.replace('_', ' ')}", lambda room, test=test: try_call(program, test, room)
 
 
 def main(words):

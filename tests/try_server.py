@@ -3,8 +3,8 @@
 
 Usage: try_server.py PROGRAM
 
-Each test has a folder and a server of its own, on a free port of 127.0.0.1. What is wanted are the texts of the
-documented requests and replies. The last line printed is `N passed, M failed`.
+Each test has a folder and servers of its own, on free ports of 127.0.0.1. What is wanted are the texts of the
+documented requests and replies. reports.py has the tests of reports, and served_lists.py those of whole lists. The last line printed is `N passed, M failed`.
 """
 import contextlib
 import pathlib
@@ -16,17 +16,18 @@ import subprocess
 import sys
 import tempfile
 import time
+from concurrent.futures import ThreadPoolExecutor
 
+import reports
+import served_lists
 import tables
+from serving import IN_MEMORY, SECONDS, answered, expect, get, post, refused, response, rows, serving
 
-SECONDS = 60
 # What a connection may take, and how much later a busy machine may tell.
 LIMIT, GRACE = 5, 3
 # The sizes of the pieces of a request that comes in many.
 SIZES = (1, 2, 7)
 BROKEN = 2_000
-REASONS = {200: "OK", 202: "Accepted", 400: "Bad Request", 404: "Not Found", 409: "Conflict", 410: "Gone",
-           422: "Unprocessable Entity", 500: "Internal Server Error", 503: "Service Unavailable"}
 COMMAND = b'{"number":1,"point":"R101-SET","priority":8,"value":2150}'
 REQUEST = b"POST /panels/P1/commands HTTP/1.1\r\nHost: desk\r\nContent-Length: 57\r\n\r\n" + COMMAND
 RESPONSE = (b"HTTP/1.1 200 OK\r\nContent-Type: application/json\r\nContent-Length: 56\r\nConnection: close\r\n\r\n"
@@ -40,86 +41,6 @@ SCHEDULE R101-DAY active
 POINT R101-SET                                2100 15
 POINT LIGHT                                      0  0
 """
-
-
-def response(status, body, content="application/json"):
-    head = f"HTTP/1.1 {status} {REASONS[status]}\r\nContent-Type: {content}\r\nContent-Length: {len(body)}\r\nConnection: close\r\n\r\n"
-    return head.encode() + body
-
-
-def refused(fault):
-    return response(400, f'{{"answer":"bad_request","fault":"{fault}"}}'.encode())
-
-
-def post(target, body, fields=""):
-    return f"POST {target} HTTP/1.1\r\n{fields}Content-Length: {len(body)}\r\n\r\n".encode() + body
-
-
-def get(target):
-    return f"GET {target} HTTP/1.1\r\nHost: desk\r\n\r\n".encode()
-
-
-def expect(found, wanted):
-    if found != wanted:
-        raise AssertionError(f"{found!r}, wanted {wanted!r}")
-
-
-class Server:
-    """A desk that serves a database of the folder, for so many connections."""
-
-    def __init__(self, program, folder, requests, *more):
-        with socket.create_server(("127.0.0.1", 0)) as free:
-            self.port = free.getsockname()[1]
-        self.address = f"127.0.0.1:{self.port}"
-        words = [program, "serve", "building.toml", "desk.db", self.address, "--requests", str(requests), *more]
-        self.ran = subprocess.Popen(words, cwd=folder, stdout=subprocess.PIPE, stderr=subprocess.PIPE)
-        expect(self.ran.stdout.readline(), f"listening {self.address}\n".encode())
-
-    def connect(self):
-        return socket.create_connection(("127.0.0.1", self.port), timeout=SECONDS)
-
-    def ask(self, *pieces):
-        """What is answered to the pieces of a request, which are sent one after the other."""
-        with self.connect() as connection:
-            connection.setsockopt(socket.IPPROTO_TCP, socket.TCP_NODELAY, 1)
-            # the server may have answered before it took all
-            with contextlib.suppress(OSError):
-                for place, piece in enumerate(pieces):
-                    if place:
-                        time.sleep(0.002)
-                    connection.sendall(piece)
-                connection.shutdown(socket.SHUT_WR)
-            return read_all(connection)
-
-    def end(self, status=0, told=b""):
-        out, err = self.ran.communicate(timeout=SECONDS)
-        expect((self.ran.returncode, out, err), (status, b"", told))
-
-    def stop(self):
-        self.ran.kill()
-        self.ran.communicate()
-
-
-def read_all(connection):
-    found = b""
-    with contextlib.suppress(ConnectionResetError):
-        while piece := connection.recv(65_536):
-            found += piece
-    return found
-
-
-@contextlib.contextmanager
-def serving(program, folder, requests, *more):
-    server = Server(program, folder, requests, *more)
-    try:
-        yield server
-    finally:
-        server.stop()
-
-
-def rows(folder, statement):
-    with contextlib.closing(sqlite3.connect(folder / "desk.db")) as connection:
-        return connection.execute(statement).fetchall()
 
 
 # ---- what panels get
@@ -165,6 +86,91 @@ ASKED = [
     (get("/reports/2155-01-01"), response(404, b'{"answer":"no_day"}')),
     (get("/reports/2025-6-2"), response(404, b'{"answer":"no_day"}')),
 ]
+NO_ROUTE, NO_POINT, NO_PANEL, NO_DAY = (
+    response(404, f'{{"answer":"{word}"}}'.encode()) for word in ("no_route", "no_point", "no_panel", "no_day")
+)
+SKIP = b'{"upto":4}'
+HEAD = b"GET /points/NOPE HTTP/1.1\r\n"
+
+
+def head_of(size):
+    """A head of so many bytes that no route has."""
+    return b"GET /" + b"a" * (size - 18) + b" HTTP/1.1\r\n\r\n"
+
+
+HEADS = [
+    (b"", b""),
+    (head_of(8_191), NO_ROUTE),
+    (head_of(8_192), NO_ROUTE),
+    (head_of(8_193), refused("H1")),
+    (head_of(8_192) + b"body", NO_ROUTE),
+    (HEAD + b"A: b\r\n" * 64 + b"\r\n", NO_POINT),
+    (HEAD + b"A: b\r\n" * 65 + b"\r\n", refused("H1")),
+    (HEAD + b"Host: desk\r\n", refused("H1")),
+    (HEAD[:-2], refused("H1")),
+    (b"GET /points/NOPE HTTP/2.0\r\n\r\n", refused("H1")),
+    (b"GET /points/\xff HTTP/1.1\r\n\r\n", refused("H1")),
+    (b"\x01", refused("H1")),
+    (HEAD + b"Host: desk\r\n\r\nbody", NO_POINT),
+]
+
+# A method, a target and a body.
+ROUTES = [
+    ("POST", "/panels//commands", COMMAND, NO_ROUTE),
+    ("POST", "/panels/P1/P2/commands", COMMAND, NO_ROUTE),
+    ("POST", "/panels/P1/commands/", COMMAND, NO_ROUTE),
+    ("POST", "/panels/P1", COMMAND, NO_ROUTE),
+    ("POST", "/panels/commands", COMMAND, NO_ROUTE),
+    ("POST", "/panels/skip/skip", SKIP, NO_PANEL),
+    ("POST", "/panels/\u00e9/commands", COMMAND, NO_PANEL),
+    ("POST", "/panels/P\u00e9/skip", SKIP, NO_PANEL),
+    ("POST", "/", b"", NO_ROUTE),
+    ("POST", "/tick/", b'{"at":1}', NO_ROUTE),
+    ("POST", "/imports/1", b"calendar,entry", NO_ROUTE),
+    ("POST", "/points/P1", b"", NO_ROUTE),
+    ("POST", "/reports/2025-06-02", b"", NO_ROUTE),
+    ("GET", "/points", b"", NO_ROUTE),
+    ("GET", "/points/", b"", NO_ROUTE),
+    ("GET", "/points/A/B", b"", NO_ROUTE),
+    ("GET", "/points/LIGHT/", b"", NO_ROUTE),
+    ("GET", "/points/A%2FB", b"", NO_POINT),
+    ("GET", "/points/LIGHT?B=C", b"", NO_POINT),
+    ("GET", "/points/light", b"", NO_POINT),
+    ("GET", "/points/\u00e9", b"", NO_POINT),
+    ("GET", "/reports/", b"", NO_ROUTE),
+    ("GET", "/reports/\u00e9", b"", NO_DAY),
+    ("GET", "/reports/2025-06-02/", b"", NO_ROUTE),
+] + [
+    (method, target, body, NO_ROUTE)
+    for method in ("GET", "PUT", "post", "DELETE")
+    for target, body in (("/tick", b'{"at":1}'), ("/imports", b"calendar,entry"), ("/panels/P1/commands", COMMAND), ("/panels/P1/skip", SKIP))
+]
+
+
+def request(method, target, body):
+    return post(target, body).replace(b"POST", method.encode(), 1)
+
+
+def filled(body, size, byte=b" "):
+    """A body that is filled up to a size with what changes nothing of it."""
+    return body + byte * (size - len(body))
+
+
+HOLIDAYS = b"calendar,entry\nHOLIDAYS,2025-06-09\n"
+LIGHT = b'{"number":1,"point":"LIGHT","priority":8,"value":1}'
+DONE = answered('{"answer":"done","number":1,"present":1,"priority":8}')
+SIZED = [
+    (post("/panels/P1/commands", filled(LIGHT, 65_536)), DONE),
+    (post("/panels/P1/commands", filled(LIGHT, 65_537)), refused("H4")),
+    (post("/panels/P1/commands", filled(b"{", 65_536)), refused("H6")),
+    (post("/panels/P1/skip", filled(SKIP, 65_536)), answered('{"answer":"skip","next":4}')),
+    (post("/panels/P1/skip", filled(SKIP, 65_537)), refused("H4")),
+    (post("/tick", filled(b'{"at":1}', 65_536)), answered('{"answer":"tick","writes":1}')),
+    (post("/tick", filled(b'{"at":2}', 65_537)), refused("H4")),
+    (post("/imports", filled(HOLIDAYS, 262_144, b"\n")), answered('{"added":1,"answer":"import","known":0,"writes":0}')),
+    (post("/imports", filled(HOLIDAYS, 262_145, b"\n")), refused("H4")),
+    (post("/tick", filled(b'{"at":2}', 65_536)), answered('{"answer":"tick","writes":0}')),
+]
 
 
 def each_request_gets_its_answer(program, folder):
@@ -174,6 +180,28 @@ def each_request_gets_its_answer(program, folder):
             expect((request, server.ask(request)), (request, wanted))
         server.end()
     expect(rows(folder, "SELECT panel, number FROM command"), [("P1", 1)])
+
+
+def each_of_these_gets(program, folder, table):
+    with serving(program, folder, len(table)) as server:
+        for asked, wanted in table:
+            told = (asked[:90], len(asked))
+            expect((told, server.ask(asked)), (told, wanted))
+        server.end()
+
+
+def each_head_gets_its_answer(program, folder):
+    each_of_these_gets(program, folder, HEADS)
+    expect(rows(folder, "SELECT * FROM command"), [])
+
+
+def each_target_has_its_route(program, folder):
+    each_of_these_gets(program, folder, [(request(method, target, body), wanted) for method, target, body, wanted in ROUTES])
+    expect(rows(folder, "SELECT * FROM command"), [])
+
+
+def each_body_has_its_limit(program, folder):
+    each_of_these_gets(program, folder, SIZED)
 
 
 DELIVERED = [
@@ -243,6 +271,61 @@ def a_repeat_after_a_kill_gets_the_first_answer(program, folder):
         server.end()
 
 
+LAST = [
+    ("P1", b'{"number":1000000000001,"point":"LIGHT","priority":8,"value":1}', '{"answer":"bad_number"}'),
+    ("P1", b'{"number":1000000000000,"point":"LIGHT","priority":8,"value":1}', '{"answer":"done","number":1000000000000,"present":1,"priority":8}'),
+    ("P1", b'{"number":1000000000000,"point":"LIGHT","priority":8,"value":1}', '{"answer":"done","number":1000000000000,"present":1,"priority":8}'),
+    ("P1", b'{"number":1000000000001,"point":"LIGHT","priority":8,"value":1}', '{"answer":"bad_number"}'),
+    ("P1", b'{"upto":1000000000001}', '{"answer":"skip","next":1000000000001}'),
+    ("P1", b'{"upto":1000000000002}', '{"answer":"bad_number"}'),
+    ("P2", b'{"upto":1000000000001}', '{"answer":"skip","next":1000000000001}'),
+    ("P2", b'{"number":1000000000000,"point":"R101-SET","priority":9,"value":2000}', '{"answer":"skipped","number":1000000000000}'),
+    ("P2", b'{"number":999999999000,"point":"R101-SET","priority":9,"value":2000}', '{"answer":"forgotten","number":999999999000}'),
+    ("P2", b'{"number":999999999001,"point":"R101-SET","priority":9,"value":2000}', '{"answer":"skipped","number":999999999001}'),
+]
+
+
+def the_last_number_is_like_any_other(program, folder):
+    """Over a database in which both panels have used all numbers but the last."""
+    with serving(program, folder, 1) as server:
+        expect(server.ask(get("/points/NOPE")), NO_POINT)
+        server.end()
+    with contextlib.closing(sqlite3.connect(folder / "desk.db")) as connection, connection:
+        connection.execute("INSERT INTO panel VALUES ('P1', 1000000000000), ('P2', 1000000000000)")
+    table = [(post(f"/panels/{panel}/{'skip' if b'upto' in body else 'commands'}", body), answered(reply)) for panel, body, reply in LAST]
+    each_of_these_gets(program, folder, table)
+    expect(rows(folder, "SELECT * FROM panel ORDER BY name"), [("P1", 1000000000001), ("P2", 1000000000001)])
+
+
+# The six tables of version 1, in which P1 switched LIGHT on at 8 under the numbers from 1 to 1,001.
+VERSION_1 = """
+CREATE TABLE desk (id INTEGER PRIMARY KEY CHECK (id = 1), version INTEGER NOT NULL, last INTEGER) STRICT;
+CREATE TABLE panel (name TEXT PRIMARY KEY NOT NULL, next INTEGER NOT NULL CHECK (next >= 1)) STRICT;
+CREATE TABLE command (panel TEXT NOT NULL, number INTEGER NOT NULL, point TEXT NOT NULL, priority INTEGER NOT NULL, value INTEGER, state INTEGER NOT NULL CHECK (state >= 0 AND state <= 2), a INTEGER, b INTEGER, PRIMARY KEY (panel, number)) STRICT;
+CREATE TABLE place (point TEXT NOT NULL, priority INTEGER NOT NULL CHECK (priority >= 1 AND priority <= 16), value INTEGER NOT NULL, PRIMARY KEY (point, priority)) STRICT;
+CREATE TABLE shown (schedule TEXT PRIMARY KEY NOT NULL, value INTEGER) STRICT;
+CREATE TABLE imported (calendar TEXT NOT NULL, entry TEXT NOT NULL, PRIMARY KEY (calendar, entry)) STRICT;
+INSERT INTO desk VALUES (1, 1, NULL);
+INSERT INTO place VALUES ('LIGHT', 8, 1);
+INSERT INTO panel VALUES ('P1', 1002);
+WITH RECURSIVE numbers(number) AS (SELECT 1 UNION ALL SELECT number + 1 FROM numbers WHERE number < 1001)
+INSERT INTO command SELECT 'P1', number, 'LIGHT', 8, 1, 1, 1, 8 FROM numbers;
+"""
+COMMANDS = "SELECT min(number), max(number), count(*) FROM command"
+
+
+def answers_of_version_1_are_kept_for_1000_numbers(program, folder):
+    with contextlib.closing(sqlite3.connect(folder / "desk.db")) as connection:
+        connection.executescript(VERSION_1)
+    expect(rows(folder, COMMANDS), [(1, 1001, 1001)])
+    replies = ['{"answer":"forgotten","number":1}', *(f'{{"answer":"done","number":{number},"present":1,"priority":8}}' for number in range(2, 1002))]
+    bodies = [LIGHT.replace(b":1,", b":%d," % number, 1) for number in range(1, 1002)]
+    each_of_these_gets(program, folder, [(post("/panels/P1/commands", body), answered(reply)) for body, reply in zip(bodies, replies)])
+    expect(rows(folder, "SELECT version, last FROM desk"), [(2, None)])
+    expect(rows(folder, COMMANDS), [(2, 1001, 1000)])
+    expect(rows(folder, "SELECT * FROM panel"), [("P1", 1002)])
+
+
 def a_tick_of_the_clock_comes_before_each_request(program, folder):
     before = int(time.time() * 100)
     with serving(program, folder, 1, "--clock") as server:
@@ -275,13 +358,17 @@ def no_client_holds_the_desk(program, folder):
 
 
 def a_client_that_leaves_ends_nothing(program, folder):
-    with serving(program, folder, 4) as server:
+    with serving(program, folder, 7) as server:
         server.connect().close()
         with server.connect() as connection:
             connection.sendall(REQUEST)
             connection.setsockopt(socket.SOL_SOCKET, socket.SO_LINGER, b"\1\0\0\0\0\0\0\0")
         with server.connect() as connection:
             connection.sendall(REQUEST[:40])
+        for sent in (b"", REQUEST[:40], REQUEST[:-1]):
+            with server.connect() as connection:
+                connection.sendall(sent)
+                connection.setsockopt(socket.SOL_SOCKET, socket.SO_LINGER, b"\1\0\0\0\0\0\0\0")
         expect(server.ask(REQUEST), RESPONSE)
         server.end()
 
@@ -350,23 +437,30 @@ def curl_gets_each_route(program, folder):
 TESTS = [
     a_request_is_answered_however_it_is_cut,
     each_request_gets_its_answer,
+    each_head_gets_its_answer,
+    each_target_has_its_route,
+    each_body_has_its_limit,
     each_delivery_gets_its_reply_and_status,
     a_day_is_reported,
     a_quiet_schedule_is_reported,
     a_repeat_after_a_kill_gets_the_first_answer,
+    the_last_number_is_like_any_other,
+    answers_of_version_1_are_kept_for_1000_numbers,
     a_tick_of_the_clock_comes_before_each_request,
-    no_client_holds_the_desk,
     a_client_that_leaves_ends_nothing,
     broken_requests_end_nothing,
     an_address_that_is_taken_is_told,
     the_number_of_requests_has_to_be_told,
     curl_gets_each_route,
+    *reports.TESTS,
+    *served_lists.TESTS,
+    no_client_holds_the_desk,
 ]
 
 
 def tried(program, test):
     """What is wrong, or nothing."""
-    with tempfile.TemporaryDirectory(prefix="desk-serve-") as room:
+    with tempfile.TemporaryDirectory(prefix="desk-serve-", dir=IN_MEMORY) as room:
         (pathlib.Path(room) / "building.toml").write_text(tables.WORKED)
         try:
             test(program, pathlib.Path(room))
@@ -375,10 +469,17 @@ def tried(program, test):
     return ""
 
 
+def all_tried(program):
+    """Each test with what is wrong. The one that mostly waits is tried beside the others."""
+    with ThreadPoolExecutor(1) as beside:
+        waited = beside.submit(tried, program, no_client_holds_the_desk)
+        for test in TESTS:
+            yield test, waited.result() if test is no_client_holds_the_desk else tried(program, test)
+
+
 def main(program):
     failed = 0
-    for test in TESTS:
-        wrong = tried(program, test)
+    for test, wrong in all_tried(program):
         failed += bool(wrong)
         print(f"{'FAILED' if wrong else 'ok'} {test.__name__.replace('_', ' ')}{': ' + wrong if wrong else ''}", flush=True)
     print(f"{len(TESTS) - failed} passed, {failed} failed")
