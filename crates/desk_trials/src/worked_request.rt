@@ -88,7 +88,7 @@ struct Told {
 }
 
 fn ask_desk<S: Store + Drop>(alloc: Global, store: S, case: &Case) -> Result<Told, Fail> {
-    let mut desk = desk_over(alloc, "", store)?;
+    let mut desk = desk_over(alloc, store)?;
     let first = serve(alloc, &mut desk, input(case), case.room);
     let point = ask(
         alloc,
