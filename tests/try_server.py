@@ -57,6 +57,17 @@ def a_request_is_answered_however_it_is_cut(program, folder):
     expect(rows(folder, "SELECT * FROM place"), [("R101-SET", 8, 2150)])
 
 
+def a_request_that_ends_early_changes_nothing(program, folder):
+    """One that ends in its head is none, one that ends in its body is cut; and then the whole one is answered."""
+    head = len(REQUEST) - len(COMMAND)
+    with serving(program, folder, len(REQUEST)) as server:
+        for end in range(1, len(REQUEST)):
+            expect((end, server.ask(REQUEST[:end])), (end, refused("H1" if end < head else "H5")))
+        expect(server.ask(REQUEST), RESPONSE)
+        server.end()
+    expect(rows(folder, "SELECT panel, number FROM command"), [("P1", 1)])
+
+
 ASKED = [
     (get("/points/R101-SET"), response(200, POINT)),
     (get("/points/NOPE"), response(404, b'{"answer":"no_point"}')),
@@ -436,6 +447,7 @@ def curl_gets_each_route(program, folder):
 
 TESTS = [
     a_request_is_answered_however_it_is_cut,
+    a_request_that_ends_early_changes_nothing,
     each_request_gets_its_answer,
     each_head_gets_its_answer,
     each_target_has_its_route,

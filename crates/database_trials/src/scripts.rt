@@ -1,11 +1,10 @@
 //! Lines that are delivered to a desk over a store, and what is told of it as text.
 use crate::contents::push_content;
-use desk_cli::answer_line;
 use building::Building;
 use delivery_lines::LineFault;
-use desk::{Desk, PointState};
+use desk::Desk;
+use desk_cli::answer_line;
 use json::Scratch;
-use points::Name;
 use std::alloc::Global;
 use std::fmt::{Debug, Display, Write};
 use std::process::Abort;
@@ -13,16 +12,14 @@ use std::test::Fail;
 use store::{MemStore, Store, StoreFault};
 use texts::text_of;
 
-/// A building's file, lines of deliveries, and the points that are told after them.
+/// A building's file, and lines of deliveries.
 #[derive(Clone, Copy)]
 pub(crate) struct Script<'a> {
     pub(crate) building: &'a str,
     pub(crate) lines: &'a str,
-    pub(crate) points: &'a [&'static str],
 }
 
-/// What a desk tells: the reply or the fault of each line, then a line of each point; and what its store holds before
-/// the lines and after them.
+/// What a desk tells, the reply or the fault of each line; and what its store holds before the lines and after them.
 #[derive(Drop)]
 pub(crate) struct Told {
     pub(crate) before: String,
@@ -75,40 +72,6 @@ fn push_answers<S: Store + Drop>(
     Ok(())
 }
 
-fn push_state(
-    name: &str,
-    state: Result<Option<PointState>, StoreFault>,
-    printed: &mut String,
-) -> Result<(), Fail> {
-    match state {
-        Ok(Some(state)) => writeln!(printed, "{name} {} at {}", state.present, state.priority)?,
-        Ok(None) => writeln!(printed, "no {name}")?,
-        Err(fault) => push_fault(fault, printed)?,
-    }
-    Ok(())
-}
-
-fn push_points<S: Store + Drop>(
-    desk: &mut Desk<S>,
-    names: &[&'static str],
-    printed: &mut String,
-) -> Result<(), Fail> {
-    for name in names {
-        push_state(name, desk.point(&Name::read(name)?), printed)?;
-    }
-    Ok(())
-}
-
-fn push_replies<S: Store + Drop>(
-    alloc: Global,
-    desk: &mut Desk<S>,
-    script: Script<'_>,
-    printed: &mut String,
-) -> Result<(), Fail> {
-    push_answers(alloc, desk, script.lines, printed)?;
-    push_points(desk, script.points, printed)
-}
-
 // Tells a desk the lines of a script, and gives its store back.
 fn run_desk<S: Store + Drop>(
     alloc: Global,
@@ -117,7 +80,7 @@ fn run_desk<S: Store + Drop>(
     told: &mut Told,
 ) -> (Result<(), Fail>, S) {
     let mut desk = desk;
-    let done = push_replies(alloc, &mut desk, script, &mut told.printed);
+    let done = push_answers(alloc, &mut desk, script.lines, &mut told.printed);
     let mut store = desk.into_store();
     match done {
         Ok(()) => (push_content(&mut store, &mut told.after), store),

@@ -21,7 +21,6 @@ fn content_after(alloc: Global, building: &str, count: usize) -> Result<String, 
     let script = Script {
         building,
         lines: lines.as_str(),
-        points: &[],
     };
     run_in_memory(alloc, script, &mut told)?;
     Ok(told.after)
@@ -37,7 +36,7 @@ struct Wanted {
 impl Wanted {
     /// The contents of the store in memory.
     fn new(alloc: Global) -> Result<Wanted, Fail> {
-        let building = worked_building(alloc, "")?;
+        let building = worked_building(alloc)?;
         let mut contents = Vec::new(alloc);
         for count in 0..=COUNT {
             contents.push(content_after(alloc, building.as_str(), count)?)?;
@@ -49,7 +48,6 @@ impl Wanted {
         Script {
             building: self.building.as_str(),
             lines,
-            points: &[],
         }
     }
 

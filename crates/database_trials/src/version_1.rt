@@ -4,7 +4,6 @@ use crate::faulty_disk::Trouble;
 use crate::scripts::{Script, Told, assert_holds, assert_same};
 use crate::worked_buildings::without_schedule;
 use std::alloc::{AllocError, Global};
-use std::fmt::Write;
 use std::process::Abort;
 use std::test::Fail;
 
@@ -35,26 +34,6 @@ const QUERIES: [&str; 5] = [
     "SELECT MIN(number) FROM command WHERE panel = 'P1'",
     "SELECT MAX(number) FROM command WHERE panel = 'P1'",
 ];
-
-// Done commands of P1 that switched LIGHT on at 8, with the numbers from 1 to 1,001.
-fn push_commands(statements: &mut String) -> Result<(), Fail> {
-    for number in 1..1002u64 {
-        writeln!(
-            statements,
-            "INSERT INTO command VALUES ('P1', {number}, 'LIGHT', 8, 1, 1, 1, 8);"
-        )?;
-    }
-    Ok(())
-}
-
-// A database of version 1 with 1,001 commands of P1.
-fn with_many_commands(alloc: Global) -> Result<String, Fail> {
-    let mut statements = begun(alloc)?;
-    statements.push_str("INSERT INTO panel VALUES ('P1', 1002);")?;
-    push_commands(&mut statements)?;
-    statements.push_str("COMMIT;")?;
-    Ok(statements)
-}
 
 /// Commands of two panels, of which two are more than 1,000 below the next number of P1.
 const FEW_COMMANDS: &str = "
@@ -88,32 +67,7 @@ fn script(lines: &str) -> Script<'_> {
     Script {
         building: without_schedule(),
         lines,
-        points: &[],
     }
-}
-
-#[test]
-fn answers_of_version_1_are_kept_for_1000_numbers(rt: HostRuntime) -> Result<(), Fail> {
-    let made = made_by(rt.alloc(), with_many_commands(rt.alloc())?.as_str())?;
-    let before = rows_in(rt.alloc(), made.written())?;
-    assert_same(&rt, before.as_str(), "1;1002;1001;1;1001;", "before");
-    let mut told = Told::new(rt.alloc());
-    let lines = r#"{"number":1,"panel":"P1","point":"LIGHT","priority":8,"value":1}
-{"number":2,"panel":"P1","point":"LIGHT","priority":8,"value":1}"#;
-    let wanted = r#"{"answer":"forgotten","number":1}
-{"answer":"done","number":2,"present":1,"priority":8}
-"#;
-    let left = run_on_disk(
-        rt.alloc(),
-        made.written(),
-        Place::nowhere(),
-        script(lines),
-        &mut told,
-    )?;
-    assert_same(&rt, told.printed.as_str(), wanted, "printed");
-    let after = rows_in(rt.alloc(), left.synced())?;
-    assert_same(&rt, after.as_str(), "2;1002;1000;2;1001;", "after");
-    Ok(())
 }
 
 /// More calls than the opening makes of one file.
@@ -207,23 +161,4 @@ fn a_fault_of_the_log_leaves_one_version(rt: HostRuntime) -> Result<(), Fail> {
 #[test]
 fn a_fault_of_the_database_file_leaves_one_version(rt: HostRuntime) -> Result<(), Fail> {
     try_places(&rt, rt.alloc(), Trouble::Fault, File::Database)
-}
-
-#[test]
-fn an_unknown_version_is_refused_and_stays(rt: HostRuntime) -> Result<(), Fail> {
-    let mut statements = with_few_commands(rt.alloc())?;
-    statements.push_str("UPDATE desk SET version = 7;")?;
-    let made = made_by(rt.alloc(), statements.as_str())?;
-    let mut told = Told::new(rt.alloc());
-    let left = run_on_disk(
-        rt.alloc(),
-        made.written(),
-        Place::nowhere(),
-        script(LINES),
-        &mut told,
-    )?;
-    assert_same(&rt, told.printed.as_str(), "S4\n", "refused");
-    let rows = rows_in(rt.alloc(), left.written())?;
-    assert_same(&rt, rows.as_str(), "7;1005 1002;5;3;1004;", "stays");
-    Ok(())
 }

@@ -33,9 +33,6 @@ priority = 15
 targets = ["R101-SET"]
 default = 1600
 weekly = [["08:00=2100"], [], [], [], [], [], ["02:45=1900"]]
-"#;
-
-const EXCEPTION: &str = r#"
 [[schedule.exception]]
 priority = 5
 calendar = "HOLIDAYS"
@@ -48,11 +45,9 @@ pub(crate) fn without_schedule() -> &'static str {
     WITHOUT_SCHEDULE
 }
 
-/// The worked building; `period` is the line of the schedule's effective period, or empty.
-pub(crate) fn worked_building(alloc: Global, period: &str) -> Result<String, AllocError> {
+/// The worked building.
+pub(crate) fn worked_building(alloc: Global) -> Result<String, AllocError> {
     let mut building = String::from_str(alloc, without_schedule())?;
     building.push_str(SCHEDULE)?;
-    building.push_str(period)?;
-    building.push_str(EXCEPTION)?;
     Ok(building)
 }

@@ -5,7 +5,7 @@ use std::alloc::Global;
 use std::test::Fail;
 use store::{MemStore, Store, StoreFault};
 
-/// The worked building, but for the exception of its schedule.
+/// The worked building.
 const BUILDING: &str = r#"
 zone = "CET-1CEST,M3.5.0,M10.5.0/3"
 [[point]]
@@ -35,19 +35,14 @@ priority = 15
 targets = ["R101-SET"]
 default = 1600
 weekly = [["08:00=2100"], [], [], [], [], [], ["02:45=1900"]]
-"#;
-
-const EXCEPTION: &str = r#"
 [[schedule.exception]]
 priority = 5
 calendar = "HOLIDAYS"
 times = ["00:00=1500"]
 "#;
 
-/// The building; `period` is the line of its schedule's effective period, or empty.
-fn building(alloc: Global, period: &str) -> Result<Building, Fail> {
-    let text = format!(in alloc; "{BUILDING}{period}{EXCEPTION}")?;
-    Ok(Building::read(alloc, text.as_bytes())?)
+fn building(alloc: Global) -> Result<Building, Fail> {
+    Ok(Building::read(alloc, BUILDING.as_bytes())?)
 }
 
 // A desk over a store, without what is promised of it.
@@ -60,19 +55,15 @@ fn opened<S: Store + Drop>(
 }
 
 /// A desk of the building over a store.
-pub(crate) fn desk_over<S: Store + Drop>(
-    alloc: Global,
-    period: &str,
-    store: S,
-) -> Result<Desk<S>, Fail> {
-    let building = building(alloc, period)?;
+pub(crate) fn desk_over<S: Store + Drop>(alloc: Global, store: S) -> Result<Desk<S>, Fail> {
+    let building = building(alloc)?;
     match opened(alloc, building, store) {
         Ok(desk) => Ok(desk),
         Err((fault, _store)) => Err(fault.into()),
     }
 }
 
-/// A desk of the building over empty tables in memory, its schedule always in effect.
+/// A desk of the building over empty tables in memory.
 pub(crate) fn desk(alloc: Global) -> Result<Desk<MemStore>, Fail> {
-    desk_over(alloc, "", MemStore::new(alloc))
+    desk_over(alloc, MemStore::new(alloc))
 }

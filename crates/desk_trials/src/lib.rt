@@ -1,12 +1,10 @@
-//! The desk and requests to it, as calls: a run of deliveries, reports, inputs that are no request, the loopback, and the
-//! worked request in any two pieces, cut and with a lost reply, over tables in memory and in a database. What each request
-//! gets is tried on the program. There is no code here but tests, so that no other crate is proved twice for them.
+//! The desk and requests to it, as calls: a run of deliveries, inputs that are no request, the loopback, and the
+//! worked request in any two pieces, cut and with a lost reply, over tables in memory. What each request gets, and how
+//! the same goes over a database, is tried on the program. There is no code here but tests, so that no other crate is proved twice for them.
 #![tactic(auto)]
 
 #[cfg(test)]
 mod asking;
-#[cfg(test)]
-mod databases;
 #[cfg(test)]
 mod desks;
 #[cfg(test)]
@@ -15,8 +13,6 @@ mod ends;
 mod loopback;
 #[cfg(test)]
 mod no_requests;
-#[cfg(test)]
-mod reports;
 #[cfg(test)]
 mod runs;
 #[cfg(test)]

@@ -1,6 +1,5 @@
-//! The worked request over tables in memory and in a database: in two reads, cut inside its body, and with a lost reply.
+//! The worked request over tables in memory: in two reads, cut inside its body, and with a lost reply.
 use crate::asking::{Got, HEAD, ask, assert_got, command, done, serve};
-use crate::databases::made;
 use crate::desks::desk_over;
 use crate::ends::Pieces;
 use http::StatusCode;
@@ -88,7 +87,7 @@ struct Told {
 }
 
 fn ask_desk<S: Store + Drop>(alloc: Global, store: S, case: &Case) -> Result<Told, Fail> {
-    let mut desk = desk_over(alloc, "", store)?;
+    let mut desk = desk_over(alloc, store)?;
     let first = serve(alloc, &mut desk, input(case), case.room);
     let point = ask(
         alloc,
@@ -175,26 +174,15 @@ fn ways(alloc: Global) -> Result<Vec<Way>, Fail> {
     Ok(ways)
 }
 
-// Tries each case over a new store.
-fn try_cases<S: Store + Drop, M>(rt: &impl Abort, alloc: Global, make: M) -> Result<(), Fail>
-where
-    M: Fn() -> Result<S, Fail>,
-    requires { M.IsAlwaysCallable make }
-{
+// Tries each case over new tables.
+fn try_cases(rt: &impl Abort, alloc: Global) -> Result<(), Fail> {
     for way in &ways(alloc)? {
-        try_case(rt, alloc, make()?, &case_of(*way))?;
+        try_case(rt, alloc, MemStore::new(alloc), &case_of(*way))?;
     }
     Ok(())
 }
 
 #[test]
-fn the_request_is_answered_once_in_memory(rt: HostRuntime) -> Result<(), Fail> {
-    let alloc = rt.alloc();
-    try_cases(&rt, alloc, || Ok(MemStore::new(alloc)))
-}
-
-#[test]
-fn the_request_is_answered_once_in_a_database(rt: HostRuntime) -> Result<(), Fail> {
-    let alloc = rt.alloc();
-    try_cases(&rt, alloc, || made(alloc))
+fn the_request_is_answered_once(rt: HostRuntime) -> Result<(), Fail> {
+    try_cases(&rt, rt.alloc())
 }
