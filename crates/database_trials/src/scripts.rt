@@ -5,11 +5,12 @@ use delivery_lines::LineFault;
 use desk::Desk;
 use desk_cli::answer_line;
 use json::Scratch;
+use mem_store::MemStore;
 use std::alloc::Global;
 use std::fmt::{Debug, Display, Write};
 use std::process::Abort;
 use std::test::Fail;
-use store::{MemStore, Store, StoreFault};
+use store::{Store, StoreFault};
 use texts::text_of;
 
 /// A building's file, and lines of deliveries.

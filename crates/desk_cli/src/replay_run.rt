@@ -20,11 +20,12 @@ use delivery_lines::LineFault;
 use desk::Desk;
 use desk_console::{Input, Listed, RunFault, Status, flush, print_text, read_building};
 use json::Scratch;
+use mem_store::MemStore;
 use point_lines::point_line;
 use points::Name;
 use std::alloc::Global;
 use std::io::{self, BufRead, BufReader, Read, Write};
-use store::{MemStore, Store};
+use store::Store;
 
 /// Runs the deliveries of a list over the building of a file, in memory: prints each reply as a line,
 /// and then the POINT line of each point in file order. Empty lines are passed over, also with a CR.

@@ -1,9 +1,10 @@
 //! Desks of the worked building.
 use building::Building;
 use desk::Desk;
+use mem_store::MemStore;
 use std::alloc::Global;
 use std::test::Fail;
-use store::{MemStore, Store, StoreFault};
+use store::{Store, StoreFault};
 
 /// The worked building.
 const BUILDING: &str = r#"

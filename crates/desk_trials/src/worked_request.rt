@@ -3,11 +3,12 @@ use crate::asking::{Got, HEAD, ask, assert_got, command, done, serve};
 use crate::desks::desk_over;
 use crate::ends::Pieces;
 use http::StatusCode;
+use mem_store::MemStore;
 use panel_http::Served;
 use std::alloc::Global;
 use std::process::Abort;
 use std::test::Fail;
-use store::{MemStore, Store};
+use store::Store;
 
 /// The response to a request that ends inside its body.
 fn cut() -> &'static str {

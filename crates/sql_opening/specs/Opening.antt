@@ -6,9 +6,8 @@ use Rattle.sqlite.specs.State.{State}
 use Rattle.store.specs.declared.change.Change.{Change}
 use Rattle.store.specs.declared.change.RowsBelow.{RowsBelow}
 use Rattle.store.specs.Change.{with_change}
-use Rattle.store.specs.Memory.{no_tables}
 use Rattle.store.specs.Standing.{sound}
-use Rattle.store.specs.Tables.{Tables, Text}
+use Rattle.store.specs.Tables.{Tables, Text, no_tables}
 use Rattle.stored_rows.specs.Cells.{number_in}
 use Rattle.stored_rows.specs.declared.read_fault.ReadFault.{ReadFault}
 use Rattle.stored_rows.specs.declared.read_fault.ReadFault.TheVariants as read

@@ -15,7 +15,7 @@ use Rattle.sqlite_value.proofs.OrderLemmas.{value_cmp-Int}
 use Rattle.sql_rows.specs.Looking.{FindsLeast, is_from}
 use Rattle.store.specs.declared.change.KeptRow.{KeptRow}
 use Rattle.store.specs.Change.{with_row}
-use Rattle.store.proofs.HeldLemmas.{next-none, next-row}
+use Rattle.store.proofs.RowLemmas.{next-none, next-row}
 use Rattle.std.specs.Str.{bytes_eq}
 use Rattle.stored_rows.specs.Cells.{count_in, is_count, is_text, name_in}
 use Rattle.stored_rows.specs.Rows.{command_said, of_command}

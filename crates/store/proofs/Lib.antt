@@ -1,7 +1,3 @@
-pub mod HeldLemmas
-pub mod NameLemmas
-pub mod PanelLemmas
 pub mod ReadLemmas
-pub mod SlotLemmas
-pub mod StandLemmas
+pub mod RowLemmas
 pub mod TextLemmas

@@ -1,4 +1,5 @@
-use Rattle.std.specs.Prelude.{ℕ, Bool, List, Option, ℤ}
+use Rattle.std.specs.Prelude.{ℕ, Bool, false, List, None, Option, ℤ}
+use Rattle.std.specs.FinMap.{empty}
 use Rattle.points.specs.PriorityArray.{Places}
 use Rattle.points.specs.Run.{Rows}
 
@@ -20,3 +21,14 @@ pub record Tables : Type 0 where
   pub imported : Text → Text → Bool
   -- the moment of the last tick
   pub last_tick : Option ℤ
+
+-- tables that hold nothing
+abbrev pub no_tables : Tables
+no_tables = record {
+  places = λ point. empty;
+  next = λ panel. 1;
+  row = λ panel number. None;
+  shown = λ schedule. None;
+  imported = λ calendar text. false;
+  last_tick = None;
+}

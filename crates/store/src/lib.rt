@@ -3,24 +3,16 @@
 //! A `Store` has six tables: the places of points, the next numbers of panels, the rows of their commands,
 //! what schedules show, the entries that are imported into calendars, and the moment of the last tick. It is
 //! read by its reads and changed by one call alone, `commit`, which makes a whole `Change` or nothing. Its
-//! contract also says what a failure leaves, and what a stop of the program may leave at any moment.
+//! contract also says what a failure leaves, and what a stop of the program may leave at any moment. Tables in memory
+//! are `mem_store`'s, those in a database `store_sql`'s.
 #![tactic(auto)]
 
 pub use change::{Change, ImportedEntry, KeptRow, NextNumber, PlaceValue, RowsBelow, ShownValue};
 pub use fault::StoreFault;
-pub use mem_store::MemStore;
 pub use names::Names;
 pub use store::Store;
 
-mod arrays;
-mod calendar_table;
-mod calendars;
 mod change;
 mod fault;
-mod mem_store;
 mod names;
-mod panel_table;
-mod panels;
-mod shown_values;
-mod spelled_entry;
 mod store;

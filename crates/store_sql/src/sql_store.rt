@@ -4,7 +4,7 @@ ghost use Rattle.sqlite.specs.Held.{state};
 ghost use Rattle.sqlite.specs.State.{HasCleanDisk};
 ghost use Rattle.sql_create.specs.Creating.{IsAsBefore};
 ghost use Rattle.sql_opening.specs.Opening.{IsBare, IsKnown};
-ghost use Rattle.store.specs.Memory.{no_tables};
+ghost use Rattle.store.specs.Tables.{no_tables};
 ghost use Rattle.store.specs.Standing.{sound};
 ghost use Rattle.store_sql.specs.Opening.{IsFaultOver, IsOpened, SurvivesMaking, SurvivesTaking, left_by};
 ghost use Rattle.store_sql.specs.Standing.{IsFit, standing_of};

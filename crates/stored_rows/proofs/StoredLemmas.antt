@@ -15,9 +15,8 @@ use Rattle.store.specs.declared.change.PlaceValue.{PlaceValue}
 use Rattle.store.specs.declared.change.RowsBelow.{RowsBelow}
 use Rattle.store.specs.declared.change.ShownValue.{ShownValue}
 use Rattle.store.specs.Change.{with_next, with_row, without_rows, with_place, with_shown, with_imported}
-use Rattle.store.specs.Memory.{no_tables}
 use Rattle.store.specs.Standing.{sound}
-use Rattle.store.specs.Tables.{Text}
+use Rattle.store.specs.Tables.{Text, no_tables}
 use Rattle.stored_rows.specs.Cells.{optional_in}
 use Rattle.stored_rows.specs.Rows.{next_said, command_said, place_said, shown_said, imported_said, last_said}
 use Rattle.stored_rows.specs.Rows.{of_panel, of_command, of_lower_command, of_place, of_schedule, of_entry}
