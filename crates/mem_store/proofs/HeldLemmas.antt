@@ -1,5 +1,5 @@
 -- What a change of one entry of a table leaves at each name, and what a list of changes does.
-use Rattle.std.proofs.Common.{◌≡◌, ℕ, zero, suc, Bool, true, false, cond, List, [], ◌∷◌, ◌++◌, Option, Some, None, IsSome, is_some, refl, sym, ap}
+use Rattle.std.proofs.Common.{◌≡◌, ℕ, zero, suc, Bool, true, false, cond, List, [], ◌∷◌, Option, Some, None, IsSome, is_some, refl, sym, ap}
 use Rattle.std.proofs.Common.{◌∙◌, subst, inl, inr}
 use Rattle.std.proofs.Common.{◌+◌, ◌-◌, ◌<◌, ◌≤◌, ◌&&◌, ◌||◌, get_or, drop, length, add-one, drop-cons, arith, Result, Ok, Err, OnOk, OnErr}
 use Rattle.std.specs.Cmp.Lexicographic.{slice_cmp}
@@ -11,9 +11,7 @@ use Rattle.std.proofs.lemmas.List.{get_or_default}
 use Rattle.std.proofs.lemmas.Map.Text.{is_eq-slice_cmp}
 use Rattle.std.proofs.lemmas.Slice.Eq.{bytes_eq-Decides}
 use Rattle.points.specs.declared.command_row.CommandRow.{CommandRow}
-use Rattle.points.specs.declared.numbered_row.NumberedRow.{NumberedRow}
-use Rattle.points.specs.Run.{Rows, IsRun, row_before, rows_from, rows_between}
-use Rattle.points.proofs.RunLemmas.{rows_between-next}
+use Rattle.points.specs.Run.{Rows, IsRun, row_before, rows_from}
 use Rattle.store.specs.Change.{with_each}
 
 pub is_none : {A : Type 0} (o : Option A) → is_some o ≡ false → o ≡ None

@@ -1,5 +1,5 @@
 -- Lists of names and of texts, as a table's entries give them.
-use Rattle.std.proofs.Common.{◌≡◌, suc, ◌<◌, ◌↔◌, Bool, true, false, cond, List, [], ◌∷◌, ◌++◌, append-nil, option_to_list, Option, Some, None}
+use Rattle.std.proofs.Common.{◌≡◌, suc, ◌↔◌, Bool, true, false, cond, List, [], ◌∷◌, ◌++◌, append-nil, option_to_list, Option, Some, None}
 use Rattle.std.proofs.Common.{IfSome, is_some, map, refl, sym, ap, ◌∙◌, subst, inl, inr, arith}
 use Rattle.std.specs.declared.cmp.Ordering.TheVariants.{Less}
 use Rattle.std.specs.Bool.{IsTrue}
@@ -11,7 +11,6 @@ use Rattle.std.specs.Ordering.{nat_cmp, is_eq}
 use Rattle.std.specs.Str.{bytes_eq}
 use Rattle.std.proofs.lemmas.Bool.{both_ways, cases_Bool, false≢true}
 use Rattle.std.proofs.lemmas.List.{map-id}
-use Rattle.std.proofs.lemmas.List.Elements.{Contains-append_cases, Contains-append_right, Contains-push, Contains-push_cases, Contains-append_left}
 use Rattle.std.proofs.lemmas.Map.Text.{is_eq-slice_cmp}
 use Rattle.std.proofs.lemmas.Slice.Eq.{bytes_eq-Decides}
 use Rattle.store.specs.Listed.{AreTexts}

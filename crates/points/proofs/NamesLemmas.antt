@@ -1,6 +1,6 @@
 -- Where a name stands in a list, and the index of a list with one more name.
-use Rattle.std.proofs.Common.{◌≡◌, ℕ, suc, zero, ◌+◌, Bool, true, false, ◌||◌, ◌++◌, cond, not, nat_lt, List, [], ◌∷◌, length, Option, Some, None, is_some, option_map, position, bytes_eq, refl, sym, ap, ap₂, ◌∙◌, arith}
-use Rattle.std.specs.HashMap.{HashMap, Updates, get}
+use Rattle.std.proofs.Common.{◌≡◌, ℕ, suc, ◌+◌, Bool, true, false, ◌||◌, ◌++◌, cond, not, nat_lt, List, [], ◌∷◌, length, Option, Some, None, is_some, option_map, position, bytes_eq, refl, sym, ap, ap₂, ◌∙◌, arith}
+use Rattle.std.specs.HashMap.{HashMap, Updates}
 use Rattle.std.specs.List.{list_any, position_or_len}
 use Rattle.std.proofs.lemmas.Slice.Eq.{bytes_eq-Decides}
 use Rattle.points.specs.Names.{IsIndex, is_among}

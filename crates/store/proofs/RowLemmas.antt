@@ -1,5 +1,5 @@
 -- A list of the rows up to a number, with one more.
-use Rattle.std.proofs.Common.{◌≡◌, ℕ, ◌+◌, ◌≤◌, ◌++◌, List, [], ◌∷◌, Option, Some, None, refl, sym, ap, ◌∙◌}
+use Rattle.std.proofs.Common.{◌≡◌, ℕ, ◌+◌, ◌≤◌, ◌++◌, List, [], ◌∷◌, Some, None, refl, sym, ap, ◌∙◌}
 use Rattle.points.specs.declared.command_row.CommandRow.{CommandRow}
 use Rattle.points.specs.declared.numbered_row.NumberedRow.{NumberedRow}
 use Rattle.points.specs.Run.{Rows, row_before, rows_between}
