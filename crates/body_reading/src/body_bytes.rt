@@ -6,7 +6,7 @@ use counted::Counted;
 use std::io::Read;
 
 /// What was seen of a body.
-#[derive(Clone, Copy, Debug, PartialEq, Eq)]
+#[derive(Clone, Copy)]
 pub enum BodySeen {
     /// The whole body.
     Whole,

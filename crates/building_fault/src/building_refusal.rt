@@ -6,7 +6,7 @@ use std::error::Error;
 use std::fmt;
 
 /// Why a building is not read.
-#[derive(Clone, Copy, Debug, PartialEq, Eq)]
+#[derive(Clone, Copy, Debug)]
 pub enum BuildingFault {
     /// The file is at fault.
     File(FileFault),

@@ -5,7 +5,7 @@ use std::fmt;
 
 /// What is wrong in a building file. It is printed as its number, B1 to B13, and B8 with the number of the
 /// entry's fault after it.
-#[derive(Clone, Copy, Debug, PartialEq, Eq)]
+#[derive(Clone, Copy, Debug)]
 pub enum Cause {
     /// B1: the file is no TOML, or not UTF-8.
     NotToml,

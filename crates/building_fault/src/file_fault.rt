@@ -5,7 +5,7 @@ use std::error::Error;
 use std::fmt;
 
 /// What is wrong in a building file, and where. It is printed as one line, as `B7 panel 2 points`.
-#[derive(Clone, Copy, Debug, PartialEq, Eq)]
+#[derive(Clone, Copy, Debug)]
 pub struct FileFault {
     pub cause: Cause,
     pub section: Section,

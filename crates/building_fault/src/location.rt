@@ -5,7 +5,7 @@ ghost use Rattle.building_fault.specs.FaultAt.{fault_at, told_key};
 use crate::{Cause, FileFault, Key, Section};
 
 /// Where a table of a building file stands.
-#[derive(Clone, Copy, Debug, PartialEq, Eq)]
+#[derive(Clone, Copy, Debug)]
 pub struct Location {
     pub section: Section,
     /// The place of the table in its section, from 1; 0 for the top table.

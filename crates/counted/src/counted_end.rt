@@ -7,7 +7,7 @@ ghost use Rattle.counted.specs.Counting.{Rises};
 use std::io::{self, Read, Write};
 
 /// A reader or a writer, and how often it has failed.
-#[derive(Debug, Drop)]
+#[derive(Drop)]
 pub struct Counted<T> {
     inner: T,
     failures: u64,

@@ -9,7 +9,7 @@ use std::fmt;
 use std::marker::Model;
 
 /// A civil day from 1900-01-01 to 2154-12-31. Days compare by their order in time.
-#[derive(Clone, Copy, PartialEq, Eq, PartialOrd, Ord, Hash, Debug)]
+#[derive(Clone, Copy, PartialEq, Eq, PartialOrd, Ord, Debug)]
 pub struct Day {
     date: Date,
 }

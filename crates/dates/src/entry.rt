@@ -16,7 +16,7 @@ use std::fmt;
 /// `31`, `last`, `odd`, `even` or `*`. W is `mon` to `sun`; any weekday is written by leaving `/W`
 /// away in a pattern, and by `*` in a week-and-day. K is `1` to `9`, or `*`. The notation is this
 /// profile's own.
-#[derive(Clone, Copy, Debug, PartialEq, Eq, Hash)]
+#[derive(Clone, Copy, Debug, PartialEq, Eq)]
 pub enum Entry {
     Pattern(Pattern),
     Range(Range),

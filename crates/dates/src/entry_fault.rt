@@ -2,7 +2,7 @@ use std::error::Error;
 use std::fmt;
 
 /// Why a text spells no entry.
-#[derive(Clone, Copy, Debug, PartialEq, Eq, Hash)]
+#[derive(Clone, Copy, Debug)]
 pub enum EntryFault {
     /// E1: the text has none of the three forms.
     Shape,

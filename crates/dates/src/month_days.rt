@@ -6,7 +6,7 @@ use std::fmt;
 use std::marker::Model;
 
 /// A day of a month, from 1 to 31.
-#[derive(Clone, Copy, Debug, PartialEq, Eq, Hash)]
+#[derive(Clone, Copy, Debug, PartialEq, Eq)]
 pub struct MonthDay {
     number: u8,
 }
@@ -45,7 +45,7 @@ impl MonthDay {
 
 /// The days of the month that a date pattern names. The standard writes the last day as 32, the
 /// odd days as 33 and the even ones as 34.
-#[derive(Clone, Copy, Debug, PartialEq, Eq, Hash)]
+#[derive(Clone, Copy, Debug, PartialEq, Eq)]
 pub enum MonthDays {
     Any,
     Last,

@@ -6,7 +6,7 @@ use std::fmt;
 use std::marker::Model;
 
 /// A month from 1, January, to 12, December.
-#[derive(Clone, Copy, Debug, PartialEq, Eq, Hash)]
+#[derive(Clone, Copy, Debug, PartialEq, Eq)]
 pub struct Month {
     number: u8,
 }
@@ -45,7 +45,7 @@ impl Month {
 
 /// The months that a date pattern or a week-and-day names. The standard writes the odd months as
 /// 13 and the even ones as 14.
-#[derive(Clone, Copy, Debug, PartialEq, Eq, Hash)]
+#[derive(Clone, Copy, Debug, PartialEq, Eq)]
 pub enum Months {
     Any,
     Odd,

@@ -9,7 +9,7 @@ use std::fmt;
 /// A date pattern: the days that each of its four fields names (clause 21).
 ///
 /// A pattern may name no day, as 31 February does, or a weekday that contradicts its date.
-#[derive(Clone, Copy, Debug, PartialEq, Eq, Hash)]
+#[derive(Clone, Copy, Debug, PartialEq, Eq)]
 pub struct Pattern {
     /// The year, or any.
     pub year: Option<Year>,

@@ -8,7 +8,7 @@ use std::fmt;
 ///
 /// An end that is `None` is unspecified, and the range then goes on without limit. A range whose
 /// start is after its end holds on no day, which is this profile's own.
-#[derive(Clone, Copy, Debug, PartialEq, Eq, Hash)]
+#[derive(Clone, Copy, Debug, PartialEq, Eq)]
 pub struct Range {
     pub start: Option<Day>,
     pub end: Option<Day>,

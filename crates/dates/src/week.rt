@@ -6,7 +6,7 @@ use std::fmt;
 /// A week of a month: seven days counted from its start, or from its end.
 ///
 /// Weeks 1 to 6 are the standard's. Weeks 7 to 9 are this profile's own.
-#[derive(Clone, Copy, Debug, PartialEq, Eq, Hash)]
+#[derive(Clone, Copy, Debug, PartialEq, Eq)]
 pub enum Week {
     /// Week 1: the days 1 to 7.
     First,

@@ -6,7 +6,7 @@ use crate::{Day, EntryFault, Months, Week, Weekday, notation};
 use std::fmt;
 
 /// A week-and-day, the standard's WeekNDay: the days of a weekday in a week of a month.
-#[derive(Clone, Copy, Debug, PartialEq, Eq, Hash)]
+#[derive(Clone, Copy, Debug, PartialEq, Eq)]
 pub struct WeekNDay {
     pub months: Months,
     /// The week, or any.

@@ -6,7 +6,7 @@ use std::fmt;
 use std::marker::Model;
 
 /// A year from 1900 to 2154.
-#[derive(Clone, Copy, Debug, PartialEq, Eq, Hash)]
+#[derive(Clone, Copy, Debug, PartialEq, Eq)]
 pub struct Year {
     number: u16,
 }

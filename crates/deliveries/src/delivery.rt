@@ -4,7 +4,7 @@ use points::{Content, Name};
 use sched::CalendarEntry;
 
 /// One delivery, as it came: it may be a repeat, and come late or out of order.
-#[derive(Debug, Drop)]
+#[derive(Drop)]
 pub enum Delivery {
     /// A panel's command under a number of the panel's own, 1 to 1,000,000,000,000.
     Command {

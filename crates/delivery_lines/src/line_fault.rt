@@ -4,7 +4,7 @@ use std::alloc::{AllocError, AllocFailed};
 use store::StoreFault;
 
 /// Why a line is not answered.
-#[derive(Clone, Copy, Debug, PartialEq, Eq)]
+#[derive(Clone, Copy)]
 pub enum LineFault {
     /// The line tells no delivery.
     NotDelivery,

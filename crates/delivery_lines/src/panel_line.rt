@@ -13,7 +13,7 @@ use serde_json::Value;
 use texts::name_of;
 
 /// The content of a command, under its number.
-#[derive(Clone, Copy, Debug)]
+#[derive(Clone, Copy)]
 pub struct NumberedContent {
     pub number: i64,
     pub content: Content,

@@ -6,7 +6,7 @@ use points::Answer;
 use std::fmt;
 
 /// A reply as one JSON object, compact, its keys in byte order.
-#[derive(Clone, Copy, Debug, PartialEq, Eq)]
+#[derive(Clone, Copy)]
 pub struct ReplyText(pub Reply);
 
 impl fmt::Display for ReplyText {
@@ -93,7 +93,7 @@ impl fmt::Display for AnswerText {
 }
 
 /// The refusal of an import as one JSON object, compact, its keys in byte order.
-#[derive(Clone, Copy, Debug, PartialEq, Eq)]
+#[derive(Clone, Copy)]
 pub struct RefusedImportText(pub ImportFault);
 
 impl fmt::Display for RefusedImportText {

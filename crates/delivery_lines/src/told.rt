@@ -4,7 +4,7 @@ use deliveries::Delivery;
 use holidays::ImportFault;
 
 /// What a line tells.
-#[derive(Debug, Drop)]
+#[derive(Drop)]
 pub enum Told {
     Delivery(Delivery),
     /// An import whose holiday list is at fault, so that nothing is delivered.

@@ -2,7 +2,7 @@
 use points::PriorityArray;
 
 /// A point's priority array, and what it presents.
-#[derive(Debug, Drop)]
+#[derive(Drop)]
 pub struct PointState {
     pub places: PriorityArray,
     /// The present value.

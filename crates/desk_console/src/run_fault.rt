@@ -11,7 +11,7 @@ use std::{fmt, io};
 use store::StoreFault;
 
 /// Why a run of the program stopped. Its text is the line of the fault end, without the line end.
-#[derive(Clone, Copy, Debug, PartialEq, Eq)]
+#[derive(Clone, Copy)]
 pub enum RunFault<'a> {
     /// The file of this path can't be read.
     CannotRead { path: &'a str },

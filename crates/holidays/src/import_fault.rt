@@ -6,7 +6,7 @@ use std::error::Error;
 use std::fmt;
 
 /// What is wrong in a record of a holiday list. It is printed as its number, I1 to I5.
-#[derive(Clone, Copy, Debug, PartialEq, Eq)]
+#[derive(Clone, Copy, Debug)]
 pub enum ImportCause {
     /// I1: a record that is not UTF-8, or has another number of fields than the header.
     NotCsv,
@@ -50,7 +50,7 @@ impl fmt::Display for ImportCause {
 }
 
 /// What is wrong in a holiday list, and in which record. It is printed as `I3 record 3`.
-#[derive(Clone, Copy, Debug, PartialEq, Eq)]
+#[derive(Clone, Copy, Debug)]
 pub struct ImportFault {
     pub cause: ImportCause,
     /// The number of the record, from 1 for the header. Empty lines are no records.

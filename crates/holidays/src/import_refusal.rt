@@ -6,7 +6,7 @@ use std::error::Error;
 use std::fmt;
 
 /// Why a holiday list is not read.
-#[derive(Clone, Copy, Debug, PartialEq, Eq)]
+#[derive(Clone, Copy, Debug)]
 pub enum ImportRefusal {
     /// The list is at fault.
     Fault(ImportFault),

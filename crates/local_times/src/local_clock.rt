@@ -17,7 +17,7 @@ const NANOSECONDS: i128 = 10_000_000;
 const FIRST_YEAR: i16 = 1970;
 
 /// What a clock shows: the day, and the time of that day.
-#[derive(Clone, Copy, Debug, PartialEq, Eq)]
+#[derive(Clone, Copy)]
 pub struct LocalTime {
     pub day: Day,
     pub time: Time,

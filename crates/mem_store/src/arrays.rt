@@ -13,7 +13,7 @@ use std::collections::HashMap;
 use store::PlaceValue;
 
 /// The priority arrays of points. A point without values may have an array too, which makes room for them.
-#[derive(Debug, Drop)]
+#[derive(Drop)]
 pub struct Arrays {
     arrays: HashMap<Name, PriorityArray>,
 }

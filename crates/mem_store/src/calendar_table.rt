@@ -14,7 +14,7 @@ use std::alloc::{AllocError, Global};
 use std::collections::BTreeMap;
 
 /// Entries by their texts. A text whose entry is not imported may stand here too, which makes room for it.
-#[derive(Debug, Drop)]
+#[derive(Drop)]
 pub struct CalendarTable {
     pub entries: BTreeMap<String, Option<Entry>>,
     ghost are_spelled: { AreSpelled entries } by { Prim.hlevel props },

@@ -17,7 +17,7 @@ use std::alloc::{AllocError, Global};
 use std::collections::BTreeMap;
 
 /// The imported entries of calendars. A calendar without one may have a table too, which makes room for it.
-#[derive(Debug, Drop)]
+#[derive(Drop)]
 pub struct Calendars {
     tables: BTreeMap<Name, CalendarTable>,
 }

@@ -17,7 +17,7 @@ use store::{Change, Names, Store, StoreFault};
 
 /// A store that keeps its tables in memory, and so as long as the program runs. It fails for want of memory
 /// alone.
-#[derive(Debug, Drop)]
+#[derive(Drop)]
 pub struct MemStore {
     alloc: Global,
     panels: Panels,

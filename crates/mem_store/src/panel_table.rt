@@ -15,7 +15,7 @@ const DROPPED_AT_ONCE: u64 = 64;
 
 /// The next number of a panel, and the rows of its commands. A number without a row may have an entry,
 /// which makes room for a row. An entry at a number below `first` counts no more.
-#[derive(Debug, Drop)]
+#[derive(Drop)]
 pub struct PanelTable {
     pub next: u64,
     pub first: u64,

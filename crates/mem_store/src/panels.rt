@@ -16,7 +16,7 @@ use store::{KeptRow, NextNumber, RowsBelow};
 
 /// The next numbers of panels and the rows of their commands. A panel of which nothing is kept may have a
 /// table too, which makes room for it.
-#[derive(Debug, Drop)]
+#[derive(Drop)]
 pub struct Panels {
     tables: HashMap<Name, PanelTable>,
 }

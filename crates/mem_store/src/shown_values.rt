@@ -13,7 +13,7 @@ use std::collections::BTreeMap;
 use store::ShownValue;
 
 /// What schedules show. A quiet schedule may have an entry too, which makes room for what it shows.
-#[derive(Debug, Drop)]
+#[derive(Drop)]
 pub struct ShownValues {
     values: BTreeMap<Name, Option<Option<i64>>>,
 }

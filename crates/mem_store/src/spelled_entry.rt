@@ -6,7 +6,7 @@ use std::alloc::{AllocError, Global};
 use store::ImportedEntry;
 
 /// An entry to be imported, with the text that spells it.
-#[derive(Debug, Drop)]
+#[derive(Drop)]
 pub struct SpelledEntry {
     pub item: ImportedEntry,
     pub text: String,

@@ -21,7 +21,7 @@ use store::{KeptRow, PlaceValue, Store, StoreFault};
 use window::NumberedContent;
 
 /// What a panel's commands make: a row for each, and the places that they write.
-#[derive(Debug, Drop)]
+#[derive(Drop)]
 pub struct Acted {
     pub rows: Vec<KeptRow>,
     pub places: Vec<PlaceValue>,

@@ -3,7 +3,7 @@
 use store::StoreFault;
 
 /// Why a request has no response of its own.
-#[derive(Clone, Copy, Debug, PartialEq, Eq)]
+#[derive(Clone, Copy)]
 pub enum Unanswered {
     /// Memory was refused, and nothing was delivered.
     NoMemory,

@@ -3,7 +3,7 @@ use crate::answer::Answer;
 use crate::content::Content;
 
 /// Where a kept command stands.
-#[derive(Clone, Copy, Debug, PartialEq, Eq)]
+#[derive(Clone, Copy, Debug)]
 pub enum CommandState {
     /// It came before a lower number of its panel, and waits for it.
     Parked,
@@ -12,7 +12,7 @@ pub enum CommandState {
 }
 
 /// A command that was accepted from a panel, as it is kept under its number.
-#[derive(Clone, Copy, Debug, PartialEq, Eq)]
+#[derive(Clone, Copy, Debug)]
 pub struct CommandRow {
     pub content: Content,
     pub state: CommandState,

@@ -12,7 +12,7 @@ pub const LEAST_ANALOG: i64 = -1_000_000_000;
 pub const GREATEST_ANALOG: i64 = 1_000_000_000;
 
 /// The kind of a point, and so the values that may stand in it. NULL lies in every kind.
-#[derive(Clone, Copy, Debug, PartialEq, Eq)]
+#[derive(Clone, Copy)]
 pub enum Kind {
     /// 0 inactive, 1 active.
     Binary,

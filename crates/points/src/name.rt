@@ -50,7 +50,7 @@ impl Model for Name {
 }
 
 /// Why a text is no name.
-#[derive(Clone, Copy, Debug, PartialEq, Eq)]
+#[derive(Clone, Copy, Debug)]
 pub enum NameFault {
     /// The text is empty.
     Empty,

@@ -11,7 +11,7 @@ use std::marker::Model;
 
 /// Names, each once, in the order in which they came. One is found by an index, in about the same time
 /// whatever their number. Contracts see the list.
-#[derive(Debug, Drop)]
+#[derive(Drop)]
 pub struct Names {
     names: Vec<Name>,
     places: HashMap<Name, usize>,

@@ -4,7 +4,7 @@ use crate::names::Names;
 use listing::Listing;
 
 /// A panel: what it may write, and with which priorities (this profile's choice).
-#[derive(Debug, Drop)]
+#[derive(Drop)]
 pub struct Panel {
     pub name: Name,
     /// The names of the points that are granted to it, found by an index.

@@ -3,7 +3,7 @@ use crate::kind::Kind;
 use crate::name::Name;
 
 /// A point with a priority array.
-#[derive(Debug, Drop)]
+#[derive(Drop)]
 pub struct Point {
     pub name: Name,
     pub kind: Kind,

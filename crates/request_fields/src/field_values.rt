@@ -9,7 +9,7 @@ ghost use Rattle.request_fields.specs.BodyLength.{only, values_of};
 use httparse::spans::HeaderSpan;
 
 /// Two fields have the name.
-#[derive(Clone, Copy, Debug)]
+#[derive(Clone, Copy)]
 pub(crate) struct Repeated;
 
 /// The value of the one field of a name, if there is one. Names are compared without regard to case.

@@ -2,7 +2,7 @@
 use httparse::spans::RequestSpans;
 
 /// A request's head at the front of a buffer.
-#[derive(Clone, Copy, Debug, PartialEq, Eq)]
+#[derive(Clone, Copy)]
 pub struct FoundHead {
     /// Where the parts of the head are, and how far it goes.
     pub spans: RequestSpans,
@@ -11,7 +11,7 @@ pub struct FoundHead {
 }
 
 /// What was seen of an input.
-#[derive(Clone, Copy, Debug, PartialEq, Eq)]
+#[derive(Clone, Copy)]
 pub enum Seen {
     /// The input begins with a head.
     Head(FoundHead),

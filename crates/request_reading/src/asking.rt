@@ -14,7 +14,7 @@ use response_texts::Refusal;
 use texts::text_of;
 
 /// What a head asks.
-#[derive(Clone, Copy, Debug)]
+#[derive(Clone, Copy)]
 pub(crate) struct AskedRoute<'a> {
     pub(crate) route: Route<'a>,
     /// The number of bytes of the body: 0 for a route of GET, past whose head nothing is looked at.

@@ -7,7 +7,7 @@ use response_texts::Refusal;
 use std::alloc::AllocError;
 
 /// What an input asks of the desk.
-#[derive(Debug, Drop)]
+#[derive(Drop)]
 pub enum Request {
     /// It is refused.
     Refused(Refusal),
@@ -20,7 +20,7 @@ pub enum Request {
 }
 
 /// Why nothing was read of an input.
-#[derive(Clone, Copy, Debug, PartialEq, Eq)]
+#[derive(Clone, Copy)]
 pub enum Unread {
     /// The input ended before its first byte.
     NoInput,

@@ -5,7 +5,7 @@ use delivery_lines::Told;
 use holidays::ImportFault;
 
 /// What the body of a request tells.
-#[derive(Debug, Drop)]
+#[derive(Drop)]
 pub enum BodyTold {
     Delivery(Delivery),
     /// A command or a skip of a panel whose part of the target has no name's shape, so that no building has it.

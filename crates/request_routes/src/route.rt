@@ -5,7 +5,7 @@ ghost use Rattle.request_routes.specs.Routes.{asked_of, limit_of};
 
 /// What a request asks, with the parameter of its route: one segment of the target that isn't empty, as it
 /// stands. Where the target has a byte past ASCII the parameter is `None`: no name and no date has such a byte.
-#[derive(Clone, Copy, Debug)]
+#[derive(Clone, Copy)]
 pub enum Route<'a> {
     /// `POST /panels/{panel}/commands`: delivers a command.
     Commands {

@@ -9,7 +9,7 @@ use http::StatusCode;
 use std::alloc::{AllocError, Global};
 
 /// Why a request is refused, before it is asked what it tells.
-#[derive(Clone, Copy, Debug, PartialEq, Eq)]
+#[derive(Clone, Copy)]
 pub enum Refusal {
     /// H1: the input begins with no head, within 8,192 bytes and 64 fields.
     NoHead,

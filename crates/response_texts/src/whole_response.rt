@@ -15,7 +15,7 @@ pub struct Response {
 }
 
 /// The type of a body.
-#[derive(Clone, Copy, Debug)]
+#[derive(Clone, Copy)]
 pub(crate) enum ContentType {
     Json,
     PlainText,

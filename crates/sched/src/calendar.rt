@@ -6,13 +6,13 @@ use dates::{Day, Entry};
 use listing::Listing;
 
 /// A calendar's place in the building's file, from 0.
-#[derive(Clone, Copy, Debug, PartialEq, Eq)]
+#[derive(Clone, Copy)]
 pub struct CalId {
     pub place: usize,
 }
 
 /// An entry for a calendar.
-#[derive(Clone, Copy, Debug, PartialEq, Eq)]
+#[derive(Clone, Copy)]
 pub struct CalendarEntry {
     pub calendar: CalId,
     pub entry: Entry,
@@ -20,7 +20,7 @@ pub struct CalendarEntry {
 
 /// A calendar (12.9): it holds on the days of its entries, those of the file and the imported ones
 /// together.
-#[derive(Debug, Drop)]
+#[derive(Drop)]
 pub struct Calendar {
     pub entries: Listing<Entry>,
 }

@@ -8,7 +8,7 @@ use crate::time::Time;
 use dates::{Day, Entry};
 
 /// The days on which an exception is in effect (12.24).
-#[derive(Clone, Copy, Debug, PartialEq, Eq)]
+#[derive(Clone, Copy)]
 pub enum Period {
     /// The days of an entry.
     Entry(Entry),
@@ -31,7 +31,7 @@ impl Period {
 }
 
 /// An exception of a schedule (12.24).
-#[derive(Debug, Drop)]
+#[derive(Drop)]
 pub struct Exception {
     pub period: Period,
     /// The EventPriority, 1 the highest to 16 the lowest. It has nothing to do with the priority at which

@@ -10,7 +10,7 @@ use dates::{Day, Range, Weekday};
 use listing::Listing;
 
 /// What a schedule says of each day (12.24), without what it writes to.
-#[derive(Debug, Drop)]
+#[derive(Drop)]
 pub struct Schedule {
     /// The days on which the schedule is active.
     pub effective_period: Range,

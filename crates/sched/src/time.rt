@@ -9,7 +9,7 @@ pub const HUNDREDTHS_A_DAY: u32 = 8_640_000;
 
 /// A time of day, fully specified: hundredths of a second since midnight, 0 to 8,639,999. Contracts see
 /// it as that number.
-#[derive(Clone, Copy, Debug, PartialEq, Eq, PartialOrd, Ord)]
+#[derive(Clone, Copy, PartialEq, Eq, PartialOrd, Ord)]
 pub struct Time {
     hundredths: u32,
 }

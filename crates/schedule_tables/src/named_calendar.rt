@@ -5,7 +5,7 @@ use rosters::Named;
 use sched::Calendar;
 
 /// A calendar of the building, with the entries of the file (12.9).
-#[derive(Debug, Drop)]
+#[derive(Drop)]
 pub struct NamedCalendar {
     pub name: Name,
     pub calendar: Calendar,

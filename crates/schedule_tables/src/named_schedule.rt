@@ -6,7 +6,7 @@ use sched::Schedule;
 
 /// What becomes of the places that a schedule wrote last, on a day outside its effective period (this
 /// profile's choice).
-#[derive(Clone, Copy, Debug, PartialEq, Eq)]
+#[derive(Clone, Copy)]
 pub enum OnLeave {
     /// They stay as they are.
     Stay,
@@ -15,7 +15,7 @@ pub enum OnLeave {
 }
 
 /// A schedule of the building: what it says of each day, and where it writes that (12.24).
-#[derive(Debug, Drop)]
+#[derive(Drop)]
 pub struct NamedSchedule {
     pub name: Name,
     /// The priority at which it writes, 1 to 16 and not 6.

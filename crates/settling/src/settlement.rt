@@ -20,7 +20,7 @@ use std::alloc::{AllocError, Global};
 use store::{ImportedEntry, PlaceValue, ShownValue, Store, StoreFault};
 
 /// What the schedules write, and what of them changes that is shown.
-#[derive(Debug, Drop)]
+#[derive(Drop)]
 pub struct Settlement {
     /// The places that are written, in this order: of two values for one place the later counts.
     pub places: Vec<PlaceValue>,
@@ -28,7 +28,7 @@ pub struct Settlement {
 }
 
 // What schedules wrote so far: the places that leaving ones clear, those that due ones put, and what is shown.
-#[derive(Debug, Drop)]
+#[derive(Drop)]
 struct Written {
     cleared: Vec<PlaceValue>,
     put: Vec<PlaceValue>,

@@ -2,7 +2,7 @@
 use stored_rows::ReadFault;
 
 /// Why a database was not taken.
-#[derive(Clone, Copy, Debug, PartialEq, Eq)]
+#[derive(Clone, Copy, PartialEq, Eq)]
 pub enum OpenFault {
     /// The database refused, or it failed.
     Sql(sqlite::Error),

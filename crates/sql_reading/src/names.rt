@@ -34,7 +34,7 @@ const LEAST_NUMBER: u64 = 1;
 const PAST_PRIORITIES: u64 = 17;
 
 /// One of the four lists of names.
-#[derive(Clone, Copy, Debug, PartialEq, Eq)]
+#[derive(Clone, Copy)]
 pub enum NameList {
     Panels,
     Points,

@@ -6,7 +6,7 @@ use points::{CommandRow, Name};
 use std::alloc::Global;
 
 /// The next number of a panel.
-#[derive(Clone, Copy, Debug, PartialEq, Eq)]
+#[derive(Clone, Copy)]
 pub struct NextNumber {
     pub panel: Name,
     /// 1 to 1,000,000,000,001.
@@ -14,7 +14,7 @@ pub struct NextNumber {
 }
 
 /// A row under a number of a panel.
-#[derive(Clone, Copy, Debug, PartialEq, Eq)]
+#[derive(Clone, Copy)]
 pub struct KeptRow {
     pub panel: Name,
     /// 1 to 1,000,000,000,000.
@@ -23,14 +23,14 @@ pub struct KeptRow {
 }
 
 /// Of a panel the rows below a number.
-#[derive(Clone, Copy, Debug, PartialEq, Eq)]
+#[derive(Clone, Copy)]
 pub struct RowsBelow {
     pub panel: Name,
     pub number: u64,
 }
 
 /// A value in a place of a point's priority array.
-#[derive(Clone, Copy, Debug, PartialEq, Eq)]
+#[derive(Clone, Copy)]
 pub struct PlaceValue {
     pub point: Name,
     /// 1 to 16.
@@ -40,7 +40,7 @@ pub struct PlaceValue {
 }
 
 /// What a schedule shows.
-#[derive(Clone, Copy, Debug, PartialEq, Eq)]
+#[derive(Clone, Copy)]
 pub struct ShownValue {
     pub schedule: Name,
     /// A value or NULL; `None` where the schedule is quiet.
@@ -48,7 +48,7 @@ pub struct ShownValue {
 }
 
 /// An entry that is imported into a calendar.
-#[derive(Clone, Copy, Debug, PartialEq, Eq)]
+#[derive(Clone, Copy)]
 pub struct ImportedEntry {
     pub calendar: Name,
     pub entry: Entry,
@@ -56,7 +56,7 @@ pub struct ImportedEntry {
 
 /// What one commit changes: lists of what is put into the tables, in this order. Of two items of one list
 /// with the same key the later counts.
-#[derive(Debug, Drop)]
+#[derive(Drop)]
 pub struct Change {
     pub nexts: Vec<NextNumber>,
     pub rows: Vec<KeptRow>,

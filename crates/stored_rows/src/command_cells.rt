@@ -17,7 +17,7 @@ use sqlite::Row;
 use sqlite_value::value::ValueRef;
 
 /// The cells of a command's state: its number, and what belongs to it.
-#[derive(Clone, Copy, Debug, PartialEq, Eq)]
+#[derive(Clone, Copy)]
 pub struct StateCells {
     /// 0 for parked, 1 for done, 2 for refused.
     pub code: i64,

@@ -1,7 +1,7 @@
 //! Why a row or a statement told nothing.
 
 /// Why a row or a statement told nothing.
-#[derive(Clone, Copy, Debug, PartialEq, Eq)]
+#[derive(Clone, Copy)]
 pub enum ReadFault {
     /// The database refused, or it failed.
     Sql(sqlite::Error),

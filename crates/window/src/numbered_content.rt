@@ -2,7 +2,7 @@
 use points::Content;
 
 /// A command's content under its number.
-#[derive(Clone, Copy, Debug, PartialEq, Eq)]
+#[derive(Clone, Copy)]
 pub struct NumberedContent {
     pub number: u64,
     pub content: Content,

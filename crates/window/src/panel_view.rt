@@ -2,7 +2,7 @@
 use points::{CommandRow, Listing, NumberedRow};
 
 /// What is kept of a panel, as far as one command or skip needs it.
-#[derive(Debug, Drop)]
+#[derive(Drop)]
 pub struct PanelView {
     /// The least number that is not acted on yet and not given up: 1 or more.
     pub next: u64,

@@ -4,7 +4,7 @@ use crate::verdict::Verdict;
 use points::Listing;
 
 /// What is to be done for one command or skip.
-#[derive(Debug, Drop)]
+#[derive(Drop)]
 pub struct Plan {
     /// The next number of the panel afterwards.
     pub next: u64,

@@ -7,7 +7,7 @@ use crate::{LAST_NUMBER, WINDOW};
 
 /// Where a run of rows begins, and up to where it goes at least: from `upto` on it goes as far as the rows
 /// follow without gap.
-#[derive(Clone, Copy, Debug, PartialEq, Eq)]
+#[derive(Clone, Copy)]
 pub struct RunNeeded {
     pub from: u64,
     /// `from` or more.

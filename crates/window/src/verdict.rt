@@ -2,7 +2,7 @@
 use points::CommandState;
 
 /// What becomes of a command, or of a skip.
-#[derive(Clone, Copy, Debug, PartialEq, Eq)]
+#[derive(Clone, Copy)]
 pub enum Verdict {
     /// It is acted on now.
     Applies,
