@@ -2,14 +2,14 @@
 use Rattle.std.specs.Prelude.{IsTrue, List, map}
 use Rattle.std.specs.List.{list_all}
 use Rattle.jiff_tz.specs.declared.timezone.TimeZone.{TimeZone}
-use Rattle.device_tables.specs.PanelTable.{is_sound_panel}
-use Rattle.device_tables.specs.PointTable.{is_sound_point}
+use Rattle.building.specs.PanelTable.{is_sound_panel}
+use Rattle.building.specs.PointTable.{is_sound_point}
 use Rattle.points.specs.declared.Panel.{Panel}
 use Rattle.points.specs.declared.Point.{Point}
 use Rattle.rosters.specs.Roster.{are_distinct}
-use Rattle.schedule_tables.specs.declared.named_calendar.NamedCalendar.{NamedCalendar}
-use Rattle.schedule_tables.specs.declared.named_schedule.NamedSchedule.{NamedSchedule}
-use Rattle.schedule_tables.specs.ScheduleTable.{is_sound_schedule}
+use Rattle.building.specs.declared.named_calendar.NamedCalendar.{NamedCalendar}
+use Rattle.building.specs.declared.named_schedule.NamedSchedule.{NamedSchedule}
+use Rattle.building.specs.ScheduleTable.{is_sound_schedule}
 use Rattle.zone_rules.specs.ZoneRule.{rule_text}
 use Rattle.building.specs.BuildingFile.{Contents}
 

@@ -10,15 +10,15 @@ use Rattle.building_fault.specs.declared.key.Key.TheVariants as key
 use Rattle.building_fault.specs.declared.section.Section.TheVariants as section
 use Rattle.building_fault.specs.FaultAt.{fault_at}
 use Rattle.building_fault.specs.Steps.{◌>>=◌, or_fault, where_holds}
-use Rattle.device_tables.specs.PanelTable.{panel_in}
-use Rattle.device_tables.specs.PointTable.{point_in}
-use Rattle.named_tables.specs.Section.{each_table, table_in}
+use Rattle.building.specs.PanelTable.{panel_in}
+use Rattle.building.specs.PointTable.{point_in}
+use Rattle.building.specs.Section.{each_table, table_in}
 use Rattle.points.specs.declared.Panel.{Panel}
 use Rattle.points.specs.declared.Point.{Point}
-use Rattle.schedule_tables.specs.declared.named_calendar.NamedCalendar.{NamedCalendar}
-use Rattle.schedule_tables.specs.declared.named_schedule.NamedSchedule.{NamedSchedule}
-use Rattle.schedule_tables.specs.CalendarTable.{calendar_in}
-use Rattle.schedule_tables.specs.ScheduleTable.{schedule_in}
+use Rattle.building.specs.declared.named_calendar.NamedCalendar.{NamedCalendar}
+use Rattle.building.specs.declared.named_schedule.NamedSchedule.{NamedSchedule}
+use Rattle.building.specs.CalendarTable.{calendar_in}
+use Rattle.building.specs.ScheduleTable.{schedule_in}
 use Rattle.texts.specs.Texts.{text_of}
 use Rattle.building.specs.TopTable.{Top, top_in, top_location}
 

@@ -1,3 +1,17 @@
 pub mod Building
 pub mod BuildingFile
+pub mod CalendarTable
+pub mod DayValues
+pub mod EntryText
+pub mod ExceptionTable
+pub mod Fields
+pub mod Items
+pub mod Kinds
+pub mod PanelTable
+pub mod PointTable
+pub mod Priority
+pub mod Reference
+pub mod ScheduleTable
+pub mod Section
+pub mod TimeLists
 pub mod TopTable

@@ -13,8 +13,8 @@ use Rattle.building_fault.specs.declared.section.Section.TheVariants as section
 use Rattle.building_fault.specs.FaultAt.{fault_at}
 use Rattle.building_fault.specs.Steps.{◌>>=◌, or_fault}
 use Rattle.building.specs.declared.top_table.TopTable.{TopTable}
-use Rattle.toml_fields.specs.Fields.{known_keys, optional_list_at, text_at}
-use Rattle.toml_fields.specs.Items.{all_tables, at_most}
+use Rattle.building.specs.Fields.{known_keys, optional_list_at, text_at}
+use Rattle.building.specs.Items.{all_tables, at_most}
 use Rattle.zone_rules.specs.ZoneRule.{rule_text}
 use Rattle.std.specs.Prelude.{false}
 

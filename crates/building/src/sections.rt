@@ -4,17 +4,21 @@ ghost use Rattle.std.specs.Prelude.{◌≡◌, IfOk, IsTrue};
 ghost use Rattle.std.specs.List.{list_all};
 ghost use Rattle.toml.specs.View.{items_view};
 ghost use Rattle.building_fault.specs.Answers.{Answers};
-ghost use Rattle.device_tables.specs.PanelTable.{is_sound_panel};
-ghost use Rattle.device_tables.specs.PointTable.{is_sound_point};
-ghost use Rattle.schedule_tables.specs.ScheduleTable.{is_sound_schedule};
+ghost use Rattle.building.specs.PanelTable.{is_sound_panel};
+ghost use Rattle.building.specs.PointTable.{is_sound_point};
+ghost use Rattle.building.specs.ScheduleTable.{is_sound_schedule};
 ghost use Rattle.building.specs.BuildingFile.{calendars_in, panels_in, points_in, schedules_in};
 
+use crate::calendar_table::CalendarTable;
+use crate::named_calendar::NamedCalendar;
+use crate::named_schedule::NamedSchedule;
+use crate::panel_table::PanelTable;
+use crate::point_table::PointTable;
+use crate::schedule_table::ScheduleTable;
+use crate::section_tables::read_section;
 use building_fault::{BuildingFault, Key, Section};
-use device_tables::{PanelTable, PointTable};
-use named_tables::read_section;
 use points::{Panel, Point};
 use rosters::Roster;
-use schedule_tables::{CalendarTable, NamedCalendar, NamedSchedule, ScheduleTable};
 use std::alloc::Global;
 use toml::Value;
 

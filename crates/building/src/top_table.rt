@@ -6,9 +6,9 @@ ghost use Rattle.building_fault.specs.Steps.{result_map};
 ghost use Rattle.zone_rules.specs.ZoneRule.{rule_text};
 ghost use Rattle.building.specs.TopTable.{section_at, section_of, section_or_none, top_in, top_of, zone_at};
 
+use crate::fields::Fields;
 use building_fault::{Cause, FileFault, Key, Location};
 use toml::{Table, Value};
-use toml_fields::Fields;
 use zone_rules::ZoneRule;
 
 /// The points that a building has at most (this profile's limit).

@@ -11,7 +11,7 @@ use Rattle.dates.specs.declared.entry.Entry.{Entry}
 use Rattle.dates.specs.declared.entry_fault.EntryFault.{EntryFault}
 use Rattle.dates.specs.Entry.{IsEntry, reading, spelling}
 use Rattle.dates.proofs.SpelledReads.{reading-text}
-use Rattle.schedule_tables.specs.declared.named_calendar.NamedCalendar.{NamedCalendar}
+use Rattle.building.specs.declared.named_calendar.NamedCalendar.{NamedCalendar}
 use Rattle.settling.specs.Calendars.{Tells, texts_for, with_items}
 use Rattle.settling.proofs.HoldLemmas.{any-contained, both_ways, contained-any}
 use Rattle.store.specs.declared.change.ImportedEntry.{ImportedEntry}

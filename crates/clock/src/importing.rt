@@ -12,12 +12,11 @@ ghost use Rattle.store.specs.Tables.{Text};
 
 use crate::changing::settled_change;
 use crate::known::is_known;
-use building::Building;
+use building::{Building, NamedCalendar};
 use dates::Entry;
 use deliveries::{Reply, refused_record};
 use local_times::{LocalTime, local_time};
 use sched::CalendarEntry;
-use schedule_tables::NamedCalendar;
 use std::alloc::Global;
 use store::{ImportedEntry, Store, StoreFault};
 

@@ -13,7 +13,7 @@ ghost use Rattle.store.specs.Tables.{Text};
 
 use dates::Entry;
 use points::Name;
-use schedule_tables::NamedCalendar;
+use building::NamedCalendar;
 use store::{ImportedEntry, Store, StoreFault};
 
 // Whether two entries are written alike, as equal ones are.

@@ -2,7 +2,8 @@
 use sqlite::Connection;
 use std::alloc::Global;
 use std::test::Fail;
-use store_sql::{OpenFault, SqlStore};
+use store::OpenFault;
+use store_sql::SqlStore;
 
 // The tables of a database in memory that has nothing yet.
 fn made(alloc: Global) -> Result<SqlStore<sqlite::MemStore>, Fail> {

@@ -7,7 +7,8 @@ use std::alloc::{AllocError, Global};
 use std::fmt::Write;
 use std::io;
 use std::test::Fail;
-use store_sql::{OpenFault, SqlStore};
+use store::OpenFault;
+use store_sql::SqlStore;
 
 /// After so many pages the log is copied into the database file: few, so that it happens in the midst of a script.
 const CHECKPOINT_FRAMES: usize = 16;

@@ -5,7 +5,7 @@ use Rattle.std.specs.List.{flat_map}
 use Rattle.jiff_core.specs.declared.civil.date.Date.{Date}
 use Rattle.sched.specs.declared.calendar.Calendar.{Calendar}
 use Rattle.sched.specs.Segments.{segments_of}
-use Rattle.schedule_tables.specs.declared.named_schedule.NamedSchedule.{NamedSchedule}
+use Rattle.building.specs.declared.named_schedule.NamedSchedule.{NamedSchedule}
 use Rattle.settling.specs.Calendars.{hold_on, with_items}
 use Rattle.settling.proofs.ValueLemmas.{schedule_value-same}
 use Rattle.std.proofs.lemmas.List.{append-nil}

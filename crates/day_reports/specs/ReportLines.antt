@@ -12,7 +12,7 @@ use Rattle.sched.specs.declared.day_list.TimeValue.{TimeValue}
 use Rattle.sched.specs.Schedule.{is_active, schedule_value}
 use Rattle.sched.specs.Segments.{segments_of}
 use Rattle.sched.specs.TimeText.{time_text}
-use Rattle.schedule_tables.specs.declared.named_schedule.NamedSchedule.{NamedSchedule}
+use Rattle.building.specs.declared.named_schedule.NamedSchedule.{NamedSchedule}
 
 -- from Monday on
 abbrev pub weekday_names : List Text

@@ -6,7 +6,7 @@ ghost use Rattle.day_reports.specs.ReportLines.{activity, day_line, schedule_lin
 use dates::{Day, weekday_name};
 use point_lines::push_right;
 use sched::{Calendar, TimeValue};
-use schedule_tables::NamedSchedule;
+use building::NamedSchedule;
 use std::alloc::{AllocError, Global};
 
 /// The places of a value.

@@ -9,12 +9,11 @@ ghost use Rattle.store.specs.Standing.{IsOpen, Reads};
 ghost use Rattle.store.specs.Tables.{Text};
 
 use crate::report_lines::{day_line, push_schedule};
-use building::Building;
+use building::{Building, NamedSchedule};
 use dates::Day;
 use point_lines::point_line;
 use points::Point;
 use sched::Calendar;
-use schedule_tables::NamedSchedule;
 use settling::calendars_today;
 use std::alloc::{AllocError, Global};
 use store::{Store, StoreFault};

@@ -12,7 +12,7 @@ use Rattle.deliveries.specs.Tables.{tables}
 use Rattle.local_times.specs.declared.local_clock.LocalTime.{LocalTime}
 use Rattle.rosters.specs.Roster.{are_distinct}
 use Rattle.sched.specs.declared.calendar.CalendarEntry.{CalendarEntry}
-use Rattle.schedule_tables.specs.declared.named_schedule.NamedSchedule.{NamedSchedule}
+use Rattle.building.specs.declared.named_schedule.NamedSchedule.{NamedSchedule}
 use Rattle.settling.specs.Settled.{Shown}
 use Rattle.store.specs.Change.{with_each, with_shown}
 use Rattle.store.specs.Tables.{Text}

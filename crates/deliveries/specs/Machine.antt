@@ -16,7 +16,7 @@ use Rattle.building.specs.Building.{Building}
 use Rattle.local_times.specs.declared.local_clock.LocalTime.{LocalTime}
 use Rattle.local_times.specs.LocalTimes.{local_at}
 use Rattle.sched.specs.declared.calendar.CalendarEntry.{CalendarEntry}
-use Rattle.schedule_tables.specs.declared.named_calendar.NamedCalendar.{NamedCalendar}
+use Rattle.building.specs.declared.named_calendar.NamedCalendar.{NamedCalendar}
 use Rattle.settling.specs.Calendars.{calendars_of, with_items}
 use Rattle.settling.specs.Settled.{Now, Shown, told, written}
 use Rattle.store.specs.declared.change.ImportedEntry.{ImportedEntry}

@@ -9,9 +9,9 @@ use Rattle.std.proofs.lemmas.Slice.Eq.{bytes_eq-Decides}
 use Rattle.points.specs.PriorityArray.{Places}
 use Rattle.rosters.proofs.RosterLemmas.{among-map}
 use Rattle.sched.specs.declared.calendar.CalendarEntry.{CalendarEntry}
-use Rattle.schedule_tables.specs.declared.named_calendar.NamedCalendar.{NamedCalendar}
-use Rattle.schedule_tables.specs.declared.named_schedule.NamedSchedule.{NamedSchedule}
-use Rattle.schedule_tables.specs.ScheduleTable.{is_sound_schedule}
+use Rattle.building.specs.declared.named_calendar.NamedCalendar.{NamedCalendar}
+use Rattle.building.specs.declared.named_schedule.NamedSchedule.{NamedSchedule}
+use Rattle.building.specs.ScheduleTable.{is_sound_schedule}
 use Rattle.settling.specs.Calendars.{texts_for, with_items}
 use Rattle.settling.specs.Settled.{Now, Shown, cleared_by, falls_quiet, is_due, put_by, releases, told, value_of, written}
 use Rattle.store.specs.declared.change.PlaceValue.{PlaceValue}

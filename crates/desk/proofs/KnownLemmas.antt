@@ -35,7 +35,7 @@ use Rattle.deliveries.specs.Tables.{row_at, row_of, tables}
 use Rattle.deliveries.proofs.StepLemmas.{next-tables}
 use Rattle.deliveries.specs.Delivered.{Holds}
 use Rattle.local_times.specs.declared.local_clock.LocalTime.{LocalTime}
-use Rattle.schedule_tables.specs.ScheduleTable.{is_sound_schedule}
+use Rattle.building.specs.ScheduleTable.{is_sound_schedule}
 use Rattle.desk.specs.Opening.{AreKnown, Opens, Suits, has_calendar, has_panel, has_point, has_schedule, is_ticked}
 use Rattle.panel_commands.proofs.DeliverLemmas.{none_of}
 use Rattle.desk.proofs.ClockNames.{imported-no_calendar, settled-no_point, settled-no_schedule}

@@ -2,10 +2,11 @@
 ghost use Rattle.std.specs.Prelude.{◌≡◌};
 ghost use Rattle.sqlite.specs.declared.error.Error.TheVariants.{SqliteFailure};
 ghost use Rattle.sqlite.specs.declared.error.ErrorCode.TheVariants.{OutOfMemory};
-ghost use Rattle.store_sql.specs.declared.open_fault.OpenFault.TheVariants.{Failed, NoMemory};
+ghost use Rattle.store.specs.declared.open_fault.OpenFault.TheVariants.{Failed, NoMemory};
 
 use sqlite::{Connection, Error, ErrorCode, File, FileStore};
-use store_sql::{OpenFault, SqlStore};
+use store::OpenFault;
+use store_sql::SqlStore;
 
 /// Why a database whose files can't be had is not opened: S1 for want of memory, else S2.
 fn fault_of(error: &Error) -> OpenFault

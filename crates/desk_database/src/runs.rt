@@ -5,8 +5,7 @@ use desk_serving::{Serving, serve};
 use one_delivery::{import, report, tick};
 use std::fs;
 use std::io::{self, BufWriter, Read, Write};
-use store::Store;
-use store_sql::OpenFault;
+use store::{OpenFault, Store};
 
 /// What is asked of the desk over a database.
 #[derive(Clone, Copy)]

@@ -11,8 +11,7 @@ use one_delivery::open_desk;
 use std::alloc::{AllocError, Global};
 use std::io::{Read, Write};
 use std::net::TcpListener;
-use store::Store;
-use store_sql::OpenFault;
+use store::{OpenFault, Store};
 
 /// What a server is asked to do.
 #[derive(Clone, Copy)]

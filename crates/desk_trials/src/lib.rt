@@ -1,6 +1,8 @@
 //! The desk and requests to it, as calls: a run of deliveries, inputs that are no request, the loopback, and the
-//! worked request in any two pieces, cut and with a lost reply, over tables in memory. What each request gets, and how
-//! the same goes over a database, is tried on the program. There is no code here but tests, so that no other crate is proved twice for them.
+//! worked request in any two pieces, cut and with a lost reply, over tables in memory; a replay whose reader or writer
+//! fails; and that a command of the usual form is read in one pass, which no contract says. What each request gets, and
+//! how the same goes over a database, is tried on the program. There is no code here but tests, so that no other crate
+//! is proved twice for them.
 #![tactic(auto)]
 
 #[cfg(test)]
@@ -12,8 +14,12 @@ mod ends;
 #[cfg(test)]
 mod loopback;
 #[cfg(test)]
+mod members;
+#[cfg(test)]
 mod no_requests;
 #[cfg(test)]
 mod runs;
+#[cfg(test)]
+mod torn_replays;
 #[cfg(test)]
 mod worked_request;

@@ -2,7 +2,7 @@
 use Rattle.std.specs.Prelude.{ℕ, List, position, Option, Some}
 use Rattle.std.specs.Str.{bytes_eq}
 use Rattle.sched.specs.declared.calendar.CalId.{CalId}
-use Rattle.schedule_tables.specs.declared.named_calendar.NamedCalendar.{NamedCalendar}
+use Rattle.building.specs.declared.named_calendar.NamedCalendar.{NamedCalendar}
 use Rattle.texts.specs.Steps.{◌>>=◌}
 use Rattle.texts.specs.Texts.{name_of}
 

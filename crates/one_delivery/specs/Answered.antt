@@ -11,7 +11,7 @@ use Rattle.delivery_lines.specs.ClockLine.{import_of}
 use Rattle.delivery_lines.specs.declared.told.Told.TheVariants as told
 use Rattle.delivery_lines.specs.ReplyText.{reply_line}
 use Rattle.store.specs.Standing.{Standing}
-use Rattle.store_sql.specs.declared.open_fault.OpenFault.{OpenFault}
+use Rattle.store.specs.declared.open_fault.OpenFault.{OpenFault}
 
 -- whatever a call may open, if it is a store, it is such a one
 abbrev pub Opens : {S : Type 0} → (Result S OpenFault → Type 0) → (S → Type 0) → Type 0

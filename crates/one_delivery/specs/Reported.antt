@@ -12,7 +12,7 @@ use Rattle.jiff_core.specs.declared.civil.date.Date.{Date}
 use Rattle.settling.specs.Calendars.{Tells}
 use Rattle.store.specs.Standing.{Standing}
 use Rattle.store.specs.Tables.{Text}
-use Rattle.store_sql.specs.declared.open_fault.OpenFault.{OpenFault}
+use Rattle.store.specs.declared.open_fault.OpenFault.{OpenFault}
 use Rattle.one_delivery.specs.Answered.{Opens}
 
 -- the report over the tables of the list E was printed, and the store holds them still

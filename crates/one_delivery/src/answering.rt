@@ -13,8 +13,7 @@ use desk::Desk;
 use desk_console::{RunFault, print_whole};
 use std::alloc::{AllocError, Global};
 use std::io::Write;
-use store::{Store, StoreFault};
-use store_sql::OpenFault;
+use store::{OpenFault, Store, StoreFault};
 
 /// What was answered, and the store as it stands then.
 #[derive(Drop)]

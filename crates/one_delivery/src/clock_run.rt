@@ -12,8 +12,7 @@ use holidays::{ImportRefusal, read_holidays};
 use listing::Listing;
 use std::alloc::Global;
 use std::io::{Read, Write};
-use store::Store;
-use store_sql::OpenFault;
+use store::{OpenFault, Store};
 
 /// How a run ended, and the store that it opened, as it stands then, if the delivery was answered.
 #[derive(Drop)]

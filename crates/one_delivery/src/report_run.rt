@@ -19,8 +19,7 @@ use desk::Desk;
 use desk_console::{Input, RunFault, Status, print_whole, read_building};
 use std::alloc::Global;
 use std::io::{Read, Write};
-use store::Store;
-use store_sql::OpenFault;
+use store::{OpenFault, Store};
 
 /// Prints the report of a day over the tables of the store that is opened, over the building of a file: `desk report`.
 /// The store is opened after the building and the day are read, and is only read.

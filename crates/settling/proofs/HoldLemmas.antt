@@ -15,7 +15,7 @@ use Rattle.dates.specs.Entry.{IsEntry, holds_on, reading, spelling}
 use Rattle.dates.proofs.SpelledReads.{reading-text}
 use Rattle.jiff_core.specs.declared.civil.date.Date.{Date}
 use Rattle.sched.specs.Calendar.{calendar_holds}
-use Rattle.schedule_tables.specs.declared.named_calendar.NamedCalendar.{NamedCalendar}
+use Rattle.building.specs.declared.named_calendar.NamedCalendar.{NamedCalendar}
 use Rattle.store.specs.declared.change.ImportedEntry.{ImportedEntry}
 use Rattle.store.specs.Listed.{AreTexts}
 use Rattle.store.specs.Tables.{Text}

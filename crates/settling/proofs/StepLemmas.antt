@@ -4,10 +4,10 @@ use Rattle.std.specs.Bool.{IsTrue}
 use Rattle.std.specs.List.{flat_map, list_all}
 use Rattle.std.proofs.lemmas.List.{drop_more}
 use Rattle.points.specs.declared.Point.{Point}
-use Rattle.schedule_tables.specs.declared.named_calendar.NamedCalendar.{NamedCalendar}
-use Rattle.schedule_tables.specs.declared.named_schedule.NamedSchedule.{NamedSchedule}
-use Rattle.schedule_tables.specs.ScheduleTable.{is_sound_schedule}
-use Rattle.toml_fields.specs.Priority.{is_write_priority}
+use Rattle.building.specs.declared.named_calendar.NamedCalendar.{NamedCalendar}
+use Rattle.building.specs.declared.named_schedule.NamedSchedule.{NamedSchedule}
+use Rattle.building.specs.ScheduleTable.{is_sound_schedule}
+use Rattle.building.specs.Priority.{is_write_priority}
 use Rattle.settling.specs.declared.settlement.Written.{Written}
 use Rattle.settling.specs.Settled.{Now, Shown, cleared_by, falls_quiet, is_due, put_by, shown_by}
 use Rattle.settling.specs.Turns.{Turns}

@@ -17,7 +17,7 @@ use Rattle.sched.specs.Chosen.{chosen}
 use Rattle.sched.specs.DayList.{list_value}
 use Rattle.sched.specs.Exceptions.{exception_now, gives_way_to_lower, in_period, speaks}
 use Rattle.sched.specs.Schedule.{first_value, schedule_value, weekday_list}
-use Rattle.schedule_tables.specs.declared.named_schedule.NamedSchedule.{NamedSchedule}
+use Rattle.building.specs.declared.named_schedule.NamedSchedule.{NamedSchedule}
 use Rattle.store.specs.declared.change.PlaceValue.{PlaceValue}
 use Rattle.store.specs.declared.change.ShownValue.{ShownValue}
 use Rattle.settling.specs.Calendars.{hold_on}

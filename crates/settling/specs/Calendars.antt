@@ -10,7 +10,7 @@ use Rattle.dates.specs.Entry.{reading, spelling}
 use Rattle.jiff_core.specs.declared.civil.date.Date.{Date}
 use Rattle.sched.specs.Calendar.{calendar_holds}
 use Rattle.sched.specs.declared.calendar.Calendar.{Calendar}
-use Rattle.schedule_tables.specs.declared.named_calendar.NamedCalendar.{NamedCalendar}
+use Rattle.building.specs.declared.named_calendar.NamedCalendar.{NamedCalendar}
 use Rattle.store.specs.declared.change.ImportedEntry.{ImportedEntry}
 use Rattle.store.specs.Tables.{Text}
 

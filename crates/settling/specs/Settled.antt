@@ -6,9 +6,9 @@ use Rattle.std.specs.Ordering.{int_eq}
 use Rattle.jiff_core.specs.declared.civil.date.Date.{Date}
 use Rattle.sched.specs.declared.calendar.Calendar.{Calendar}
 use Rattle.sched.specs.Schedule.{is_active, schedule_value}
-use Rattle.schedule_tables.specs.declared.named_schedule.NamedSchedule.{NamedSchedule}
-use Rattle.schedule_tables.specs.declared.named_schedule.OnLeave.{OnLeave}
-use Rattle.schedule_tables.specs.declared.named_schedule.OnLeave.TheVariants.{Release, Stay}
+use Rattle.building.specs.declared.named_schedule.NamedSchedule.{NamedSchedule}
+use Rattle.building.specs.declared.named_schedule.OnLeave.{OnLeave}
+use Rattle.building.specs.declared.named_schedule.OnLeave.TheVariants.{Release, Stay}
 use Rattle.store.specs.declared.change.PlaceValue.{PlaceValue}
 use Rattle.store.specs.declared.change.ShownValue.{ShownValue}
 use Rattle.store.specs.Tables.{Text}

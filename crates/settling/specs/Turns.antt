@@ -2,7 +2,7 @@
 use Rattle.std.specs.Prelude.{◌≡◌, ◌++◌, ℤ, List, Option}
 use Rattle.local_times.specs.declared.local_clock.LocalTime.{LocalTime}
 use Rattle.sched.specs.declared.calendar.Calendar.{Calendar}
-use Rattle.schedule_tables.specs.declared.named_schedule.NamedSchedule.{NamedSchedule}
+use Rattle.building.specs.declared.named_schedule.NamedSchedule.{NamedSchedule}
 use Rattle.settling.specs.declared.settlement.Written.{Written}
 use Rattle.settling.specs.Settled.{Now, cleared_by, put_by, shown_by}
 

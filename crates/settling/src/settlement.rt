@@ -2,20 +2,19 @@
 ghost use Rattle.std.specs.Prelude.{◌≡◌, ◌++◌, ◌∷◌, [], IfOk, IsTrue, List, OnOk, None, Some};
 ghost use Rattle.std.specs.List.{All, flat_map, list_all};
 ghost use Rattle.std.specs.Result.{result_err};
-ghost use Rattle.schedule_tables.specs.declared.named_schedule.NamedSchedule.{NamedSchedule as a_schedule};
+ghost use Rattle.building.specs.declared.named_schedule.NamedSchedule.{NamedSchedule as a_schedule};
 ghost use Rattle.settling.specs.Calendars.{Tells, calendars_of, with_items};
 ghost use Rattle.settling.specs.Settled.{at_each_target, cleared_by, put_by, shown_by, told, when_leaving, written};
 ghost use Rattle.settling.specs.Turns.{Turns, now_at};
 ghost use Rattle.store.specs.Change.{IsPlace};
 ghost use Rattle.store.specs.Standing.{IsOpen, Reads};
 ghost use Rattle.store.specs.Tables.{Text};
-ghost use Rattle.toml_fields.specs.Priority.{is_write_priority};
+ghost use Rattle.building.specs.Priority.{is_write_priority};
 
 use crate::today::calendars_today;
-use building::Building;
+use building::{Building, NamedSchedule, OnLeave};
 use local_times::LocalTime;
 use sched::Calendar;
-use schedule_tables::{NamedSchedule, OnLeave};
 use std::alloc::{AllocError, Global};
 use store::{ImportedEntry, PlaceValue, ShownValue, Store, StoreFault};
 

@@ -12,12 +12,11 @@ ghost use Rattle.store.specs.declared.change.ImportedEntry.{ImportedEntry as an_
 ghost use Rattle.store.specs.Standing.{IsOpen, Reads};
 ghost use Rattle.store.specs.Tables.{Text};
 
-use building::Building;
+use building::{Building, NamedCalendar};
 use dates::{Day, Entry, Range};
 use listing::Listing;
 use points::Name;
 use sched::Calendar;
-use schedule_tables::NamedCalendar;
 use std::alloc::{AllocError, Global};
 use store::{ImportedEntry, Store, StoreFault};
 

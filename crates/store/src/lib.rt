@@ -10,9 +10,11 @@
 pub use change::{Change, ImportedEntry, KeptRow, NextNumber, PlaceValue, RowsBelow, ShownValue};
 pub use fault::StoreFault;
 pub use names::Names;
+pub use open_fault::OpenFault;
 pub use store::Store;
 
 mod change;
 mod fault;
 mod names;
+mod open_fault;
 mod store;

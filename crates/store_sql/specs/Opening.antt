@@ -1,5 +1,5 @@
 -- What an opening finds, and how one that is refused is told.
-use Rattle.std.specs.Prelude.{◌≡◌, ◌⊎◌, ℕ, false, List, codes, Result, Ok, Err}
+use Rattle.std.specs.Prelude.{◌≡◌, ◌⊎◌, false, Result, Ok, Err}
 use Rattle.sqlite.specs.Held.{Held}
 use Rattle.sqlite.specs.State.{State, Survives}
 use Rattle.sqlite.specs.declared.error.Error.TheVariants as sql
@@ -9,8 +9,8 @@ use Rattle.sql_opening.specs.Opening.{IsMigrated, IsRaised, IsTaken}
 use Rattle.sql_rows.specs.Ours.{content_of}
 use Rattle.sql_opening.specs.declared.open_fault.OpenFault.{OpenFault as refusal}
 use Rattle.sql_opening.specs.declared.open_fault.OpenFault.TheVariants as refused
-use Rattle.store_sql.specs.declared.open_fault.OpenFault.{OpenFault}
-use Rattle.store_sql.specs.declared.open_fault.OpenFault.TheVariants.{BadRow, Failed, NoMemory, UnknownTables}
+use Rattle.store.specs.declared.open_fault.OpenFault.{OpenFault}
+use Rattle.store.specs.declared.open_fault.OpenFault.TheVariants.{BadRow, Failed, NoMemory, UnknownTables}
 use Rattle.store_sql.specs.declared.session.Session.{Session}
 
 -- tables of version 2 as they are, those of version 1 without their early rows
@@ -40,10 +40,3 @@ told_of (refused.Sql (sql.SqliteFailure code.OutOfMemory)) = NoMemory
 told_of (refused.Sql _) = Failed
 told_of refused.NotOurs = UnknownTables
 told_of refused.BadRow = BadRow
-
--- how a fault is printed
-abbrev pub opening_code : OpenFault → List ℕ
-opening_code NoMemory = codes "S1"
-opening_code Failed = codes "S2"
-opening_code UnknownTables = codes "S4"
-opening_code BadRow = codes "S5"

@@ -5,9 +5,8 @@
 //! the program stops, a store that no failure has shut leaves what its last commit left.
 #![tactic(auto)]
 
-pub use open_fault::OpenFault;
 pub use sql_store::SqlStore;
 
-mod open_fault;
+mod refusal;
 mod session;
 mod sql_store;

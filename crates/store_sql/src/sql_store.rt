@@ -8,9 +8,9 @@ ghost use Rattle.store.specs.Tables.{no_tables};
 ghost use Rattle.store.specs.Standing.{sound};
 ghost use Rattle.store_sql.specs.Opening.{IsFaultOver, IsOpened, SurvivesMaking, SurvivesTaking, left_by};
 ghost use Rattle.store_sql.specs.Standing.{IsFit, standing_of};
-ghost use Rattle.store_sql.specs.declared.open_fault.OpenFault.TheVariants.{UnknownTables};
+ghost use Rattle.store.specs.declared.open_fault.OpenFault.TheVariants.{UnknownTables};
 
-use crate::open_fault::OpenFault;
+use crate::refusal::fault_of;
 use crate::session::Session;
 use dates::Entry;
 use points::{CommandRow, Name, NumberedRow, PriorityArray};
@@ -22,7 +22,7 @@ use sql_writing::commit_change;
 use sqlite::{Alter, Connection};
 use std::alloc::Global;
 use std::marker::Model;
-use store::{Change, Names, Store, StoreFault};
+use store::{Change, Names, OpenFault, Store, StoreFault};
 
 /// A store that keeps its tables in a database of SQLite. It fails for want of memory, and where the device or the
 /// database fails, which shuts it: it is opened again.
@@ -77,7 +77,7 @@ impl<S: Alter + Drop> SqlStore<S> {
         let mut connection = connection;
         match make(&mut connection) {
             Ok(()) => Ok(SqlStore::over(alloc, connection)),
-            Err(fault) => Err((OpenFault::of(fault), connection)),
+            Err(fault) => Err((fault_of(fault), connection)),
         }
     }
 
@@ -98,7 +98,7 @@ impl<S: Alter + Drop> SqlStore<S> {
         let mut connection = connection;
         match take(alloc, &mut connection) {
             Ok(()) => Ok(SqlStore::over(alloc, connection)),
-            Err(fault) => Err((OpenFault::of(fault), connection)),
+            Err(fault) => Err((fault_of(fault), connection)),
         }
     }
 

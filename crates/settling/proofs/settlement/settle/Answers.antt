@@ -1,9 +1,9 @@
 use Rattle.std.proofs.Common.{◌≡◌, ◌∙◌, sym, subst, List}
 use Rattle.std.specs.Bool.{IsTrue}
 use Rattle.std.specs.List.{flat_map, list_all}
-use Rattle.schedule_tables.specs.declared.named_schedule.NamedSchedule.{NamedSchedule}
+use Rattle.building.specs.declared.named_schedule.NamedSchedule.{NamedSchedule}
 use Rattle.store.proofs.ReadLemmas.{kept-read}
-use Rattle.toml_fields.specs.Priority.{is_write_priority}
+use Rattle.building.specs.Priority.{is_write_priority}
 use Rattle.settling.specs.Calendars.{calendars_of, with_items}
 use Rattle.settling.specs.Settled.{cleared_by, put_by, shown_by}
 use Rattle.settling.specs.Turns.{now_at}

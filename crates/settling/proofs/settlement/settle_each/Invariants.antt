@@ -1,10 +1,10 @@
 use Rattle.std.proofs.Common.{◌≡◌, ◌++◌, None, drop}
 use Rattle.std.specs.Bool.{IsTrue}
 use Rattle.std.specs.List.{All, flat_map, list_all}
-use Rattle.schedule_tables.specs.declared.named_schedule.NamedSchedule.{NamedSchedule}
+use Rattle.building.specs.declared.named_schedule.NamedSchedule.{NamedSchedule}
 use Rattle.store.specs.Change.{IsPlace}
 use Rattle.store.specs.Standing.{Reads}
-use Rattle.toml_fields.specs.Priority.{is_write_priority}
+use Rattle.building.specs.Priority.{is_write_priority}
 use Rattle.settling.specs.Settled.{cleared_by, put_by, shown_by}
 use Rattle.settling.specs.Turns.{now_at}
 use Rattle.settling.proofs.settlement.settle_each.Given as goal

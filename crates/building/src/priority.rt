@@ -1,0 +1,47 @@
+//! Priorities of a building file.
+
+ghost use Rattle.std.specs.Prelude.{◌≡◌, IfOk, IsTrue};
+ghost use Rattle.toml.specs.View.{view};
+ghost use Rattle.building.specs.Priority.{event_priority_in, event_priority_of, is_priority};
+ghost use Rattle.building.specs.Priority.{is_write_priority, write_priority_in, write_priority_of};
+
+use crate::fields::Fields;
+use building_fault::{Cause, FileFault, Key};
+use toml::Value;
+
+/// A priority at which something is written: 1 to 16, and not 6, which is for minimum on and off times
+/// alone (19.2). Another number is B10.
+pub(crate) fn write_priority(fields: &Fields<'_>, key: Key, value: &Value) -> Result<u8, FileFault>
+    ensures answers { result ≡ write_priority_in fields.now.location key (view value.now) }
+    ensures sound { IfOk result (λ n. IsTrue (is_write_priority n)) }
+{
+    write_priority_of(fields.integer_in(key, value)?).ok_or(fields.fault(key, Cause::NotAPriority))
+}
+
+/// The EventPriority of an exception (12.24): 1 to 16. Another number is B10.
+pub(crate) fn event_priority(fields: &Fields<'_>, key: Key, value: &Value) -> Result<u8, FileFault>
+    ensures answers { result ≡ event_priority_in fields.now.location key (view value.now) }
+    ensures sound { IfOk result (λ n. IsTrue (is_priority n)) }
+{
+    event_priority_of(fields.integer_in(key, value)?).ok_or(fields.fault(key, Cause::NotAPriority))
+}
+
+fn write_priority_of(number: i64) -> Option<u8>
+    ensures { result ≡ write_priority_of number }
+{
+    if 1 <= number && number <= 16 && number != 6 {
+        Some(number as u8)
+    } else {
+        None
+    }
+}
+
+fn event_priority_of(number: i64) -> Option<u8>
+    ensures { result ≡ event_priority_of number }
+{
+    if 1 <= number && number <= 16 {
+        Some(number as u8)
+    } else {
+        None
+    }
+}

@@ -1,0 +1,53 @@
+//! Lists of names that refer to items of the file.
+
+ghost use Rattle.std.specs.Prelude.{◌≡◌, [], IfOk, IsTrue};
+ghost use Rattle.std.specs.List.{list_all};
+ghost use Rattle.toml.specs.View.{items_view};
+ghost use Rattle.building_fault.specs.Answers.{Answers};
+ghost use Rattle.building_fault.specs.Steps.{result_map};
+ghost use Rattle.building.specs.Reference.{each_reference, is_named, reference};
+
+use crate::fields::Fields;
+use building_fault::{BuildingFault, Cause, FileFault, Key};
+use points::{Name, Names};
+use rosters::{Named, Roster};
+use std::alloc::Global;
+use toml::Value;
+
+/// The names of a list at a key, each of an item that is there (B7) and each once (B6).
+pub(crate) fn read_references<T: Named>(
+    alloc: Global,
+    fields: &Fields<'_>,
+    key: Key,
+    there: &Roster<T>,
+    items: &[Value],
+) -> Result<Names, BuildingFault>
+    ensures answers { Answers (each_reference fields.now.location key T.name_of there.now []
+        (items_view items.now)) result }
+    ensures sound { IfOk result (λ names. IsTrue (list_all (is_named T.name_of there.now) names)) }
+{
+    let mut names = Names::new(alloc);
+    for item in items {
+        let name = reference(fields, key, there, fields.text_in(key, item)?)?;
+        if !names.insert(name)? {
+            return Err(fields.fault(key, Cause::RepeatedName).into());
+        }
+    }
+    Ok(names)
+}
+
+/// The name of an item that is there (B7).
+pub(crate) fn reference<T: Named>(
+    fields: &Fields<'_>,
+    key: Key,
+    there: &Roster<T>,
+    text: &str,
+) -> Result<Name, FileFault>
+    ensures answers { result ≡ reference fields.now.location key T.name_of there.now text.now }
+    ensures sound { IfOk result (λ name. IsTrue (is_named T.name_of there.now name)) }
+{
+    match texts::name_of(text) {
+        Some(name) if there.has(&name) => Ok(name),
+        _ => Err(fields.fault(key, Cause::UnknownName)),
+    }
+}

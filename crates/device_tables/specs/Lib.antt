@@ -1,2 +1,0 @@
-pub mod PanelTable
-pub mod PointTable

@@ -1,2 +1,0 @@
-pub mod Reference
-pub mod Section
