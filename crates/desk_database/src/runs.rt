@@ -1,11 +1,10 @@
 //! The runs of the subcommands that take a database.
 use crate::database_file::open_store;
 use desk_console::{Input, Status};
-use desk_serving::{Serving, serve};
-use one_delivery::{import, report, tick};
 use std::fs;
 use std::io::{self, BufWriter, Read, Write};
 use store::{OpenFault, Store};
+use store_runs::{Serving, import, report, serve, tick};
 
 /// What is asked of the desk over a database.
 #[derive(Clone, Copy)]

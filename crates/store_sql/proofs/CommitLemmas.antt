@@ -14,7 +14,7 @@ use Rattle.store.specs.declared.fault.StoreFault.{StoreFault}
 use Rattle.store.specs.declared.fault.StoreFault.TheVariants.{Failed, NoMemory, Shut}
 use Rattle.store.specs.Change.{with_change}
 use Rattle.store.specs.Standing.{Commits, HasRisen, Makes}
-use Rattle.sql_opening.specs.Opening.{Stands}
+use Rattle.store_sql.specs.Opening.{Stands}
 use Rattle.store_sql.specs.Standing.{IsFit, standing_at}
 use Rattle.store_sql.specs.Judging.{IsRefusal}
 use Rattle.store_sql.specs.declared.session.Session.{Session}

@@ -1,2 +1,15 @@
+pub mod AnswerLemmas
+pub mod AskLemmas
+pub mod CellLemmas
 pub mod CommitLemmas
+pub mod DeskLemmas
+pub mod EarlyLemmas
+pub mod EmptyLemmas
+pub mod OpenLemmas
+pub mod OwnLemmas
+pub mod Questions
+pub mod RaiseLemmas
 pub mod StandLemmas
+pub mod TableLemmas
+pub mod Texts
+pub mod VersionLemmas

@@ -17,7 +17,7 @@ use Rattle.store.specs.Tables.{Tables}
 use Rattle.stored_rows.specs.declared.read_fault.ReadFault.{ReadFault}
 use Rattle.stored_rows.specs.declared.read_fault.ReadFault.TheVariants as read
 use Rattle.stored_rows.specs.Stored.{is_sound_in, tables_in}
-use Rattle.sql_opening.specs.Opening.{Stands}
+use Rattle.store_sql.specs.Opening.{Stands}
 use Rattle.store_sql.specs.Standing.{IsFit, standing_at, standing_of}
 use Rattle.store_sql.specs.declared.session.Session.{Session}
 use Rattle.store_sql.specs.Judging.{IsRefusal, IsTold}

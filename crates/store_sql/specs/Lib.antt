@@ -1,3 +1,7 @@
+pub mod Asking
+pub mod Fitting
 pub mod Judging
+pub mod Opened
 pub mod Opening
+pub mod Own
 pub mod Standing

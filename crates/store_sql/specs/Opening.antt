@@ -1,42 +1,158 @@
--- What an opening finds, and how one that is refused is told.
-use Rattle.std.specs.Prelude.{◌≡◌, ◌⊎◌, false, Result, Ok, Err}
-use Rattle.sqlite.specs.Held.{Held}
-use Rattle.sqlite.specs.State.{State, Survives}
-use Rattle.sqlite.specs.declared.error.Error.TheVariants as sql
-use Rattle.sqlite.specs.declared.error.ErrorCode.TheVariants as code
-use Rattle.sql_create.specs.Creating.{AreFirst}
-use Rattle.sql_opening.specs.Opening.{IsMigrated, IsRaised, IsTaken}
-use Rattle.sql_rows.specs.Ours.{content_of}
-use Rattle.sql_opening.specs.declared.open_fault.OpenFault.{OpenFault as refusal}
-use Rattle.sql_opening.specs.declared.open_fault.OpenFault.TheVariants as refused
-use Rattle.store.specs.declared.open_fault.OpenFault.{OpenFault}
-use Rattle.store.specs.declared.open_fault.OpenFault.TheVariants.{BadRow, Failed, NoMemory, UnknownTables}
-use Rattle.store_sql.specs.declared.session.Session.{Session}
+-- How a database is made or taken, and how it stands then.
+use Rattle.std.specs.Prelude.{◌≡◌, ◌↔◌, ◌⊎◌, ℕ, ◌+◌, ◌-◌, nat_lt, if◌then◌else◌, ℤ, pos, Bool, true, false, IsTrue, List, [], ◌∷◌, Option, Some, None}
+use Rattle.sqlite_trees.specs.Tree.{Trees}
+use Rattle.sqlite_value.specs.Order.{Row, column}
+use Rattle.sqlite.specs.State.{State}
+use Rattle.store.specs.declared.change.Change.{Change}
+use Rattle.store.specs.declared.change.RowsBelow.{RowsBelow}
+use Rattle.store.specs.Change.{with_change}
+use Rattle.store.specs.Standing.{sound}
+use Rattle.store.specs.Tables.{Tables, Text, no_tables}
+use Rattle.stored_rows.specs.Cells.{number_in}
+use Rattle.stored_rows.specs.declared.read_fault.ReadFault.{ReadFault}
+use Rattle.stored_rows.specs.declared.read_fault.ReadFault.TheVariants as read
+use Rattle.sql_schema.specs.Schema.{desk_schema, desk_tree, schema_0}
+use Rattle.sql_rows.specs.Ours.{AreOurs, IsOurs, Makes, content_of, kept_in}
+use Rattle.sql_writing.specs.Steps.{Turns}
+use Rattle.store_sql.specs.Fitting.{IsFitting}
+use Rattle.store_sql.specs.declared.refusal.Refusal.{Refusal}
+use Rattle.store_sql.specs.declared.refusal.Refusal.TheVariants.{BadRow, NotOurs, Sql}
 
--- tables of version 2 as they are, those of version 1 without their early rows
-abbrev pub IsOpened : State → State → Type 0
-IsOpened old new = IsTaken old new ⊎ IsMigrated old new
+-- a fault of a read as one of an opening
+abbrev pub as_open : ReadFault → Refusal
+as_open (read.Sql error) = Sql error
+as_open read.BadRow = BadRow
 
--- the connection that an opening leaves, in the store or beside the fault
-abbrev pub left_by : {S : Type 0} → Result (Session S) (OpenFault × Held S) → Held S
-left_by (Ok session) = session.connection
-left_by (Err refused) = refused.1
+-- the version that a row of `desk` tells
+abbrev pub version_in : List Row → Option ℤ
+version_in [] = None
+version_in (row ∷ rows) = number_in (column row 2)
 
--- a stop leaves what it left before, or the six tables, empty
-abbrev pub SurvivesMaking : State → State → Type 0
-SurvivesMaking old new = Survives old new (λ trees. AreFirst trees)
+abbrev pub version_of : Trees → Option ℤ
+version_of trees = version_in (trees desk_tree)
 
--- a stop leaves what it left before, or the tables of version 1 as those of version 2
-abbrev pub SurvivesTaking : State → State → Type 0
-SurvivesTaking old new = Survives old new (λ trees. IsRaised old.committed.trees trees)
+-- a connection outside a transaction, over the six tables
+pub record Stands (s : State) : Type 0 where
+  pub is_open : IsTrue s.is_open
+  pub ours : IsOurs s.now
+  pub same : s.now ≡ s.committed
 
--- the fault is the database's, or a row is kept that cannot stand
-abbrev pub IsFaultOver : State → OpenFault → Type 0
-IsFaultOver s fault = ((fault ≡ NoMemory) ⊎ (fault ≡ Failed)) ⊎ ((fault ≡ BadRow) × ((content_of s.committed.trees).is_sound ≡ false))
+-- the six tables were made, and are empty
+pub record IsBegun (new : State) : Type 0 where
+  pub stands : Stands new
+  pub empty : content_of new.committed.trees ≡ sound no_tables
+  pub version : version_of new.committed.trees ≡ Some (pos 2)
 
--- S1 where memory was refused, S2 where the database failed for another cause
-abbrev pub told_of : refusal → OpenFault
-told_of (refused.Sql (sql.SqliteFailure code.OutOfMemory)) = NoMemory
-told_of (refused.Sql _) = Failed
-told_of refused.NotOurs = UnknownTables
-told_of refused.BadRow = BadRow
+-- tables of this version are taken as they are
+pub record IsTaken (old new : State) : Type 0 where
+  pub was : version_of old.committed.trees ≡ Some (pos 2)
+  pub stands : Stands new
+  pub content : content_of new.committed.trees ≡ content_of old.committed.trees
+  pub version : version_of new.committed.trees ≡ Some (pos 2)
+
+-- a connection outside a transaction, over an empty schema
+pub record IsBare (s : State) : Type 0 where
+  pub mode : s.in_transaction ≡ false
+  pub schema_is : s.now.schema ≡ schema_0
+
+-- a connection outside a transaction, over the schema of the six tables
+pub record IsShaped (s : State) : Type 0 where
+  pub mode : s.in_transaction ≡ false
+  pub schema_is : s.now.schema ≡ desk_schema
+
+-- while it is open it shows what is committed, and that obeys the schema
+pub record IsSettled (s : State) : Type 0 where
+  pub same : IsTrue s.is_open → s.now ≡ s.committed
+  pub fitting : IsTrue s.is_open → IsFitting s.now
+
+-- what was committed stands and was looked at: whether its rows are as a store writes them
+pub record IsJudged (own : Bool) (old new : State) : Type 0 where
+  pub was_open : IsTrue old.is_open
+  pub is_open : IsTrue new.is_open
+  pub now : new.now ≡ old.now
+  pub committed : new.committed ≡ old.committed
+  pub told : IsTrue own ↔ AreOurs (kept_in old.now.trees)
+
+-- what is committed is a database of the six tables, whose row of `desk` tells this version
+pub record IsFound (told : ℤ) (old new : State) : Type 0 where
+  pub stands : Stands new
+  pub was_open : IsTrue old.is_open
+  pub now : new.now ≡ old.now
+  pub committed : new.committed ≡ old.committed
+  pub version : version_of new.committed.trees ≡ Some told
+
+-- ---- the first version
+
+-- the tables without the rows of each panel that are more than 1,000 below its next number
+abbrev pub without_early_rows : Tables → Tables
+without_early_rows tables = record tables { row = λ panel number. if nat_lt (number + 1_000) (tables.next panel) then None else tables.row panel number }
+
+-- tables of the first version are those of the second, without their early rows
+pub record IsRaised (old new : Trees) : Type 0 where
+  pub was : version_of old ≡ Some (pos 1)
+  pub makes : Makes without_early_rows (kept_in old) (kept_in new)
+  pub version : version_of new ≡ Some (pos 2)
+
+-- the tables of the first version are taken as those of the second
+pub record IsMigrated (old new : State) : Type 0 where
+  pub stands : Stands new
+  pub raised : IsRaised old.committed.trees new.committed.trees
+
+-- a database of the six tables, of the first version
+pub record IsFirst (s : State) : Type 0 where
+  pub stands : Stands s
+  pub version : version_of s.committed.trees ≡ Some (pos 1)
+
+-- ---- what is refused
+
+-- a database of the six tables, of a version that is known
+pub record IsKnown (s : State) : Type 0 where
+  pub mode : s.in_transaction ≡ false
+  pub stands : Stands s
+  pub version : (version_of s.committed.trees ≡ Some (pos 1)) ⊎ (version_of s.committed.trees ≡ Some (pos 2))
+
+-- the database refused or failed
+abbrev pub is_sql : Refusal → Bool
+is_sql (Sql error) = true
+is_sql NotOurs = false
+is_sql BadRow = false
+
+-- it refused or failed, or a row cannot stand
+abbrev pub IsFaultOf : State → Refusal → Type 0
+IsFaultOf s fault = IsTrue (is_sql fault) ⊎ ((fault ≡ BadRow) × ((content_of s.committed.trees).is_sound ≡ false))
+
+-- ---- its steps
+
+-- of a panel, the rows that are more than 1,000 below its next number
+abbrev pub early_rows : (Text → ℕ) → Text → RowsBelow
+early_rows next panel = record { panel = panel; number = next panel - 1_000 }
+
+-- in a transaction the row of `desk` tells version 2, and the tables are as they were
+pub record SetsVersion (old new : State) : Type 0 where
+  pub turns : Turns (λ tables. tables) old new
+  pub version : version_of new.now.trees ≡ Some (pos 2)
+
+-- in a transaction the change is made, and the row of `desk` tells version 2
+pub record Raises (change : Change) (old new : State) : Type 0 where
+  pub turns : Turns (with_change change) old new
+  pub version : version_of new.now.trees ≡ Some (pos 2)
+
+-- trees with the change, whose row of `desk` tells version 2
+pub record IsChangedBy (change : Change) (old new : Trees) : Type 0 where
+  pub makes : Makes (with_change change) (kept_in old) (kept_in new)
+  pub version : version_of new ≡ Some (pos 2)
+
+-- the change and the version are committed
+pub record IsWritten (change : Change) (old new : State) : Type 0 where
+  pub stands : Stands new
+  pub changed : IsChangedBy change old.now.trees new.now.trees
+
+-- the connection shows what was committed
+pub record ShowsCommitted (old new : State) : Type 0 where
+  pub was_open : IsTrue old.is_open
+  pub now : new.now ≡ old.committed
+  pub committed : new.committed ≡ old.committed
+
+-- the change drops the early rows, and changes nothing else
+pub record DropsEarly (tables : Tables) (change : Change) : Type 0 where
+  pub makes : with_change change tables ≡ without_early_rows tables

@@ -5,7 +5,7 @@ use Rattle.sqlite_trees.specs.declared.store.Store.{Ghosts}
 use Rattle.sqlite_trees.specs.Tree.{Trees}
 use Rattle.sqlite.specs.Held.{Held, held_code, state}
 use Rattle.sqlite.specs.State.{HasCleanDisk, State}
-use Rattle.sql_opening.specs.Opening.{Stands}
+use Rattle.store_sql.specs.Opening.{Stands}
 use Rattle.sql_rows.specs.Ours.{content_of}
 use Rattle.store.specs.Standing.{Standing}
 use Rattle.store_sql.specs.declared.session.Session.{Session}

@@ -3,10 +3,22 @@
 //! A `SqlStore` keeps the six tables in a database of SQLite, over a connection that is handed in. It meets the
 //! contract of `Store`: a read answers what the tables hold, a commit makes a whole change or nothing, and whenever
 //! the program stops, a store that no failure has shut leaves what its last commit left.
+//!
+//! `make` makes the tables in an empty database. `take` takes a database whose tables are of this version, or of the
+//! first, which it makes those of this one, and whose rows are such as a store writes (`own_rows`).
 #![tactic(auto)]
 
 pub use sql_store::SqlStore;
 
+mod asking;
+mod early;
+mod looking;
+mod making;
+mod own_rows;
+mod raising;
 mod refusal;
 mod session;
 mod sql_store;
+mod tables;
+mod taking;
+mod version;

@@ -1,23 +1,61 @@
-//! How a refusal of the tables is told.
+//! Why a database was not taken.
 ghost use Rattle.std.specs.Prelude.{◌≡◌, ◌⊎◌, IsTrue};
-ghost use Rattle.sql_opening.specs.Opening.{is_sql};
 ghost use Rattle.store.specs.declared.open_fault.OpenFault.TheVariants.{Failed, NoMemory};
-ghost use Rattle.store_sql.specs.Opening.{told_of};
+ghost use Rattle.store_sql.specs.Opened.{told_of};
+ghost use Rattle.store_sql.specs.Opening.{is_sql};
 
 use sqlite::{Error, ErrorCode};
 use store::OpenFault;
+use stored_rows::ReadFault;
 
-/// How a refusal of the tables is told.
-pub(crate) fn fault_of(refusal: sql_opening::OpenFault) -> OpenFault
-    ensures told { result ≡ told_of refusal }
-    ensures sql { IsTrue (is_sql refusal) → (result ≡ NoMemory) ⊎ (result ≡ Failed) }
-{
-    match refusal {
-        sql_opening::OpenFault::Sql(Error::SqliteFailure(ErrorCode::OutOfMemory)) => {
-            OpenFault::NoMemory
+/// Why a database was not taken.
+#[derive(Clone, Copy, PartialEq, Eq)]
+pub enum Refusal {
+    /// The database refused, or it failed.
+    Sql(Error),
+    /// The tables are not the desk's, or of a version that is not known; or there is something where they are to be
+    /// made.
+    NotOurs,
+    /// A row does not say what a row of its table says.
+    BadRow,
+}
+
+impl Refusal {
+    /// How it is told.
+    pub(crate) fn fault(self) -> OpenFault
+        ensures told { result ≡ told_of self }
+        ensures sql { IsTrue (is_sql self) → (result ≡ NoMemory) ⊎ (result ≡ Failed) }
+    {
+        match self {
+            Refusal::Sql(Error::SqliteFailure(ErrorCode::OutOfMemory)) => OpenFault::NoMemory,
+            Refusal::Sql(_) => OpenFault::Failed,
+            Refusal::NotOurs => OpenFault::UnknownTables,
+            Refusal::BadRow => OpenFault::BadRow,
         }
-        sql_opening::OpenFault::Sql(_) => OpenFault::Failed,
-        sql_opening::OpenFault::NotOurs => OpenFault::UnknownTables,
-        sql_opening::OpenFault::BadRow => OpenFault::BadRow,
+    }
+}
+
+impl From<Error> for Refusal {
+    ghost use Rattle.std.specs.Prelude.{◌≡◌};
+    ghost use Rattle.store_sql.specs.declared.refusal.Refusal.TheVariants.{Sql};
+
+    ghost from_gives = { λ error fault. fault ≡ Sql error };
+
+    fn from(error: Error) -> Refusal {
+        Refusal::Sql(error)
+    }
+}
+
+impl From<ReadFault> for Refusal {
+    ghost use Rattle.std.specs.Prelude.{◌≡◌};
+    ghost use Rattle.store_sql.specs.Opening.{as_open};
+
+    ghost from_gives = { λ fault told. told ≡ as_open fault };
+
+    fn from(fault: ReadFault) -> Refusal {
+        match fault {
+            ReadFault::Sql(error) => Refusal::Sql(error),
+            ReadFault::BadRow => Refusal::BadRow,
+        }
     }
 }

@@ -3,18 +3,18 @@ ghost use Rattle.std.specs.Prelude.{◌≡◌, ◌↔◌, IfErr, IfOk, IsTrue, f
 ghost use Rattle.sqlite.specs.Held.{state};
 ghost use Rattle.sqlite.specs.State.{HasCleanDisk};
 ghost use Rattle.sql_create.specs.Creating.{IsAsBefore};
-ghost use Rattle.sql_opening.specs.Opening.{IsBare, IsKnown};
+ghost use Rattle.store_sql.specs.Opening.{IsBare, IsKnown};
 ghost use Rattle.store.specs.Tables.{no_tables};
 ghost use Rattle.store.specs.Standing.{sound};
-ghost use Rattle.store_sql.specs.Opening.{IsFaultOver, IsOpened, SurvivesMaking, SurvivesTaking, left_by};
+ghost use Rattle.store_sql.specs.Opened.{IsFaultOver, IsOpened, SurvivesMaking, SurvivesTaking, left_by};
 ghost use Rattle.store_sql.specs.Standing.{IsFit, standing_of};
 ghost use Rattle.store.specs.declared.open_fault.OpenFault.TheVariants.{UnknownTables};
 
-use crate::refusal::fault_of;
+use crate::making::{is_bare, make};
 use crate::session::Session;
+use crate::taking::take;
 use dates::Entry;
 use points::{CommandRow, Name, NumberedRow, PriorityArray};
-use sql_opening::{is_bare, make, take};
 use sql_reading::{
     array_of, command_of, commands_run, entries_of, last_tick, names_of, next_of, shown_by,
 };
@@ -77,7 +77,7 @@ impl<S: Alter + Drop> SqlStore<S> {
         let mut connection = connection;
         match make(&mut connection) {
             Ok(()) => Ok(SqlStore::over(alloc, connection)),
-            Err(fault) => Err((fault_of(fault), connection)),
+            Err(refusal) => Err((refusal.fault(), connection)),
         }
     }
 
@@ -98,7 +98,7 @@ impl<S: Alter + Drop> SqlStore<S> {
         let mut connection = connection;
         match take(alloc, &mut connection) {
             Ok(()) => Ok(SqlStore::over(alloc, connection)),
-            Err(fault) => Err((fault_of(fault), connection)),
+            Err(refusal) => Err((refusal.fault(), connection)),
         }
     }
 

@@ -1,4 +1,0 @@
-pub mod Opening
-pub mod Asking
-pub mod Fitting
-pub mod Own

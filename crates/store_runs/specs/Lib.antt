@@ -1,0 +1,3 @@
+pub mod Answered
+pub mod Listening
+pub mod Reported

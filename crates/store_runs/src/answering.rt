@@ -1,0 +1,110 @@
+//! One delivery to a store, answered.
+ghost use Rattle.std.specs.Prelude.{◌≡◌, List, IfOk, OnOk, string_bytes};
+ghost use Rattle.std.specs.Io.KnownBytes.{Appends};
+ghost use Rattle.delivery_lines.specs.ReplyText.{reply_line};
+ghost use Rattle.deliveries.specs.declared.delivery.Delivery.{Delivery as a_delivery};
+ghost use Rattle.deliveries.specs.Delivered.{Holds};
+ghost use Rattle.store_runs.specs.Answered.{Answers, Opens};
+
+use building::Building;
+use deliveries::{Delivery, Reply};
+use delivery_lines::ReplyText;
+use desk::Desk;
+use desk_console::{RunFault, print_whole};
+use std::alloc::{AllocError, Global};
+use std::io::Write;
+use store::{OpenFault, Store, StoreFault};
+
+/// What was answered, and the store as it stands then.
+#[derive(Drop)]
+pub(crate) struct Answered<S> {
+    pub reply: Reply,
+    pub store: S,
+}
+
+/// What ends a run whose store is not opened.
+fn fault_of<'a>(fault: OpenFault) -> RunFault<'a> {
+    match fault {
+        OpenFault::NoMemory => RunFault::NoMemory,
+        OpenFault::Failed => RunFault::Store(StoreFault::Failed),
+        OpenFault::UnknownTables => RunFault::UnknownTables,
+        OpenFault::BadRow => RunFault::Store(StoreFault::BadRow),
+    }
+}
+
+/// A desk over the store that is opened.
+pub(crate) fn open_desk<'a, S: Store + Drop, O>(
+    alloc: Global,
+    building: Building,
+    opener: O,
+) -> Result<Desk<S>, RunFault<'a>>
+where
+    O: FnOnce() -> Result<S, OpenFault>,
+    requires { O.IsAlwaysCallable opener }
+    ensures building { IfOk result (λ desk. desk.building ≡ building) }
+    ensures holds { (earlier : List a_delivery) → Opens (O.post opener) (λ store. Holds building earlier (S.standing store))
+        → IfOk result (λ it. (S.standing it.store).is_honest → Holds building earlier (S.standing it.store)) }
+{
+    match opener() {
+        Ok(store) => match Desk::open(alloc, building, store) {
+            Ok(desk) => Ok(desk),
+            Err((fault, _store)) => Err(RunFault::from(fault)),
+        },
+        Err(fault) => Err(fault_of(fault)),
+    }
+}
+
+/// Prints a reply as a line.
+fn print_reply<'a, W: Write>(alloc: Global, reply: Reply, out: &mut W) -> Result<(), RunFault<'a>>
+    ensures { OnOk result (Appends (W.contents out.old) (W.contents out.new) (reply_line reply)) }
+{
+    let line = reply_line(alloc, reply)?;
+    print_whole(out, line.as_str())
+}
+
+/// The text of a reply with its line end (LF).
+fn reply_line(alloc: Global, reply: Reply) -> Result<String, AllocError>
+    ensures { IfOk result (λ line. string_bytes line ≡ reply_line reply) }
+{
+    format!(in alloc; "{}\n", ReplyText(reply))
+}
+
+/// Delivers, and prints the reply as a line. The desk is lent, so that no exit here drops one, which is dear to prove.
+fn deliver<'a, S: Store + Drop, W: Write>(
+    alloc: Global,
+    desk: &mut Desk<S>,
+    delivery: &Delivery,
+    out: &mut W,
+) -> Result<Reply, RunFault<'a>>
+    ensures answers { OnOk result ((earlier : List a_delivery) → (S.standing desk.new.store).is_honest
+        → Holds desk.old.building earlier (S.standing desk.old.store)
+        → Answers desk.old.building earlier delivery.now (S.standing desk.new.store) (W.contents out.old) (W.contents out.new)) }
+    ensures honest { OnOk result ((S.standing desk.new.store).is_honest → (S.standing desk.old.store).is_honest) }
+{
+    let reply = desk.deliver(delivery)?;
+    print_reply(alloc, reply, out)?;
+    Ok(reply)
+}
+
+/// Delivers to the store that is opened, and prints the reply as a line.
+pub(crate) fn answer<'a, S: Store + Drop, O, W: Write>(
+    alloc: Global,
+    building: Building,
+    opener: O,
+    delivery: &Delivery,
+    out: &mut W,
+) -> Result<Answered<S>, RunFault<'a>>
+where
+    O: FnOnce() -> Result<S, OpenFault>,
+    requires { O.IsAlwaysCallable opener }
+    ensures { IfOk result (λ told. (earlier : List a_delivery)
+        → Opens (O.post opener) (λ store. Holds building earlier (S.standing store))
+        → (S.standing told.store).is_honest
+        → Answers building earlier delivery.now (S.standing told.store) (W.contents out.old) (W.contents out.new)) }
+{
+    let mut desk = open_desk(alloc, building, opener)?;
+    let told = deliver(alloc, &mut desk, delivery, out);
+    let store = desk.into_store();
+    let reply = told?;
+    Ok(Answered { reply, store })
+}

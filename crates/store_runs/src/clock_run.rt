@@ -1,0 +1,178 @@
+//! A tick, and an import, from the file of the building to the line of the reply.
+ghost use Rattle.std.specs.Prelude.{◌≡◌, List, ℕ, Some, IfOk};
+ghost use Rattle.std.specs.Io.KnownBytes.{Keeps};
+ghost use Rattle.desk_console.specs.Input.{bytes_of};
+ghost use Rattle.store_runs.specs.Answered.{IsAnswered, IsImport, IsTick};
+
+use crate::answering::{Answered, answer};
+use building::Building;
+use deliveries::{Delivery, Reply};
+use desk_console::{Input, RunFault, Status, read_building};
+use holidays::{ImportRefusal, read_holidays};
+use listing::Listing;
+use std::alloc::Global;
+use std::io::{Read, Write};
+use store::{OpenFault, Store};
+
+/// How a run ended, and the store that it opened, as it stands then, if the delivery was answered.
+#[derive(Drop)]
+pub struct Ended<S> {
+    pub status: Status,
+    pub store: Option<S>,
+}
+
+/// Delivers a tick at a moment, in hundredths of a second since 1970, to the store that is opened, over the building
+/// of a file, and prints the reply as a line: `desk tick`. The store is opened after the building is read.
+///
+/// A moment that can't be ticked is answered `bad_moment`, and the status tells it. A fault is told on `fault` as one
+/// line; what the store answered before the output failed stands.
+pub fn tick<'a, B: Read + Drop, S: Store + Drop, O, W: Write, F: Write>(
+    alloc: Global,
+    file: Input<'a, B>,
+    opener: O,
+    at: i64,
+    out: &mut W,
+    fault: &mut F,
+) -> Ended<S>
+where
+    O: FnOnce() -> Result<S, OpenFault>,
+    requires { O.IsAlwaysCallable opener }
+    ensures done { result.status ≡ Status.Done → (file_bytes : List ℕ)
+        → bytes_of B.remaining file.entry.reader ≡ Some file_bytes
+        → (left : S) × (result.store ≡ Some left)
+        × IsAnswered S.standing (O.post opener) (IsTick at) file_bytes left (W.contents out.old) (W.contents out.new) }
+    ensures quiet { result.status ≡ Status.Done → Keeps (F.contents fault.old) (F.contents fault.new) }
+{
+    match tick_over(alloc, file, opener, at, out) {
+        Ok(Answered { reply, store }) => Ended {
+            status: status_of(reply),
+            store: Some(store),
+        },
+        Err(end) => {
+            end.tell(alloc, fault);
+            Ended {
+                status: end.status(),
+                store: None,
+            }
+        }
+    }
+}
+
+fn tick_over<'a, B: Read + Drop, S: Store + Drop, O, W: Write>(
+    alloc: Global,
+    file: Input<'a, B>,
+    opener: O,
+    at: i64,
+    out: &mut W,
+) -> Result<Answered<S>, RunFault<'a>>
+where
+    O: FnOnce() -> Result<S, OpenFault>,
+    requires { O.IsAlwaysCallable opener }
+    ensures { IfOk result (λ told. (file_bytes : List ℕ)
+        → bytes_of B.remaining file.entry.reader ≡ Some file_bytes
+        → IsAnswered S.standing (O.post opener) (IsTick at) file_bytes told.store (W.contents out.old) (W.contents out.new)) }
+{
+    let building = read_building(alloc, file)?;
+    answer(alloc, building, opener, &Delivery::Tick { at }, out)
+}
+
+/// The status of a tick that was answered.
+fn status_of(reply: Reply) -> Status {
+    match reply {
+        Reply::BadMoment => Status::Fault,
+        _ => Status::Done,
+    }
+}
+
+/// Delivers the import of a holiday list to the store that is opened, over the building of a file, and prints the
+/// reply as a line: `desk import`. The store is opened after both files are read.
+///
+/// A list at fault is told on `fault`, as each fault is, and nothing is delivered.
+pub fn import<'a, B: Read + Drop, L: Read + Drop, S: Store + Drop, O, W: Write, F: Write>(
+    alloc: Global,
+    file: Input<'a, B>,
+    list: Input<'a, L>,
+    opener: O,
+    out: &mut W,
+    fault: &mut F,
+) -> Ended<S>
+where
+    O: FnOnce() -> Result<S, OpenFault>,
+    requires { O.IsAlwaysCallable opener }
+    ensures done { result.status ≡ Status.Done → (file_bytes list_bytes : List ℕ)
+        → bytes_of B.remaining file.entry.reader ≡ Some file_bytes
+        → bytes_of L.remaining list.entry.reader ≡ Some list_bytes
+        → (left : S) × (result.store ≡ Some left)
+        × IsAnswered S.standing (O.post opener) (IsImport list_bytes) file_bytes left (W.contents out.old) (W.contents out.new) }
+    ensures quiet { result.status ≡ Status.Done → Keeps (F.contents fault.old) (F.contents fault.new) }
+{
+    match import_over(alloc, file, list, opener, out) {
+        Ok(Answered { reply: _, store }) => Ended {
+            status: Status::Done,
+            store: Some(store),
+        },
+        Err(end) => {
+            end.tell(alloc, fault);
+            Ended {
+                status: end.status(),
+                store: None,
+            }
+        }
+    }
+}
+
+fn import_over<'a, B: Read + Drop, L: Read + Drop, S: Store + Drop, O, W: Write>(
+    alloc: Global,
+    file: Input<'a, B>,
+    list: Input<'a, L>,
+    opener: O,
+    out: &mut W,
+) -> Result<Answered<S>, RunFault<'a>>
+where
+    O: FnOnce() -> Result<S, OpenFault>,
+    requires { O.IsAlwaysCallable opener }
+    ensures { IfOk result (λ told. (file_bytes list_bytes : List ℕ)
+        → bytes_of B.remaining file.entry.reader ≡ Some file_bytes
+        → bytes_of L.remaining list.entry.reader ≡ Some list_bytes
+        → IsAnswered S.standing (O.post opener) (IsImport list_bytes) file_bytes told.store (W.contents out.old) (W.contents out.new)) }
+{
+    let building = read_building(alloc, file)?;
+    let delivery = read_import(alloc, &building, list)?;
+    answer(alloc, building, opener, &delivery, out)
+}
+
+/// The import of the holiday list of a file.
+#[tactic(auto, unfolding(delivery_lines::specs::ClockLine::import_of))]
+fn read_import<'a, L: Read + Drop>(
+    alloc: Global,
+    building: &Building,
+    list: Input<'a, L>,
+) -> Result<Delivery, RunFault<'a>>
+    ensures { IfOk result (λ delivery. (bytes : List ℕ)
+        → bytes_of L.remaining list.entry.reader ≡ Some bytes → IsImport bytes building.now delivery) }
+{
+    let bytes = read_all(alloc, list)?;
+    match read_holidays(alloc, building, bytes.as_slice()) {
+        Ok(rows) => Ok(Delivery::Import {
+            rows: Listing::from_vec(rows),
+        }),
+        Err(ImportRefusal::Fault(fault)) => Err(RunFault::Holidays(fault)),
+        Err(ImportRefusal::NoMemory) => Err(RunFault::NoMemory),
+    }
+}
+
+/// The bytes of a file.
+fn read_all<'a, L: Read + Drop>(alloc: Global, list: Input<'a, L>) -> Result<Vec<u8>, RunFault<'a>>
+    ensures { IfOk result (λ it. (bytes : List ℕ)
+        → bytes_of L.remaining list.entry.reader ≡ Some bytes → it.items ≡ bytes) }
+{
+    let path = list.path;
+    let mut bytes = Vec::new(alloc);
+    match list.reader {
+        Ok(mut reader) => match reader.read_to_end(&mut bytes) {
+            Ok(_) => Ok(bytes),
+            Err(error) => Err(RunFault::of_read(&error, path)),
+        },
+        Err(error) => Err(RunFault::of_read(&error, path)),
+    }
+}

@@ -1,0 +1,98 @@
+-- The end of a transaction that raises the version.
+use Rattle.std.proofs.Common.{◌≡◌, true, None, inl, inr, Ok, Err, Result, IsTrue, OnErr, IfErr, refl, sym, subst, ◌∙◌}
+use Rattle.sqlite_trees.specs.declared.store.Store.{Ghosts}
+use Rattle.sqlite_trees.specs.Tree.{Trees}
+use Rattle.sqlite.specs.declared.error.Error.{Error}
+use Rattle.sqlite.specs.State.{HasCleanDisk, KeepsCommit, State, Survives}
+use Rattle.sqlite.specs.Steps.{FailsToCommit}
+use Rattle.sqlite.specs.Held.{Held, state}
+use Rattle.sqlite.proofs.Callers.{survives_begin}
+use Rattle.sqlite.proofs.StateLemmas.{survives_then}
+use Rattle.store.specs.declared.change.Change.{Change}
+use Rattle.store.specs.Change.{with_change}
+use Rattle.sql_rows.specs.Ours.{IsOurs, kept_in}
+use Rattle.sql_writing.specs.Steps.{Steps, Turns}
+use Rattle.sql_writing.proofs.StepLemmas.{clean_before, then}
+use Rattle.sql_reading.specs.Asking.{Asks}
+use Rattle.stored_rows.specs.Stored.{tables_in}
+use Rattle.store_sql.specs.Opening.{DropsEarly, IsChangedBy, IsFirst, IsRaised, Raises, SetsVersion, ShowsCommitted}
+use Rattle.store_sql.proofs.OpenLemmas.{answered_sees}
+
+-- the change and then the version
+pub raised : {A B C : Type 0} (change : Change) (a b c : State) (x : A) (y : B) (z : C) → Steps {A = A} (Turns (with_change change)) a b (Ok x) → Steps {A = B} SetsVersion b c (Ok y)
+    → Steps {A = C} (Raises change) a c (Ok z)
+raised {A} {B} {C} change a b c x y z one two =
+    let last : Steps {A = C} SetsVersion b c (Ok z) = record { done = λ clean at. two.done clean at; kept = two.kept; survives = two.survives } in
+    then (Turns (with_change change)) SetsVersion (Raises change) a b c x (Ok z) (λ first. first.inside)
+    (λ first second. record {
+      turns = record {
+        inside = second.turns.inside;
+        makes = record {
+          tables = second.turns.makes.tables ∙ first.makes.tables;
+          is_sound = λ is. second.turns.makes.is_sound (first.makes.is_sound is);
+        };
+      };
+      version = second.version;
+    })
+    one last
+
+module _ {S : Type 0} (g : Ghosts S) (old mid new : Held S) where
+  abbrev begun : State
+  begun = state g (record old { in_transaction = true })
+
+  failed : (e : Error) → KeepsCommit begun (state g mid) → FailsToCommit (state g mid) (state g new) e
+      → (IsTrue (state g new).is_open → (state g new).now ≡ (state g new).committed) → IsTrue (state g new).is_open → ShowsCommitted (state g old) (state g new)
+  failed e kept (inl fails) settled is_open =
+      let back = fails.3 in
+      let was = back.was_open is_open in
+      let same = kept.committed was in
+      record { was_open = kept.was_open was; now = (back.undone is_open).0 ∙ same; committed = (back.undone is_open).1 ∙ same }
+  failed e kept (inr late) settled is_open =
+      let was = late.2.0.was_open in
+      let same : (state g new).committed ≡ (state g old).committed = late.2.0.committed_is ∙ kept.committed was in
+      record { was_open = kept.was_open was; now = settled is_open ∙ same; committed = same }
+
+  -- a commit that failed
+  pub not_committed : {A : Type 0} (told : Result A Error) → KeepsCommit begun (state g mid) → IfErr told (FailsToCommit (state g mid) (state g new))
+      → (IsTrue (state g new).is_open → (state g new).now ≡ (state g new).committed) → IsTrue (state g new).is_open → OnErr told (ShowsCommitted (state g old) (state g new))
+  not_committed (Ok x) kept fails settled is_open = tt
+  not_committed (Err e) kept fails settled is_open = failed e kept fails settled is_open
+
+  -- a stop leaves what was there before, or the whole change with its version
+  pub survives_raised : {A : Type 0} (change : Change) (x : A) → Steps {A = A} (Raises change) begun (state g mid) (Ok x)
+      → Survives (state g mid) (state g new) (λ trees. trees ≡ (state g mid).now.trees)
+      → Survives (state g old) (state g new) (λ trees. IsOurs (state g old).now → IsChangedBy change (state g old).now.trees trees)
+  survives_raised change x steps commits =
+      let P = λ (trees : Trees). IsOurs (state g old).now → IsChangedBy change (state g old).now.trees trees in
+      survives_begin g old (state g new) P
+      (survives_then begun (state g mid) (state g new) (λ _. ⊥) (λ trees. trees ≡ (state g mid).now.trees) P (λ _ db none. absurd none)
+      (λ clean db is ours.
+      let done = steps.done (clean_before (state g mid) (state g new) _ commits clean) (record { in_transaction = refl; ours = ours }) in
+      subst (λ (trees : Trees). IsChangedBy change (state g old).now.trees trees) (sym is) (record { makes = done.turns.makes; version = done.version }))
+      steps.survives commits)
+
+-- the change of the early rows, with the version, raises the tables
+raised_by : (change : Change) (a b : State) (db : Trees) → IsFirst a → b.now ≡ a.now → DropsEarly (tables_in (kept_in a.now.trees)) change → IsChangedBy change b.now.trees db → IsRaised a.committed.trees db
+raised_by change a b db first now drops changed =
+    let same = now ∙ first.stands.same in
+    let here : IsChangedBy change a.committed.trees db = subst (λ d. IsChangedBy change d.trees db) same changed in
+    let early : DropsEarly (tables_in (kept_in a.committed.trees)) change = subst (λ d. DropsEarly (tables_in (kept_in d.trees)) change) first.stands.same drops in
+    record {
+      was = first.version;
+      makes = record { tables = here.makes.tables ∙ early.makes; is_sound = here.makes.is_sound };
+      version = here.version;
+    }
+
+-- a stop leaves what was there before, or the raised tables
+pub survives_migration : (change : Change) (a b c : State) → Survives a b (λ _. IsOurs a.now → ⊥) → (HasCleanDisk b → IsOurs a.now → Asks None a b)
+    → (HasCleanDisk b → IsOurs a.now → DropsEarly (tables_in (kept_in a.now.trees)) change) → Survives b c (λ trees. IsOurs b.now → IsChangedBy change b.now.trees trees)
+    → Survives a c (λ trees. IsFirst a → IsRaised a.committed.trees trees)
+survives_migration change a b c one asks value two =
+    survives_then a b c (λ _. IsOurs a.now → ⊥) (λ trees. IsOurs b.now → IsChangedBy change b.now.trees trees) (λ trees. IsFirst a → IsRaised a.committed.trees trees)
+    (λ _ db never first. absurd (never first.stands.ours))
+    (λ clean db changed first.
+    let was = clean_before b c _ two clean in
+    let ours = first.stands.ours in
+    let now = (answered_sees a b (asks was ours)).now in
+    raised_by change a b db first now (value was ours) (changed (subst IsOurs (sym now) ours)))
+    one two

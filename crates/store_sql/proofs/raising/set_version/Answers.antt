@@ -1,0 +1,15 @@
+use Rattle.sqlite.specs.Held.{state}
+use Rattle.sql_create.proofs.CreateLemmas.{execution_keeps}
+use Rattle.sql_rows.proofs.DeskTexts.{set_version_text}
+use Rattle.store_sql.proofs.VersionLemmas.{sets_version}
+use Rattle.store_sql.proofs.raising.set_version.Goals as goal
+
+pub returns-clause-steps : goal.returns-clause-steps
+returns-clause-steps g c =
+    let old = c.args.transaction.now.conn.now in
+    let new = c.execute.new.self.conn.now in
+    record {
+      done = λ clean inside. sets_version (state g.S.Store old) (state g.S.Store new) c.execute.result inside (c.execute.ensures.runs clean inside.in_transaction);
+      kept = λ clean. execution_keeps g.S.Store old new set_version_text _ c.execute.result c.execute.ensures.ended (c.execute.ensures.runs clean);
+      survives = c.execute.ensures.survives;
+    }

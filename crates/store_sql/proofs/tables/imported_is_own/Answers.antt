@@ -1,0 +1,21 @@
+use Rattle.std.specs.Prelude.{[], ◌∷◌}
+use Rattle.sqlite.specs.Held.{state}
+use Rattle.sql_schema.specs.Schema.{imported_tree}
+use Rattle.sql_rows.specs.Ours.{AreOwn}
+use Rattle.store_sql.specs.Asking.{FindsNone, Joins}
+use Rattle.store_sql.specs.Own.{TellsOf}
+use Rattle.store_sql.proofs.AskLemmas.{asks_as}
+use Rattle.store_sql.proofs.TableLemmas.{imported_told}
+use Rattle.store_sql.proofs.Texts.{imported_apart_askable, imported_apart_text, imported_numbered_askable, imported_numbered_text}
+use Rattle.store_sql.proofs.tables.imported_is_own.Goals as goal
+
+pub neither_finds-requires-clause-first : goal.neither_finds-requires-clause-first
+neither_finds-requires-clause-first g c = imported_numbered_askable
+
+pub neither_finds-requires-clause-second : goal.neither_finds-requires-clause-second
+neither_finds-requires-clause-second g c = imported_apart_askable
+
+pub returns-clause-asks : goal.returns-clause-asks
+returns-clause-asks g c =
+    asks_as (Joins (FindsNone imported_numbered_text) (FindsNone imported_apart_text)) (TellsOf imported_tree (AreOwn (1 ∷ 2 ∷ []))) imported_told
+    (state g.S.Store c.args.connection.now) (state g.S.Store c.neither_finds.new.connection) c.neither_finds.result c.neither_finds.ensures.asks

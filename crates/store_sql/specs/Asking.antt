@@ -1,0 +1,36 @@
+-- What a question does, and what it tells.
+use Rattle.std.specs.Prelude.{◌≡◌, ◌↔◌, ◌⊎◌, ℕ, Bool, true, false, IsTrue, IfOk, OnOk, List, [], Result, Ok}
+use Rattle.sqlite_value.specs.Order.{Row}
+use Rattle.sqlite_resolve.specs.declared.compiled.Compiled.{Compiled}
+use Rattle.sqlite.specs.declared.error.Error.{Error}
+use Rattle.sqlite.specs.Effect.{Database, Reads}
+use Rattle.sqlite.specs.Given.{IsPlain}
+use Rattle.sqlite.specs.Listing.{reads_listing, understood}
+use Rattle.sqlite.specs.State.{HasCleanDisk, IsUnchanged, State, Survives}
+use Rattle.sql_schema.specs.Schema.{desk_schema}
+use Rattle.sql_rows.specs.Looking.{Rests}
+use Rattle.store_sql.specs.Fitting.{IsFitting}
+
+-- Nothing changes, and an answer says so much of the database.
+pub record Asks (says : Bool → Database → Type 0) (old new : State) (result : Result Bool Error) : Type 0 where
+  pub same : HasCleanDisk new → IsFitting old.now → OnOk result (IsUnchanged old new)
+  pub rests : HasCleanDisk new → IsFitting old.now → Rests old new
+  pub told : HasCleanDisk new → IsFitting old.now → IfOk result (λ answer. says answer old.now)
+  pub survives : Survives old new (λ _. IsFitting old.now → ⊥)
+
+-- a query on the six tables that does nothing else
+pub record IsAskable (sql : List ℕ) : Type 0 where
+  pub plain : IsPlain (understood desk_schema sql)
+  pub unlisted : reads_listing desk_schema sql ≡ false
+
+-- whether the query has no row
+pub record FindsNone (sql : List ℕ) (none : Bool) (db : Database) : Type 0 where
+  pub compiled : Compiled
+  pub is : understood desk_schema sql ≡ Ok compiled
+  pub rows : List Row
+  pub read : Reads compiled.command db [] rows
+  pub told : IsTrue none ↔ (rows ≡ [])
+
+-- the second is asked where the first is true
+pub record Joins (one other : Bool → Database → Type 0) (both : Bool) (db : Database) : Type 0 where
+  pub is : (one true db × other both db) ⊎ (one false db × (both ≡ false))

@@ -1,0 +1,42 @@
+-- What an opening finds, and how one that is refused is told.
+use Rattle.std.specs.Prelude.{◌≡◌, ◌⊎◌, false, Result, Ok, Err}
+use Rattle.sqlite.specs.Held.{Held}
+use Rattle.sqlite.specs.State.{State, Survives}
+use Rattle.sqlite.specs.declared.error.Error.TheVariants as sql
+use Rattle.sqlite.specs.declared.error.ErrorCode.TheVariants as code
+use Rattle.sql_create.specs.Creating.{AreFirst}
+use Rattle.store_sql.specs.Opening.{IsMigrated, IsRaised, IsTaken}
+use Rattle.sql_rows.specs.Ours.{content_of}
+use Rattle.store_sql.specs.declared.refusal.Refusal.{Refusal}
+use Rattle.store_sql.specs.declared.refusal.Refusal.TheVariants as refused
+use Rattle.store.specs.declared.open_fault.OpenFault.{OpenFault}
+use Rattle.store.specs.declared.open_fault.OpenFault.TheVariants.{BadRow, Failed, NoMemory, UnknownTables}
+use Rattle.store_sql.specs.declared.session.Session.{Session}
+
+-- tables of version 2 as they are, those of version 1 without their early rows
+abbrev pub IsOpened : State → State → Type 0
+IsOpened old new = IsTaken old new ⊎ IsMigrated old new
+
+-- the connection that an opening leaves, in the store or beside the fault
+abbrev pub left_by : {S : Type 0} → Result (Session S) (OpenFault × Held S) → Held S
+left_by (Ok session) = session.connection
+left_by (Err refused) = refused.1
+
+-- a stop leaves what it left before, or the six tables, empty
+abbrev pub SurvivesMaking : State → State → Type 0
+SurvivesMaking old new = Survives old new (λ trees. AreFirst trees)
+
+-- a stop leaves what it left before, or the tables of version 1 as those of version 2
+abbrev pub SurvivesTaking : State → State → Type 0
+SurvivesTaking old new = Survives old new (λ trees. IsRaised old.committed.trees trees)
+
+-- the fault is the database's, or a row is kept that cannot stand
+abbrev pub IsFaultOver : State → OpenFault → Type 0
+IsFaultOver s fault = ((fault ≡ NoMemory) ⊎ (fault ≡ Failed)) ⊎ ((fault ≡ BadRow) × ((content_of s.committed.trees).is_sound ≡ false))
+
+-- S1 where memory was refused, S2 where the database failed for another cause
+abbrev pub told_of : Refusal → OpenFault
+told_of (refused.Sql (sql.SqliteFailure code.OutOfMemory)) = NoMemory
+told_of (refused.Sql _) = Failed
+told_of refused.NotOurs = UnknownTables
+told_of refused.BadRow = BadRow

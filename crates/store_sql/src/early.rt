@@ -1,0 +1,76 @@
+//! The rows that the tables of the first version keep and those of the second do not.
+ghost use Rattle.std.specs.Prelude.{◌≡◌, ◌++◌, false, Err, IfErr, IfOk, IsTrue, OnOk, Some, [], ◌∷◌, map};
+ghost use Rattle.std.specs.Result.{result_err};
+ghost use Rattle.sqlite.specs.Held.{state};
+ghost use Rattle.sqlite.specs.State.{HasCleanDisk, Survives};
+ghost use Rattle.sql_rows.specs.Ours.{IsOurs, kept_in};
+ghost use Rattle.sql_reading.specs.Asking.{Asks, is_sql};
+ghost use Rattle.store.specs.Change.{CanStand};
+ghost use Rattle.stored_rows.specs.Stored.{is_sound_in, tables_in};
+ghost use Rattle.stored_rows.specs.declared.read_fault.ReadFault.TheVariants.{BadRow};
+ghost use Rattle.store_sql.specs.Opening.{DropsEarly, early_rows};
+
+use points::Name;
+use sql_reading::{names_of, next_of};
+use sqlite::{Alter, Connection, Error, ErrorCode};
+use std::alloc::Global;
+use store::{Change, RowsBelow};
+use stored_rows::ReadFault;
+
+// How many numbers below a panel's next one keep their rows.
+const KEPT: u64 = 1_000;
+
+// Puts an item at the end of a list.
+fn push(list: &mut Vec<RowsBelow>, item: RowsBelow) -> Result<(), ReadFault>
+    ensures items { OnOk result (list.new.items ≡ list.old.items ++ item ∷ []) }
+    ensures fault { IfErr result (λ fault. IsTrue (is_sql (Some fault))) }
+{
+    match list.push(item) {
+        Ok(()) => Ok(()),
+        Err(_) => Err(ReadFault::Sql(Error::SqliteFailure(ErrorCode::OutOfMemory))),
+    }
+}
+
+// The early rows of each panel of a list.
+fn early_of<S: Alter>(
+    alloc: Global,
+    connection: &mut Connection<S>,
+    panels: &[Name],
+) -> Result<Vec<RowsBelow>, ReadFault>
+    ensures mode { connection.old.in_transaction ≡ false → connection.new.in_transaction ≡ false }
+    ensures asks { HasCleanDisk (state S.Store connection.new) → IsOurs (state S.Store connection.old).now → Asks (result_err result) (state S.Store connection.old) (state S.Store connection.new) }
+    ensures value { HasCleanDisk (state S.Store connection.new) → IsOurs (state S.Store connection.old).now → IfOk result (λ it. it.items ≡ map (early_rows (tables_in (kept_in (state S.Store connection.old).now.trees)).next) panels.now) }
+    ensures bad { HasCleanDisk (state S.Store connection.new) → IsOurs (state S.Store connection.old).now → result ≡ Err BadRow → is_sound_in (kept_in (state S.Store connection.old).now.trees) ≡ false }
+    ensures survives { Survives (state S.Store connection.old) (state S.Store connection.new) (λ _. IsOurs (state S.Store connection.old).now → ⊥) }
+{
+    let mut dropped = Vec::new(alloc);
+    for panel in panels {
+        let number = next_of(connection, panel)?.saturating_sub(KEPT);
+        push(
+            &mut dropped,
+            RowsBelow {
+                panel: *panel,
+                number,
+            },
+        )?;
+    }
+    Ok(dropped)
+}
+
+/// The change that drops the early rows of each panel.
+pub fn dropping<S: Alter>(
+    alloc: Global,
+    connection: &mut Connection<S>,
+) -> Result<Change, ReadFault>
+    ensures mode { connection.old.in_transaction ≡ false → connection.new.in_transaction ≡ false }
+    ensures asks { HasCleanDisk (state S.Store connection.new) → IsOurs (state S.Store connection.old).now → Asks (result_err result) (state S.Store connection.old) (state S.Store connection.new) }
+    ensures stands { IfOk result (λ it. CanStand it) }
+    ensures value { HasCleanDisk (state S.Store connection.new) → IsOurs (state S.Store connection.old).now → IfOk result (DropsEarly (tables_in (kept_in (state S.Store connection.old).now.trees))) }
+    ensures bad { HasCleanDisk (state S.Store connection.new) → IsOurs (state S.Store connection.old).now → result ≡ Err BadRow → is_sound_in (kept_in (state S.Store connection.old).now.trees) ≡ false }
+    ensures survives { Survives (state S.Store connection.old) (state S.Store connection.new) (λ _. IsOurs (state S.Store connection.old).now → ⊥) }
+{
+    let names = names_of(alloc, connection)?;
+    let mut change = Change::new(alloc);
+    change.dropped = early_of(alloc, connection, &names.panels)?;
+    Ok(change)
+}
