@@ -10,7 +10,7 @@ use Rattle.rosters.specs.Roster.{are_distinct}
 use Rattle.building.specs.declared.named_calendar.NamedCalendar.{NamedCalendar}
 use Rattle.building.specs.declared.named_schedule.NamedSchedule.{NamedSchedule}
 use Rattle.building.specs.ScheduleTable.{is_sound_schedule}
-use Rattle.zone_rules.specs.ZoneRule.{rule_text}
+use Rattle.local_times.specs.ZoneRule.{rule_text}
 use Rattle.building.specs.BuildingFile.{Contents}
 
 -- the rule of its time zone, and its lists in file order

@@ -15,7 +15,7 @@ use Rattle.building_fault.specs.Steps.{◌>>=◌, or_fault}
 use Rattle.building.specs.declared.top_table.TopTable.{TopTable}
 use Rattle.building.specs.Fields.{known_keys, optional_list_at, text_at}
 use Rattle.building.specs.Items.{all_tables, at_most}
-use Rattle.zone_rules.specs.ZoneRule.{rule_text}
+use Rattle.local_times.specs.ZoneRule.{rule_text}
 use Rattle.std.specs.Prelude.{false}
 
 -- what the top table says: what the zone's rule says, and the tables of each section

@@ -26,7 +26,7 @@ use rosters::Roster;
 use std::alloc::Global;
 use std::marker::Model;
 use toml::Table;
-use zone_rules::ZoneRule;
+use local_times::ZoneRule;
 
 /// The building of a file: its time zone, and its points, panels, calendars and schedules in file order.
 /// In it each name stands once in its section, references exist, values lie in their kinds, and nothing is

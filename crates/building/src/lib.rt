@@ -13,9 +13,9 @@
 
 pub use building::Building;
 pub use building_fault::{BuildingFault, Cause, FileFault, Key, Section};
+pub use local_times::ZoneRule;
 pub use named_calendar::NamedCalendar;
 pub use named_schedule::{NamedSchedule, OnLeave};
-pub use zone_rules::ZoneRule;
 
 mod building;
 mod calendar_table;

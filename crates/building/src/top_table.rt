@@ -3,13 +3,13 @@
 ghost use Rattle.std.specs.Prelude.{◌≡◌, option_map};
 ghost use Rattle.toml.specs.View.{items_view, table_view};
 ghost use Rattle.building_fault.specs.Steps.{result_map};
-ghost use Rattle.zone_rules.specs.ZoneRule.{rule_text};
+ghost use Rattle.local_times.specs.ZoneRule.{rule_text};
 ghost use Rattle.building.specs.TopTable.{section_at, section_of, section_or_none, top_in, top_of, zone_at};
 
 use crate::fields::Fields;
 use building_fault::{Cause, FileFault, Key, Location};
 use toml::{Table, Value};
-use zone_rules::ZoneRule;
+use local_times::ZoneRule;
 
 /// The points that a building has at most (this profile's limit).
 const MOST_POINTS: usize = 1_000;

@@ -1,1 +1,3 @@
+mod GrammarLemmas
+mod ReadingLemmas
 mod UsualLemmas

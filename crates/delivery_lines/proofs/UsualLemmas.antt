@@ -13,9 +13,9 @@ use Rattle.deliveries.specs.declared.delivery.Delivery.{Delivery}
 use Rattle.deliveries.specs.declared.delivery.Delivery.TheVariants.{Command}
 use Rattle.texts.specs.Steps.{where_holds}
 use Rattle.texts.specs.Texts.{text_of}
-use Rattle.command_members.specs.CommandMembers.{IsReadAs, Reads}
-use Rattle.command_members.specs.Readings.{command_keys, has_only, integer_in, name_in, priority_in, value_in}
-use Rattle.command_members.specs.declared.command_members.CommandMembers.{CommandMembers}
+use Rattle.delivery_lines.specs.CommandMembers.{IsReadAs, Reads}
+use Rattle.delivery_lines.specs.Readings.{command_keys, has_only, integer_in, name_in, priority_in, value_in}
+use Rattle.delivery_lines.specs.declared.command_members.CommandMembers.{CommandMembers}
 use Rattle.delivery_lines.specs.DeliveryLine.{delivery_in, delivery_with, json_of, told_in, told_of, told_with}
 use Rattle.delivery_lines.specs.PanelLine.{command_in, numbered_in, panel_delivery_in, panel_delivery_with}
 use Rattle.delivery_lines.specs.declared.panel_line.NumberedContent.{NumberedContent}

@@ -3,7 +3,7 @@ use Rattle.std.specs.Prelude.{ℕ, List, [], ◌∷◌, Option, codes, option_ma
 use Rattle.serde_json.specs.Data.{Data}
 use Rattle.serde_json.specs.Find.{as_object, as_str, get}
 use Rattle.building.specs.Building.{Building}
-use Rattle.csv_records.specs.CsvRecords.{records_of}
+use Rattle.holidays.specs.CsvRecords.{records_of}
 use Rattle.deliveries.specs.declared.delivery.Delivery.{Delivery}
 use Rattle.deliveries.specs.declared.delivery.Delivery.TheVariants.{Import, Tick}
 use Rattle.delivery_lines.specs.declared.told.Told.{Told}

@@ -1,6 +1,9 @@
 pub mod ClockLine
+pub mod CommandMembers
 pub mod DeliveryLine
 pub mod LineFault
 pub mod Members
 pub mod PanelLine
+pub mod Readings
 pub mod ReplyText
+pub mod Scalars

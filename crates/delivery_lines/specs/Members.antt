@@ -3,7 +3,7 @@ use Rattle.std.specs.Prelude.{ℕ, ℤ, List, [], ◌∷◌, Option}
 use Rattle.serde_json.specs.Data.{Data}
 use Rattle.serde_json.specs.Find.{as_object, get}
 use Rattle.texts.specs.Steps.{◌>>=◌, where_holds}
-pub use Rattle.command_members.specs.Readings.{has_only, integer_in}
+pub use Rattle.delivery_lines.specs.Readings.{has_only, integer_in}
 
 -- the integer of an object that has this key, and no other
 unfoldable pub lone_integer : List ℕ → Data → Option ℤ

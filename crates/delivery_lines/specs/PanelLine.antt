@@ -4,7 +4,7 @@ use Rattle.serde_json.specs.Data.{Data}
 use Rattle.serde_json.specs.Find.{as_object, get}
 use Rattle.deliveries.specs.declared.delivery.Delivery.{Delivery}
 use Rattle.deliveries.specs.declared.delivery.Delivery.TheVariants.{Command, Skip}
-pub use Rattle.command_members.specs.Readings.{command_keys, has_only, integer_in, name_in, priority_in, value_in}
+pub use Rattle.delivery_lines.specs.Readings.{command_keys, has_only, integer_in, name_in, priority_in, value_in}
 use Rattle.delivery_lines.specs.declared.panel_line.NumberedContent.{NumberedContent}
 use Rattle.texts.specs.Steps.{◌>>=◌, where_holds}
 

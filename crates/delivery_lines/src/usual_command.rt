@@ -2,10 +2,11 @@
 
 ghost use Rattle.std.specs.Prelude.{◌≡◌, IfSome, Some, option_and_then};
 ghost use Rattle.serde_json.specs.Data.{Members, object};
-ghost use Rattle.command_members.specs.CommandMembers.{IsReadAs};
+ghost use Rattle.delivery_lines.specs.CommandMembers.{IsReadAs};
 ghost use Rattle.delivery_lines.specs.DeliveryLine.{delivery_in, json_of};
 
-use command_members::{CommandMembers, read_members};
+use crate::command_members::CommandMembers;
+use crate::object_members::read_members;
 use deliveries::Delivery;
 use json::Scratch;
 use points::{Content, LOWEST_PRIORITY};

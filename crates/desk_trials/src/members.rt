@@ -1,5 +1,5 @@
 //! Objects of the usual form.
-use command_members::{CommandMembers, read_members};
+use delivery_lines::{CommandMembers, read_members};
 use json::Scratch;
 use points::Name;
 use std::process::Abort;

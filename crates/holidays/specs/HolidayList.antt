@@ -3,7 +3,7 @@ use Rattle.std.specs.Prelude.{ℕ, nat_le, Bool, ◌&&◌, List, [], ◌∷◌, 
 use Rattle.std.specs.List.{list_all}
 use Rattle.std.specs.Result.{result_ok}
 use Rattle.std.specs.Str.{bytes_eq, is_utf8}
-use Rattle.csv_records.specs.CsvRecords.{Fields}
+use Rattle.holidays.specs.CsvRecords.{Fields}
 use Rattle.dates.specs.Entry.{reading}
 use Rattle.holidays.specs.Answers.{◌>>=◌, or_fault, where_holds}
 use Rattle.holidays.specs.ImportFaults.{fault}

@@ -1,5 +1,6 @@
 pub mod Answers
 pub mod CalendarNamed
+pub mod CsvRecords
 pub mod HolidayList
 pub mod ImportFaults
 pub mod ImportTexts

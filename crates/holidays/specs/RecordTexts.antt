@@ -1,7 +1,7 @@
 -- The fields of a record, as text.
 use Rattle.std.specs.Prelude.{ℕ, ◌==◌, List, length, Option, Some, None, if◌then◌else◌}
 use Rattle.csv.specs.Records.{field_at}
-use Rattle.csv_records.specs.CsvRecords.{Fields}
+use Rattle.holidays.specs.CsvRecords.{Fields}
 use Rattle.texts.specs.Steps.{◌>>=◌}
 use Rattle.texts.specs.Texts.{text_of}
 

@@ -1,6 +1,6 @@
 -- What the records of a list tell, each by itself and together.
 use Rattle.std.specs.Prelude.{ℕ, ◌+◌, List, [], ◌∷◌, Result, Ok, Err}
-use Rattle.csv_records.specs.CsvRecords.{Fields}
+use Rattle.holidays.specs.CsvRecords.{Fields}
 use Rattle.holidays.specs.Answers.{result_map}
 use Rattle.holidays.specs.declared.import_fault.ImportFault.{ImportFault}
 

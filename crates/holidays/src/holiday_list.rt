@@ -7,13 +7,14 @@ ghost use Rattle.csv.specs.Records.{fields_of};
 ghost use Rattle.holidays.specs.Answers.{Answers, result_map};
 ghost use Rattle.holidays.specs.CalendarNamed.{calendar_of};
 ghost use Rattle.holidays.specs.HolidayList.{header_in, holidays_in, row_in};
-ghost use Rattle.csv_records.specs.CsvRecords.{records_of};
+ghost use Rattle.holidays.specs.CsvRecords.{records_of};
 
 use crate::read_row::{ReadRow, read_rows};
 use crate::record_texts::{is_text, two_texts};
+use crate::records::all_records;
 use crate::{ImportCause, ImportFault, ImportRefusal};
 use building::Building;
-use csv_records::{ByteRecord, all_records};
+use csv::ByteRecord;
 use dates::Entry;
 use sched::{CalId, CalendarEntry};
 use std::alloc::Global;

@@ -6,7 +6,7 @@ ghost use Rattle.holidays.specs.Answers.{Answers, result_map};
 ghost use Rattle.holidays.specs.Told.{all_ok, told};
 
 use crate::{ImportFault, ImportRefusal};
-use csv_records::ByteRecord;
+use csv::ByteRecord;
 use std::alloc::Global;
 
 /// How a record is read. The loop over a list's records stands over this trait, since the check makes no plan
@@ -14,7 +14,7 @@ use std::alloc::Global;
 pub trait ReadRow<T> {
     ghost use Rattle.std.specs.Prelude.{◌≡◌, Result, ℕ};
     ghost use Rattle.csv.specs.Records.{fields_of};
-    ghost use Rattle.csv_records.specs.CsvRecords.{Fields};
+    ghost use Rattle.holidays.specs.CsvRecords.{Fields};
     ghost use Rattle.holidays.specs.declared.import_fault.ImportFault.{ImportFault};
 
     /// What the record of a number means, or its fault.

@@ -6,7 +6,7 @@ ghost use Rattle.std.specs.Str.{is_utf8};
 ghost use Rattle.csv.specs.Records.{fields_of};
 ghost use Rattle.holidays.specs.RecordTexts.{two_texts};
 
-use csv_records::ByteRecord;
+use csv::ByteRecord;
 use texts::text_of;
 
 /// Whether each field is UTF-8.

@@ -1,2 +1,2 @@
-pub mod DateLemmas
 pub mod ClockLemmas
+pub mod DateLemmas

@@ -1,1 +1,2 @@
 pub mod LocalTimes
+pub mod ZoneRule

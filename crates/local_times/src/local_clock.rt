@@ -5,10 +5,10 @@ ghost use Rattle.jiff_core.specs.Date.{epoch_day};
 ghost use Rattle.jiff_core.specs.Time.{time_nanos};
 ghost use Rattle.local_times.specs.LocalTimes.{clock_at, IsShown, local_at, local_on};
 
+use crate::zone_rule::ZoneRule;
 use dates::Day;
 use jiff_core::{Timestamp, civil};
 use sched::Time;
-use zone_rules::ZoneRule;
 
 /// The nanoseconds of a hundredth of a second.
 const NANOSECONDS: i128 = 10_000_000;

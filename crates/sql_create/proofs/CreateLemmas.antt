@@ -29,10 +29,10 @@ use Rattle.sqlite.specs.Held.{Held, state}
 use Rattle.sqlite.proofs.Callers.{IsPlain, command_of, statement_of, runs_as, one_step}
 use Rattle.sqlite.proofs.InsideLemmas.{inside_keeps, keeps_then}
 use Rattle.sqlite.proofs.StateLemmas.{survives_then}
-use Rattle.sql_schema.specs.Schema.{desk_table, panel_table, command_table, place_table, shown_table, imported_table, schema_0, schema_1, schema_2, schema_3, schema_4, schema_5, desk_schema}
-use Rattle.sql_schema.specs.Texts.{create_desk, create_panel, create_command, create_place, create_shown, create_imported}
-use Rattle.sql_schema.specs.Making.{MakesTable}
-use Rattle.sql_schema.proofs.CreateTexts.{makes_desk, makes_panel, makes_command, makes_place, makes_shown, makes_imported}
+use Rattle.sql_create.specs.Schema.{desk_table, panel_table, command_table, place_table, shown_table, imported_table, schema_0, schema_1, schema_2, schema_3, schema_4, schema_5, desk_schema}
+use Rattle.sql_create.specs.Texts.{create_desk, create_panel, create_command, create_place, create_shown, create_imported}
+use Rattle.sql_create.specs.Making.{MakesTable}
+use Rattle.sql_create.proofs.CreateTexts.{makes_desk, makes_panel, makes_command, makes_place, makes_shown, makes_imported}
 use Rattle.sql_create.specs.Creating.{IsInside, MakesTableIn, IsEmptyAs, IsFilled, IsAsBefore, first_desk_row}
 
 -- a part that gave a value did not stop on the way

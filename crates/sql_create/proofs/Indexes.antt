@@ -2,7 +2,7 @@
 use Rattle.std.proofs.Common.{◌≡◌, List, [], ◌∷◌, ◌++◌, codes, ℕ, ap, arith}
 use Rattle.std.specs.Fmt.{decimal}
 use Rattle.std.proofs.lemmas.Fmt.{decimal_digit}
-use Rattle.sql_schema.specs.Schema.{desk_schema}
+use Rattle.sql_create.specs.Schema.{desk_schema}
 use Rattle.sql_create.specs.Recognised.{key_index}
 
 one : decimal 1 ≡ codes "1"

@@ -1,3 +1,4 @@
 pub mod CreateLemmas
+pub mod CreateTexts
 pub mod Indexes
 pub mod Items

@@ -7,7 +7,7 @@ use Rattle.sqlite_trees.specs.Tree.{Trees}
 use Rattle.sqlite_schema.specs.declared.schema.Schema.{Schema}
 use Rattle.sqlite_catalog.specs.Change.{next_tree, KeepsRows}
 use Rattle.sqlite.specs.State.{State, Shows}
-use Rattle.sql_schema.specs.Schema.{desk_tree, panel_tree, command_tree, place_tree, shown_tree, imported_tree, desk_schema}
+use Rattle.sql_create.specs.Schema.{desk_tree, panel_tree, command_tree, place_tree, shown_tree, imported_tree, desk_schema}
 
 -- in a transaction over this schema
 pub record IsInside (schema : Schema) (s : State) : Type 0 where

@@ -1,2 +1,5 @@
 pub mod Creating
+pub mod Making
 pub mod Recognised
+pub mod Schema
+pub mod Texts

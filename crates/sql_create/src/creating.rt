@@ -3,7 +3,7 @@
 ghost use Rattle.std.specs.Prelude.{◌≡◌, IsTrue, OnOk, OnErr, false, codes};
 ghost use Rattle.sqlite.specs.Held.{state};
 ghost use Rattle.sqlite.specs.State.{HasCleanDisk, KeepsCommit, Survives};
-ghost use Rattle.sql_schema.specs.Schema.{schema_0, schema_1, schema_2, schema_3, schema_4, schema_5, desk_schema};
+ghost use Rattle.sql_create.specs.Schema.{schema_0, schema_1, schema_2, schema_3, schema_4, schema_5, desk_schema};
 ghost use Rattle.sql_create.specs.Creating.{IsInside, MakesTableIn, IsEmptyAs, IsFilled, IsMade, IsAsBefore, AreFirst};
 
 use sqlite::{Alter, Connection, Error, Transaction};

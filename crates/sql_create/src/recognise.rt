@@ -9,7 +9,7 @@ ghost use Rattle.sqlite_sql.specs.declared.ops.CompareOp.TheVariants.{Ge, Le};
 ghost use Rattle.sqlite_value.specs.declared.value.Value.TheVariants.{Int};
 ghost use Rattle.sqlite_value.specs.Keys.{plain};
 ghost use Rattle.sqlite.specs.Held.{state};
-ghost use Rattle.sql_schema.specs.Schema.{both, column_of, keyed_table, desk_table, panel_table, command_table, place_table, shown_table, imported_table, schema_0, desk_schema};
+ghost use Rattle.sql_create.specs.Schema.{both, column_of, keyed_table, desk_table, panel_table, command_table, place_table, shown_table, imported_table, schema_0, desk_schema};
 ghost use Rattle.sql_create.specs.Recognised.{comparison, key_index};
 
 use sqlite::{Alter, Connection};

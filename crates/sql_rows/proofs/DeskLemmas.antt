@@ -17,7 +17,7 @@ use Rattle.sqlite_trees.specs.Tree.{rowid}
 use Rattle.sqlite_trees.specs.View.{is_int}
 use Rattle.sqlite.specs.declared.error.Error.{Error}
 use Rattle.sqlite.specs.State.{ExecutesInside, Shown, Shows, State}
-use Rattle.sql_schema.specs.Schema.{desk_schema, desk_table, desk_tree}
+use Rattle.sql_create.specs.Schema.{desk_schema, desk_table, desk_tree}
 use Rattle.sql_rows.specs.Looking.{Finds}
 use Rattle.sql_rows.specs.Meanings.{passes, shows}
 use Rattle.sql_rows.specs.Ours.{AreOurs, Changes, IsInside, SetsDesk, kept_in}

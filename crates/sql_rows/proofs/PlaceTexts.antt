@@ -9,7 +9,7 @@ use Rattle.sqlite.specs.Given.{IsPlain}
 use Rattle.sqlite.specs.Listing.{reads_listing, understood}
 use Rattle.sqlite.proofs.Callers.{command_of}
 use Rattle.sqlite_tied.specs.Compute.{everything}
-use Rattle.sql_schema.specs.Schema.{desk_schema, place_tree}
+use Rattle.sql_create.specs.Schema.{desk_schema, place_tree}
 use Rattle.sql_rows.specs.Meanings.{compared_with, deletion, given, least, plain_query, selection}
 
 abbrev pub clear_text : List ℕ

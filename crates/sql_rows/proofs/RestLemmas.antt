@@ -9,7 +9,7 @@ use Rattle.sqlite.specs.Listing.{reads_listing, understood}
 use Rattle.sqlite.specs.State.{CommitsShowing, FailsToQuery, FailsToShow, IsNotRun, IsRolledBack, IsUnchanged, Shown, ShowsRows, State, Survives}
 use Rattle.sqlite.proofs.Callers.{command_of, never_commits, reads_as}
 use Rattle.sqlite.proofs.StateLemmas.{survives_weaker}
-use Rattle.sql_schema.specs.Schema.{desk_schema}
+use Rattle.sql_create.specs.Schema.{desk_schema}
 use Rattle.sql_rows.specs.Looking.{Finds, FindsLeast, Rests}
 use Rattle.sql_rows.specs.Meanings.{least, passes, selection, shows}
 use Rattle.sqlite_rules.specs.Lists.{Has}

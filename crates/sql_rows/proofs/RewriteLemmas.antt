@@ -21,7 +21,7 @@ use Rattle.sqlite.specs.Given.{IsPlain}
 use Rattle.sqlite.specs.Listing.{understood}
 use Rattle.sqlite.specs.State.{ExecutesInside, Shows, State}
 use Rattle.sqlite.proofs.Callers.{command_of}
-use Rattle.sql_schema.specs.Schema.{desk_schema}
+use Rattle.sql_create.specs.Schema.{desk_schema}
 use Rattle.sql_rows.specs.Meanings.{passes, plain_query, shows}
 use Rattle.sql_rows.specs.Ours.{AreOwn, Changes, IsInside, Rewrites}
 use Rattle.sql_rows.specs.Slot.{On, Slot}

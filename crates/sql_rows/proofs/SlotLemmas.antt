@@ -20,7 +20,7 @@ use Rattle.sqlite.specs.Given.{IsPlain}
 use Rattle.sqlite.specs.Listing.{understood}
 use Rattle.sqlite.specs.State.{ExecutesInside, Shows, State}
 use Rattle.sqlite.proofs.Callers.{command_of}
-use Rattle.sql_schema.specs.Schema.{desk_schema, keyed_table}
+use Rattle.sql_create.specs.Schema.{desk_schema, keyed_table}
 use Rattle.sql_rows.specs.Meanings.{deletion, passes}
 use Rattle.sql_rows.specs.Ours.{AreOurs, AreOwn, Changes, Gains, HasOneMore, IsInside, Loses, kept_in}
 use Rattle.sql_rows.specs.Slot.{On, Slot, command_slot, imported_slot, panel_slot, place_slot, shown_slot}

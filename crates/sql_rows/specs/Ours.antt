@@ -8,7 +8,7 @@ use Rattle.sqlite_trees.specs.View.{is_int}
 use Rattle.sqlite_value.specs.Order.{Row, column}
 use Rattle.sqlite.specs.Effect.{Database, IsDatabase}
 use Rattle.sqlite.specs.State.{Shows, State}
-use Rattle.sql_schema.specs.Schema.{command_tree, desk_schema, desk_tree, imported_tree, panel_tree, place_tree, shown_tree}
+use Rattle.sql_create.specs.Schema.{command_tree, desk_schema, desk_tree, imported_tree, panel_tree, place_tree, shown_tree}
 use Rattle.store.specs.Standing.{Content}
 use Rattle.store.specs.Tables.{Tables}
 use Rattle.stored_rows.specs.Stored.{HasPut, Kept, content_in, is_sound_in, tables_in}

@@ -12,7 +12,7 @@ use Rattle.sqlite.specs.Effect.{Database, Reads}
 use Rattle.sqlite.specs.Listing.{understood}
 use Rattle.sqlite.proofs.Callers.{command_of}
 use Rattle.sqlite_sql.specs.Program.{overlay}
-use Rattle.sql_schema.specs.Schema.{desk_schema}
+use Rattle.sql_create.specs.Schema.{desk_schema}
 use Rattle.sql_rows.specs.Meanings.{passes, plain_query}
 use Rattle.sql_rows.proofs.AnswerLemmas.{overlay_none}
 use Rattle.store_sql.specs.Asking.{FindsNone}

@@ -23,7 +23,7 @@ use Rattle.sqlite.specs.declared.error.Error.{Error}
 use Rattle.sqlite.specs.Effect.{Database}
 use Rattle.sqlite.specs.State.{ExecutesInside, State}
 use Rattle.sqlite.proofs.Callers.{one_permutation}
-use Rattle.sql_schema.specs.Schema.{desk_table, desk_tree}
+use Rattle.sql_create.specs.Schema.{desk_table, desk_tree}
 use Rattle.sql_rows.specs.Meanings.{passes, shows}
 use Rattle.sql_rows.specs.Ours.{AreOurs, IsInside, IsOurs, Makes, kept_in}
 use Rattle.sql_rows.proofs.CellLemmas.{cast_int, cast_null}

@@ -7,7 +7,7 @@ use Rattle.sqlite.specs.Effect.{Database, Reads}
 use Rattle.sqlite.specs.Given.{IsPlain}
 use Rattle.sqlite.specs.Listing.{reads_listing, understood}
 use Rattle.sqlite.specs.State.{HasCleanDisk, IsUnchanged, State, Survives}
-use Rattle.sql_schema.specs.Schema.{desk_schema}
+use Rattle.sql_create.specs.Schema.{desk_schema}
 use Rattle.sql_rows.specs.Looking.{Rests}
 use Rattle.store_sql.specs.Fitting.{IsFitting}
 

@@ -11,7 +11,7 @@ use Rattle.store.specs.Tables.{Tables, Text, no_tables}
 use Rattle.stored_rows.specs.Cells.{number_in}
 use Rattle.stored_rows.specs.declared.read_fault.ReadFault.{ReadFault}
 use Rattle.stored_rows.specs.declared.read_fault.ReadFault.TheVariants as read
-use Rattle.sql_schema.specs.Schema.{desk_schema, desk_tree, schema_0}
+use Rattle.sql_create.specs.Schema.{desk_schema, desk_tree, schema_0}
 use Rattle.sql_rows.specs.Ours.{AreOurs, IsOurs, Makes, content_of, kept_in}
 use Rattle.sql_writing.specs.Steps.{Turns}
 use Rattle.store_sql.specs.Fitting.{IsFitting}

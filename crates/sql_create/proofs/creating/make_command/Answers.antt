@@ -1,4 +1,4 @@
-use Rattle.sql_schema.specs.Texts.{create_command}
+use Rattle.sql_create.specs.Texts.{create_command}
 use Rattle.sql_create.proofs.CreateLemmas.{execution_keeps}
 use Rattle.sql_create.proofs.creating.make_command.Goals as goal
 

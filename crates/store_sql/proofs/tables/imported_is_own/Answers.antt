@@ -1,6 +1,6 @@
 use Rattle.std.specs.Prelude.{[], ◌∷◌}
 use Rattle.sqlite.specs.Held.{state}
-use Rattle.sql_schema.specs.Schema.{imported_tree}
+use Rattle.sql_create.specs.Schema.{imported_tree}
 use Rattle.sql_rows.specs.Ours.{AreOwn}
 use Rattle.store_sql.specs.Asking.{FindsNone, Joins}
 use Rattle.store_sql.specs.Own.{TellsOf}

@@ -1,2 +1,0 @@
-mod GrammarLemmas
-mod ReadingLemmas

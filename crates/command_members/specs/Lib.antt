@@ -1,3 +1,0 @@
-pub mod CommandMembers
-pub mod Readings
-pub mod Scalars

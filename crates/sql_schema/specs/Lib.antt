@@ -1,3 +1,0 @@
-pub mod Making
-pub mod Schema
-pub mod Texts
