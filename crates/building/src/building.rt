@@ -21,12 +21,12 @@ use crate::parsed_file::tree_of;
 use crate::sections::{calendars_in, panels_in, points_in, schedules_in};
 use crate::top_table::TopTable;
 use building_fault::BuildingFault;
+use local_times::ZoneRule;
 use points::{Content, Name, Panel, Point, Rule, permit_for};
 use rosters::Roster;
 use std::alloc::Global;
 use std::marker::Model;
 use toml::Table;
-use local_times::ZoneRule;
 
 /// The building of a file: its time zone, and its points, panels, calendars and schedules in file order.
 /// In it each name stands once in its section, references exist, values lie in their kinds, and nothing is

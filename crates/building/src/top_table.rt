@@ -8,8 +8,8 @@ ghost use Rattle.building.specs.TopTable.{section_at, section_of, section_or_non
 
 use crate::fields::Fields;
 use building_fault::{Cause, FileFault, Key, Location};
-use toml::{Table, Value};
 use local_times::ZoneRule;
+use toml::{Table, Value};
 
 /// The points that a building has at most (this profile's limit).
 const MOST_POINTS: usize = 1_000;

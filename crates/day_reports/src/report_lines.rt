@@ -3,10 +3,10 @@ ghost use Rattle.std.specs.Prelude.{◌≡◌, ◌++◌, IfOk, OnOk, string_byte
 ghost use Rattle.std.specs.List.{flat_map};
 ghost use Rattle.day_reports.specs.ReportLines.{activity, day_line, schedule_lines, segment_line, value_text};
 
+use building::NamedSchedule;
 use dates::{Day, weekday_name};
 use point_lines::push_right;
 use sched::{Calendar, TimeValue};
-use building::NamedSchedule;
 use std::alloc::{AllocError, Global};
 
 /// The places of a value.

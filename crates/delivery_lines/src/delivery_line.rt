@@ -13,8 +13,8 @@ ghost use Rattle.store.specs.declared.StoreFault.TheVariants.{NoMemory};
 
 use crate::clock_line::{import_in, tick_in};
 use crate::panel_line::panel_delivery_in;
-use crate::{LineFault, Told};
 use crate::usual_command::usual_command;
+use crate::{LineFault, Told};
 use building::Building;
 use deliveries::Delivery;
 use json::Scratch;
