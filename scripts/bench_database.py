@@ -55,7 +55,7 @@ def built_plain():
 
 
 def fresh(database):
-    for path in FOLDER.glob(database.name + "*"):
+    for path in database.parent.glob(database.name + "*"):
         path.unlink()
 
 

@@ -3,14 +3,18 @@
 The requests are made by `scripts/http_load.cpp`, which wants g++: commands in order, a mix of commands, repeats and
 points, and points alone, each over a new database. Where `strace` is installed, the share of the time that the server
 waits for the disk is told too. The commands in order are taken as well by `scripts/plain_desk.cpp` where that can be
-built: the two servers take turns.
+built: the two servers take turns, on the disk as it is, and with `strace` on a disk of memory each of whose syncs waits
+so long that the plain server makes some 2,830 commands a second. That is the disk of the figure that is asked, and waits
+as long for both servers whatever else the machine does.
 """
 import pathlib
 import re
 import shutil
 import socket
+import statistics
 import subprocess
 import sys
+import tempfile
 
 import bench_database
 
@@ -18,12 +22,15 @@ ROOT = pathlib.Path(__file__).resolve().parent.parent
 FOLDER = ROOT / "build" / "bench"
 REQUESTS = 10_000
 RUNS, PAIRS = 3, 6
+# What the plain server made on the disk on which the ratio was asked, a second, and how near a wait must come to it.
+ASKED, NEAR = 2_830, 0.08
+MEMORY = pathlib.Path("/dev/shm")
 KINDS = {"commands": "commands in order", "mixed": "commands, repeats and points", "points": "GETs of a point"}
 
 
-def served(kind, count, before=(), plain=None):
+def served(kind, count, before=(), plain=None, folder=FOLDER):
     """What the load tells of so many requests to a server of a new database: the desk's, or that of the plain program."""
-    database = FOLDER / "server.db"
+    database = folder / "server.db"
     bench_database.fresh(database)
     with socket.create_server(("127.0.0.1", 0)) as free:
         port = free.getsockname()[1]
@@ -58,6 +65,31 @@ def compare(plain):
     print(f"commands in order over HTTP: {ours:,.0f} a second where a plain server in C++ has {theirs:,.0f}: {ours / theirs:.2f} of them, in pairs {each}")
 
 
+def waiting(microseconds):
+    """The words that have each sync of a command wait so long."""
+    injected = f"--inject=fsync,fdatasync:delay_exit={microseconds}"
+    return ["strace", "-f", "--seccomp-bpf", "-o", "/dev/null", "-e", "trace=fsync,fdatasync", injected]
+
+
+def compare_on_the_asked_disk(plain):
+    """Pairs on a disk of memory that waits as the one did on which the ratio was asked: the middle one, and all."""
+    with tempfile.TemporaryDirectory(prefix="desk-bench-", dir=MEMORY) as room:
+        def speed(wait, program=None):
+            return served("commands", REQUESTS // 5, waiting(wait), program, pathlib.Path(room))[0]
+
+        wait = 100
+        for _ in range(8):
+            plainly = max(speed(wait, plain) for _ in range(RUNS))
+            if abs(plainly / ASKED - 1) < NEAR:
+                break
+            wait = max(0, round(wait + 1e6 / ASKED - 1e6 / plainly))
+        pairs = [(speed(wait), speed(wait, plain)) for _ in range(2 * PAIRS)]
+    ratios = sorted(desk / other for desk, other in pairs)
+    ours, theirs = (statistics.median(speeds) for speeds in zip(*pairs))
+    print(f"where each sync waits {wait} microseconds more: {ours:,.0f} commands a second where a plain server in C++ has "
+          f"{theirs:,.0f}: {statistics.median(ratios):.2f} in the middle of pairs from {ratios[0]:.2f} to {ratios[-1]:.2f}")
+
+
 def main():
     FOLDER.mkdir(parents=True, exist_ok=True)
     words = ["g++", "-O2", "-std=c++17", "-o", str(FOLDER / "http_load"), str(ROOT / "scripts" / "http_load.cpp")]
@@ -73,6 +105,8 @@ def main():
     plain = bench_database.built_plain()
     if plain:
         compare(plain)
+        if shutil.which("strace") and MEMORY.is_dir():
+            compare_on_the_asked_disk(plain)
 
 
 if __name__ == "__main__":
