@@ -4,8 +4,8 @@ The requests are made by `scripts/http_load.cpp`, which wants g++: commands in o
 points, and points alone, each over a new database. Where `strace` is installed, the share of the time that the server
 waits for the disk is told too. The commands in order are taken as well by `scripts/plain_desk.cpp` where that can be
 built: the two servers take turns, on the disk as it is, and with `strace` on a disk of memory each of whose syncs waits
-so long that the plain server makes some 2,830 commands a second. That is the disk of the figure that is asked, and waits
-as long for both servers whatever else the machine does.
+so long that the plain server makes some 2,830 commands a second, as it did on the machine of the first measurements.
+Such a disk waits as long for both servers, whatever else the machine does.
 """
 import pathlib
 import re
@@ -22,8 +22,8 @@ ROOT = pathlib.Path(__file__).resolve().parent.parent
 FOLDER = ROOT / "build" / "bench"
 REQUESTS = 10_000
 RUNS, PAIRS = 3, 6
-# What the plain server made on the disk on which the ratio was asked, a second, and how near a wait must come to it.
-ASKED, NEAR = 2_830, 0.08
+# What the plain server made a second on the disk that is the reference, and how near a wait must come to it.
+REFERENCE, NEAR = 2_830, 0.08
 MEMORY = pathlib.Path("/dev/shm")
 KINDS = {"commands": "commands in order", "mixed": "commands, repeats and points", "points": "GETs of a point"}
 
@@ -71,8 +71,8 @@ def waiting(microseconds):
     return ["strace", "-f", "--seccomp-bpf", "-o", "/dev/null", "-e", "trace=fsync,fdatasync", injected]
 
 
-def compare_on_the_asked_disk(plain):
-    """Pairs on a disk of memory that waits as the one did on which the ratio was asked: the middle one, and all."""
+def compare_on_the_reference_disk(plain):
+    """Pairs on a disk of memory that waits as the reference does: the middle one, the least and the greatest."""
     with tempfile.TemporaryDirectory(prefix="desk-bench-", dir=MEMORY) as room:
         def speed(wait, program=None):
             return served("commands", REQUESTS // 5, waiting(wait), program, pathlib.Path(room))[0]
@@ -80,9 +80,9 @@ def compare_on_the_asked_disk(plain):
         wait = 100
         for _ in range(8):
             plainly = max(speed(wait, plain) for _ in range(RUNS))
-            if abs(plainly / ASKED - 1) < NEAR:
+            if abs(plainly / REFERENCE - 1) < NEAR:
                 break
-            wait = max(0, round(wait + 1e6 / ASKED - 1e6 / plainly))
+            wait = max(0, round(wait + 1e6 / REFERENCE - 1e6 / plainly))
         pairs = [(speed(wait), speed(wait, plain)) for _ in range(2 * PAIRS)]
     ratios = sorted(desk / other for desk, other in pairs)
     ours, theirs = (statistics.median(speeds) for speeds in zip(*pairs))
@@ -106,7 +106,7 @@ def main():
     if plain:
         compare(plain)
         if shutil.which("strace") and MEMORY.is_dir():
-            compare_on_the_asked_disk(plain)
+            compare_on_the_reference_disk(plain)
 
 
 if __name__ == "__main__":
