@@ -3,7 +3,7 @@
 use crate::ends::{Page, Pieces};
 use counted::Counted;
 use desk::Desk;
-use panel_http::{Served, serve_one};
+use panel_http::{Routes, Served, serve_one};
 use std::alloc::Global;
 use std::fmt::Display;
 use std::io::{Read, Write};
@@ -38,7 +38,10 @@ pub(crate) fn served<S: Store + Drop, R: Read, W: Write>(
     reader: &mut Counted<R>,
     writer: &mut Counted<W>,
 ) -> Served {
-    serve_one(alloc, reader, writer, desk)
+    match Routes::new(alloc) {
+        Ok(routes) => serve_one(alloc, &routes, reader, writer, desk),
+        Err(_) => Served::NoRequest,
+    }
 }
 
 /// What a request that comes in pieces gets on a page with so much room.

@@ -11,7 +11,7 @@ use crate::unanswered::Unanswered;
 use crate::writing::write_answer;
 use counted::Counted;
 use desk::Desk;
-use request_reading::{Unread, read_request};
+use request_reading::{Routes, Unread, read_request};
 use std::alloc::Global;
 use std::io::{Read, Write};
 use store::Store;
@@ -19,6 +19,7 @@ use store::Store;
 /// Reads one request, carries out what it tells, and writes one response.
 pub fn serve_one<R: Read, W: Write, S: Store + Drop>(
     alloc: Global,
+    routes: &Routes,
     reader: &mut Counted<R>,
     writer: &mut Counted<W>,
     desk: &mut Desk<S>,
@@ -31,7 +32,7 @@ pub fn serve_one<R: Read, W: Write, S: Store + Drop>(
     ensures honest { (S.standing desk.new.store).is_honest → (S.standing desk.old.store).is_honest }
     ensures building { desk.new.building ≡ desk.old.building }
 {
-    match read_request(alloc, desk.building(), reader) {
+    match read_request(alloc, routes, desk.building(), reader) {
         Ok(request) => {
             let told = answer(alloc, desk, &request);
             write_answer(writer, told)

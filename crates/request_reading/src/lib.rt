@@ -7,6 +7,7 @@
 
 pub use reading::read_request;
 pub use request::{Request, Unread};
+pub use request_routes::Routes;
 pub use told::BodyTold;
 
 mod asking;

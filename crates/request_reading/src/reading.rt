@@ -20,9 +20,11 @@ use std::alloc::Global;
 use std::io::Read;
 
 /// Reads a request to the desk of a building. How the input is cut into reads doesn't matter, and no byte past the
-/// request's end is waited for. A read that fails is not made again.
+/// request's end is waited for. A read that fails is not made again. The routes are lent, since their table costs more to
+/// make than a request to read.
 pub fn read_request<R: Read>(
     alloc: Global,
+    routes: &Routes,
     building: &Building,
     reader: &mut Counted<R>,
 ) -> Result<Request, Unread>
@@ -32,7 +34,7 @@ pub fn read_request<R: Read>(
     let mut buffer = [0; 8_192];
     let mut headers = [EMPTY_HEADER_SPAN; 64];
     match read_head(reader, &mut buffer, &mut headers) {
-        Seen::Head(found) => read_after(alloc, building, reader, &buffer, &headers, &found),
+        Seen::Head(found) => read_after(alloc, routes, building, reader, &buffer, &headers, &found),
         Seen::NoHead => Ok(Request::Refused(Refusal::NoHead)),
         Seen::NoInput => Err(Unread::NoInput),
         Seen::Lost => Err(Unread::Lost),
@@ -42,6 +44,7 @@ pub fn read_request<R: Read>(
 /// Reads what a head asks for, of which the spans tell the parts.
 fn read_after<R: Read>(
     alloc: Global,
+    routes: &Routes,
     building: &Building,
     reader: &mut Counted<R>,
     buffer: &[u8],
@@ -56,8 +59,7 @@ fn read_after<R: Read>(
     ensures failures { Counts reader.old.failures reader.new.failures result }
 {
     let read = &buffer[..found.filled];
-    let routes = Routes::new(alloc)?;
-    match route_asked(&routes, read, headers, &found.spans) {
+    match route_asked(routes, read, headers, &found.spans) {
         Ok(asked) => read_asked(alloc, building, reader, &read[found.spans.len..], &asked),
         Err(refusal) => Ok(Request::Refused(refusal)),
     }

@@ -7,7 +7,7 @@ use deliveries::Delivery;
 use desk::Desk;
 use desk_console::Status;
 use http::StatusCode;
-use panel_http::{Served, serve_one};
+use panel_http::{Routes, Served, serve_one};
 use std::io::Read;
 use std::net::{Shutdown, TcpListener, TcpStream};
 use std::time::Instant;
@@ -19,6 +19,7 @@ use store::Store;
 /// With `clock`, a tick at the machine clock's moment is delivered before each request is read.
 pub(crate) fn serve_connections<S: Store + Drop>(
     rt: &HostRuntime,
+    routes: &Routes,
     desk: &mut Desk<S>,
     listener: &TcpListener,
     requests: u64,
@@ -26,7 +27,7 @@ pub(crate) fn serve_connections<S: Store + Drop>(
 ) -> Status {
     for _ in 0..requests {
         if let Ok((stream, _peer)) = listener.accept() {
-            let failed = serve_stream(rt, desk, &stream, clock);
+            let failed = serve_stream(rt, routes, desk, &stream, clock);
             if failed {
                 return Status::Store;
             }
@@ -39,6 +40,7 @@ pub(crate) fn serve_connections<S: Store + Drop>(
 /// it is let go.
 fn serve_stream<S: Store + Drop>(
     rt: &HostRuntime,
+    routes: &Routes,
     desk: &mut Desk<S>,
     stream: &TcpStream,
     clock: bool,
@@ -49,7 +51,7 @@ fn serve_stream<S: Store + Drop>(
     if clock {
         deliver_tick(rt, desk);
     }
-    let served = served(rt, desk, stream, taken);
+    let served = served(rt, routes, desk, stream, taken);
     if let Served::Answered(status) = served {
         end(rt, stream, taken, status);
         return status == StatusCode::INTERNAL_SERVER_ERROR;
@@ -60,13 +62,14 @@ fn serve_stream<S: Store + Drop>(
 /// Answers the request of a connection that was taken at this time.
 fn served<S: Store + Drop>(
     rt: &HostRuntime,
+    routes: &Routes,
     desk: &mut Desk<S>,
     stream: &TcpStream,
     taken: Instant,
 ) -> Served {
     let mut reader = Counted::new(TimedStream::new(rt, stream, taken));
     let mut writer = Counted::new(TimedStream::new(rt, stream, taken));
-    serve_one(rt.alloc(), &mut reader, &mut writer, desk)
+    serve_one(rt.alloc(), routes, &mut reader, &mut writer, desk)
 }
 
 /// Delivers a tick at the moment of the machine's clock, if it can be told. A fault of the store shows at the request.

@@ -8,6 +8,7 @@ use crate::answering::open_desk;
 use crate::connections::serve_connections;
 use desk::Desk;
 use desk_console::{Input, RunFault, Status, print_whole, read_building};
+use panel_http::Routes;
 use std::alloc::{AllocError, Global};
 use std::io::{Read, Write};
 use std::net::TcpListener;
@@ -78,10 +79,18 @@ fn listen<'a, S: Store + Drop, W: Write>(
 ) -> Result<Status, RunFault<'a>>
     ensures { OnOk result (Appends (W.contents out.old) (W.contents out.new) (listening_line serving.now.address.now)) }
 {
+    let routes = Routes::new(rt.alloc())?;
     let listener = bound(rt, serving.address)?;
     let line = listening_line(rt.alloc(), serving.address)?;
     print_whole(out, line.as_str())?;
-    Ok(serve_connections(rt, desk, &listener, serving.requests, serving.clock))
+    Ok(serve_connections(
+        rt,
+        &routes,
+        desk,
+        &listener,
+        serving.requests,
+        serving.clock,
+    ))
 }
 
 /// What takes the connections to an address.
