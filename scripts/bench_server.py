@@ -21,7 +21,8 @@ import bench_database
 ROOT = pathlib.Path(__file__).resolve().parent.parent
 FOLDER = ROOT / "build" / "bench"
 REQUESTS = 10_000
-RUNS, PAIRS = 3, 6
+# One pair differs from the next by a third on a shared machine, so it takes this many to tell the middle of them.
+RUNS, PAIRS, PAIRS_IN_MEMORY = 3, 20, 12
 # What the plain server made a second on the disk that is the reference, and how near a wait must come to it.
 REFERENCE, NEAR = 2_830, 0.08
 MEMORY = pathlib.Path("/dev/shm")
@@ -57,12 +58,18 @@ def waited(kind):
     return seconds / (REQUESTS / 5 / a_second)
 
 
+def told(pairs):
+    """What pairs of speeds come to: the middle of each, and the middle one, the least and the greatest of their ratios."""
+    ratios = sorted(desk / other for desk, other in pairs)
+    ours, theirs = (statistics.median(speeds) for speeds in zip(*pairs))
+    return (f"{ours:,.0f} commands a second where a plain server in C++ has {theirs:,.0f}: "
+            f"{statistics.median(ratios):.2f} in the middle of pairs from {ratios[0]:.2f} to {ratios[-1]:.2f}")
+
+
 def compare(plain):
-    """Commands in order to both servers in turn: the fastest of each, and the pairs."""
+    """Pairs on the disk as it is."""
     pairs = [(served("commands", REQUESTS)[0], served("commands", REQUESTS, plain=plain)[0]) for _ in range(PAIRS)]
-    ours, theirs = (max(speeds) for speeds in zip(*pairs))
-    each = ", ".join(f"{desk / other:.2f}" for desk, other in pairs)
-    print(f"commands in order over HTTP: {ours:,.0f} a second where a plain server in C++ has {theirs:,.0f}: {ours / theirs:.2f} of them, in pairs {each}")
+    print(f"over HTTP: {told(pairs)}", flush=True)
 
 
 def waiting(microseconds):
@@ -72,7 +79,7 @@ def waiting(microseconds):
 
 
 def compare_on_the_reference_disk(plain):
-    """Pairs on a disk of memory that waits as the reference does: the middle one, the least and the greatest."""
+    """Pairs on a disk of memory that waits as the reference does."""
     with tempfile.TemporaryDirectory(prefix="desk-bench-", dir=MEMORY) as room:
         def speed(wait, program=None):
             return served("commands", REQUESTS // 5, waiting(wait), program, pathlib.Path(room))[0]
@@ -83,11 +90,8 @@ def compare_on_the_reference_disk(plain):
             if abs(plainly / REFERENCE - 1) < NEAR:
                 break
             wait = max(0, round(wait + 1e6 / REFERENCE - 1e6 / plainly))
-        pairs = [(speed(wait), speed(wait, plain)) for _ in range(2 * PAIRS)]
-    ratios = sorted(desk / other for desk, other in pairs)
-    ours, theirs = (statistics.median(speeds) for speeds in zip(*pairs))
-    print(f"where each sync waits {wait} microseconds more: {ours:,.0f} commands a second where a plain server in C++ has "
-          f"{theirs:,.0f}: {statistics.median(ratios):.2f} in the middle of pairs from {ratios[0]:.2f} to {ratios[-1]:.2f}")
+        pairs = [(speed(wait), speed(wait, plain)) for _ in range(PAIRS_IN_MEMORY)]
+    print(f"where each sync waits {wait} microseconds more: {told(pairs)}")
 
 
 def main():
@@ -98,10 +102,10 @@ def main():
     bench_database.write_building(FOLDER / "database.toml")
     for kind, name in KINDS.items():
         a_second, median, hundredth = max(served(kind, REQUESTS) for _ in range(RUNS))
-        told = f"{name} over HTTP: {a_second:,.0f} a second, {median:.0f} microseconds at the median, {hundredth:.0f} at the 99th hundredth"
+        line = f"{name} over HTTP: {a_second:,.0f} a second, {median:.0f} microseconds at the median, {hundredth:.0f} at the 99th hundredth"
         if shutil.which("strace") and kind != "points":
-            told += f"; {waited(kind):.0%} of the time is waiting for the disk"
-        print(told, flush=True)
+            line += f"; {waited(kind):.0%} of the time is waiting for the disk"
+        print(line, flush=True)
     plain = bench_database.built_plain()
     if plain:
         compare(plain)
