@@ -23,7 +23,7 @@ fn connected<D: Disk + Drop>(
     }
     let mut options = Options::new(7);
     options.checkpoint_frames = CHECKPOINT_FRAMES;
-    match Connection::open_files(alloc, files, options) {
+    match desk_database::connected(alloc, files, options) {
         Ok(connection) => Ok(connection),
         Err((_error, left)) => Err(left.into_files()),
     }

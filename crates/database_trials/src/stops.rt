@@ -144,18 +144,10 @@ fn try_place(
     Ok(left.has_failed.then_some(answered))
 }
 
-// The files of a database whose tables are empty.
-fn made(alloc: Global, wanted: &Wanted) -> Result<Left, Fail> {
-    let mut told = Told::new(alloc);
-    let script = wanted.script("");
-    run_on_disk(alloc, Image::empty(), Place::nowhere(), script, &mut told)
-}
-
-// Runs the list with trouble after none, one, two and more calls of a file, as far as it comes. At how many deliveries
-// it was.
+// Runs the list over files that hold nothing yet, with trouble after none, one, two and more calls of a file, as far as
+// it comes. At how many deliveries it was.
 fn try_places(rt: &impl Abort, alloc: Global, trouble: Trouble, file: File) -> Result<usize, Fail> {
     let wanted = Wanted::new(alloc)?;
-    let start = made(alloc, &wanted)?;
     let (mut last, mut met) = (COUNT, 0usize);
     for calls in 0..MOST_CALLS {
         let place = Place {
@@ -163,7 +155,7 @@ fn try_places(rt: &impl Abort, alloc: Global, trouble: Trouble, file: File) -> R
             file,
             calls,
         };
-        let Some(answered) = try_place(rt, alloc, &wanted, start.written(), place)? else {
+        let Some(answered) = try_place(rt, alloc, &wanted, Image::empty(), place)? else {
             return Ok(met);
         };
         if answered != last {

@@ -1,11 +1,19 @@
 //! The store in the database of a path.
-ghost use Rattle.std.specs.Prelude.{◌≡◌};
+ghost use Rattle.std.specs.Prelude.{◌≡◌, IsTrue, IfOk};
+ghost use Rattle.sqlite_std_file.specs.File.{file_is_usable};
 ghost use Rattle.sqlite.specs.declared.error.Error.TheVariants.{SqliteFailure};
 ghost use Rattle.sqlite.specs.declared.error.ErrorCode.TheVariants.{OutOfMemory};
 ghost use Rattle.store.specs.declared.open_fault.OpenFault.TheVariants.{Failed, NoMemory};
 
-use sqlite::{Alter, Connection, Error, ErrorCode, File, FileStore};
+use crate::connecting::{connected, options};
+use sqlite::{
+    Alter, Connection, Error, ErrorCode, File, FileFrom, FileStore, Files, Options, Start, Unknown,
+};
+use sqlite_disk::Disk;
+use sqlite_std_file::OpenError;
 use std::alloc::Global;
+use std::hash::{BuildHasher, RandomState};
+use std::io::ErrorKind;
 use store::OpenFault;
 use store_sql::SqlStore;
 
@@ -20,23 +28,66 @@ fn fault_of(error: &Error) -> OpenFault
     }
 }
 
-/// The store over a connection, whose tables are made where there is nothing. It is generic over the files, since a call
-/// that ends in more than one way is dear to prove where it names the types of real ones.
+/// The same of files that are not opened at all.
+fn files_fault(error: &OpenError) -> OpenFault {
+    match error {
+        OpenError::OutOfMemory => OpenFault::NoMemory,
+        OpenError::Io(error) if error.kind() == ErrorKind::OutOfMemory => OpenFault::NoMemory,
+        _ => OpenFault::Failed,
+    }
+}
+
+/// The two files of a database, which are made where they are missing. A path that SQLite reads as no file's is refused.
+fn files_at<S: Start>(
+    rt: &HostRuntime,
+    path: &str,
+    start: S,
+) -> Result<Files<FileFrom<S>>, OpenFault>
+    ensures log { IfOk result (λ files. IsTrue (file_is_usable S.Start files.log)) }
+    ensures db { IfOk result (λ files. IsTrue (file_is_usable S.Start files.db)) }
+{
+    if path == ":memory:" || path.starts_with("file:") {
+        return Err(OpenFault::Failed);
+    }
+    match sqlite_std_file::open(rt, path, start) {
+        Ok(files) => Ok(files),
+        Err(error) => Err(files_fault(&error)),
+    }
+}
+
+/// The store over a connection, whose tables are made where there is nothing.
 fn store_over<S: Alter + Drop>(
     alloc: Global,
-    connected: Result<Connection<S>, Error>,
+    connection: Connection<S>,
 ) -> Result<SqlStore<S>, OpenFault> {
-    match connected {
-        Ok(connection) => match SqlStore::create_or_open(alloc, connection) {
-            Ok(store) => Ok(store),
-            Err((fault, _connection)) => Err(fault),
-        },
-        Err(error) => Err(fault_of(&error)),
+    match SqlStore::create_or_open(alloc, connection) {
+        Ok(store) => Ok(store),
+        Err((fault, _connection)) => Err(fault),
+    }
+}
+
+/// The store in the database of two files, which is begun where there is none. It is generic over the files, since a call
+/// that ends in more than one way is dear to prove where it names the types of real ones.
+fn store_in<D: Disk + Drop>(
+    alloc: Global,
+    files: Files<D>,
+    options: Options,
+) -> Result<SqlStore<FileStore<D>>, OpenFault>
+    requires log { IsTrue (D.Disk.is_usable files.log) }
+    requires db { IsTrue (D.Disk.is_usable files.db) }
+{
+    match connected(alloc, files, options) {
+        Ok(connection) => store_over(alloc, connection),
+        Err((error, _files)) => Err(fault_of(&error)),
     }
 }
 
 /// The store in the database of a path, whose file and tables are made where there is nothing. A database that another
 /// process holds is not opened.
 pub fn open_store(rt: &HostRuntime, path: &str) -> Result<SqlStore<FileStore<File>>, OpenFault> {
-    store_over(rt.alloc(), Connection::open(rt, path))
+    let files = files_at(rt, path, Unknown)?;
+    let Ok(state) = RandomState::new(rt) else {
+        return Err(OpenFault::Failed);
+    };
+    store_in(rt.alloc(), files, options(state.hash_one(&0u8)))
 }

@@ -1,13 +1,13 @@
-//! How does a run of `desk tick`, `desk import`, `desk report` or `desk serve` get its files?
+//! How is the store in the database of a path opened?
 //!
-//! `run` opens the files of the paths and the store in the database of a path (`open_store`), and hands them to
-//! `store_runs`. All that knows the types of a real file stands here, in that one function, so that
-//! what they cost to prove is paid once, and beside the other subcommands.
+//! `open_store` has the two files of a path, a connection to the database in them (`connecting`), and the store over that.
+//! Where there is no database, one is begun: it has small pages, since a command's commit writes five of them whole. What a
+//! connection then shows is `specs/Begun.antt`. All that knows the types of a real file stands in that one function, so
+//! that what they cost to prove is paid once.
 #![tactic(auto)]
 
+pub use connecting::{connected, options};
 pub use database_file::open_store;
-pub use runs::{Asked, run};
-pub use store_runs::Serving;
 
+mod connecting;
 mod database_file;
-mod runs;

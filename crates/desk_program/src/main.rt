@@ -1,14 +1,17 @@
 //! The program `desk`: hands the words, the files and the standard streams to the libraries that do the work.
 #![tactic(auto)]
 
+use crate::runs::Asked;
 use command_line::{ArgFault, Line};
 use desk_cli::{check, replay};
 use desk_console::{Input, Listed, Status};
-use desk_database::{Asked, Serving};
 use std::env;
 use std::fs::{self, File};
 use std::io::{self, BufReader, BufWriter, Write};
 use std::process::ExitCode;
+use store_runs::Serving;
+
+mod runs;
 
 /// Opens the null device, for reading, on each standard descriptor that is closed, so that no other file
 /// gets its number. A write to such a descriptor fails, as it should.
@@ -91,9 +94,9 @@ fn run(rt: &HostRuntime, words: &[String]) -> io::Result<Status> {
                 database,
                 holidays,
             },
-        ) => desk_database::run(rt, file, database, &Asked::Import { holidays }),
+        ) => runs::run(rt, file, database, &Asked::Import { holidays }),
         Ok(Line::Tick { file, database, at }) => {
-            desk_database::run(rt, file, database, &Asked::Tick { at })
+            runs::run(rt, file, database, &Asked::Tick { at })
         }
         Ok(
             Line::Report {
@@ -101,7 +104,7 @@ fn run(rt: &HostRuntime, words: &[String]) -> io::Result<Status> {
                 database,
                 date,
             },
-        ) => desk_database::run(rt, file, database, &Asked::Report { date }),
+        ) => runs::run(rt, file, database, &Asked::Report { date }),
         Ok(
             Line::Serve {
                 file,
@@ -116,7 +119,7 @@ fn run(rt: &HostRuntime, words: &[String]) -> io::Result<Status> {
                 requests,
                 clock,
             };
-            desk_database::run(rt, file, database, &Asked::Serve(serving))
+            runs::run(rt, file, database, &Asked::Serve(serving))
         }
         Err(fault) => Ok(refuse(rt, &fault)),
     }

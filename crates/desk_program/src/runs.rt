@@ -1,6 +1,6 @@
 //! The runs of the subcommands that take a database.
-use crate::database_file::open_store;
 use desk_console::{Input, Status};
+use desk_database::open_store;
 use std::fs;
 use std::io::{self, BufWriter, Read, Write};
 use store::{OpenFault, Store};

@@ -1,0 +1,132 @@
+//! A connection to the database in a file and its log.
+ghost use Rattle.std.specs.Prelude.{◌≡◌, [], IsTrue, IfOk, IfErr};
+ghost use Rattle.sqlite_store.specs.Unopened.{files_of, state_of, wanted_by, AreUsable};
+ghost use Rattle.sqlite.specs.Held.{IsNew};
+ghost use Rattle.sqlite.specs.State.{HasCleanDisk};
+ghost use Rattle.sqlite.specs.Files.{file_state, IsOpened};
+ghost use Rattle.sqlite.specs.Opening.{is_open_error};
+ghost use Rattle.desk_database.specs.Begun.{IsBegun, FindsOrBegins};
+ghost use Rattle.desk_database.specs.declared.connecting.TheConstants.{PAGES_IN_LOG, PAGES_IN_MEMORY};
+
+use sqlite::{Connection, Error, ErrorCode, FileStore, Files, Leftover, Options};
+use sqlite_disk::Disk;
+use sqlite_pager::{PageSize, Pager};
+use sqlite_pool::probe_blank;
+use sqlite_store::{OpenError, Unopened};
+use std::alloc::{AllocFailed, Global};
+
+/// The bytes of a page of a new database, a quarter of SQLite's own: a command writes five pages whole.
+const PAGE_BYTES: usize = 1024;
+
+/// How many pages are kept in memory, of those read and of those written, before they are let go or go to the log: 8 MB.
+const PAGES_IN_MEMORY: usize = 8000;
+
+/// How many pages the log has before it is copied into the database file: 4 MB, as with SQLite's own pages.
+const PAGES_IN_LOG: usize = 4000;
+
+/// How a database with pages of this size is kept. The seed is a random number.
+pub fn options(seed: u64) -> Options
+    ensures seed { result.seed ≡ seed }
+    ensures memory { (result.cache_pages ≡ PAGES_IN_MEMORY) × (result.spill_pages ≡ PAGES_IN_MEMORY) }
+    ensures log { result.checkpoint_frames ≡ PAGES_IN_LOG }
+{
+    Options {
+        cache_pages: PAGES_IN_MEMORY,
+        spill_pages: PAGES_IN_MEMORY,
+        checkpoint_frames: PAGES_IN_LOG,
+        seed,
+    }
+}
+
+/// Why a database could not be begun, in the words of an open.
+fn error_of(error: OpenError) -> Error
+    ensures named { IsTrue (is_open_error result) }
+{
+    Error::SqliteFailure(match error {
+        OpenError::OutOfMemory => ErrorCode::OutOfMemory,
+        OpenError::Io => ErrorCode::SystemIoFailure,
+        OpenError::Full => ErrorCode::DiskFull,
+        OpenError::Refused => ErrorCode::DatabaseCorrupt,
+    })
+}
+
+/// Why it could not be told whether there is a database.
+fn probe_error(error: &sqlite_wal::Error) -> Error
+    ensures named { IsTrue (is_open_error result) }
+{
+    Error::SqliteFailure(match error {
+        sqlite_wal::Error::OutOfMemory => ErrorCode::OutOfMemory,
+        sqlite_wal::Error::Full => ErrorCode::DiskFull,
+        _ => ErrorCode::SystemIoFailure,
+    })
+}
+
+/// The files of a database that is to have pages of this size and no table. They are given back where memory is refused.
+fn unopened<D: Disk>(
+    alloc: Global,
+    files: Files<D>,
+    size: PageSize,
+    options: Options,
+) -> Result<Unopened<D>, Files<D>>
+    ensures files { IfOk result (λ it. files_of it ≡ (files.log, files.db)) }
+    ensures none { IfOk result (λ it. wanted_by it ≡ []) }
+{
+    let pager = match Pager::new(alloc, files, size, options) {
+        Ok(pager) => pager,
+        Err(AllocFailed { value }) => return Err(value),
+    };
+    match Unopened::new(alloc, pager, &[]) {
+        Ok(fresh) => Ok(fresh),
+        Err(AllocFailed { value }) => Err(value.close()),
+    }
+}
+
+/// Makes a database with no table in files that hold none, and connects to it.
+fn begun<D: Disk + Drop>(
+    alloc: Global,
+    fresh: Unopened<D>,
+) -> Result<Connection<FileStore<D>>, (Error, Leftover<D>)>
+    requires usable { AreUsable fresh }
+    requires none { wanted_by fresh ≡ [] }
+    ensures named { IfErr result (λ e. IsTrue (is_open_error e.0)) }
+    ensures opened { IfOk result (λ c. HasCleanDisk (file_state c) → IsOpened c) }
+    ensures empty { IfOk result (λ c. HasCleanDisk (file_state c) → IsTrue (state_of fresh).is_clean × IsBegun c) }
+    ensures fresh { IfOk result IsNew }
+{
+    let store = match fresh.create() {
+        Ok(store) => store,
+        Err((error, left)) => return Err((error_of(error), Leftover::Unopened(left))),
+    };
+    match Connection::over(alloc, store) {
+        Ok(connection) => Ok(connection),
+        Err((error, store)) => Err((error, Leftover::Store(store))),
+    }
+}
+
+/// A connection to the database that the files hold, or to an empty one that is begun where they hold none; what is left of
+/// the files where that fails. What a stop leaves of a beginning is taken for none.
+pub fn connected<D: Disk + Drop>(
+    alloc: Global,
+    mut files: Files<D>,
+    options: Options,
+) -> Result<Connection<FileStore<D>>, (Error, Leftover<D>)>
+    requires log { IsTrue (D.Disk.is_usable files.log) }
+    requires db { IsTrue (D.Disk.is_usable files.db) }
+    ensures named { IfErr result (λ e. IsTrue (is_open_error e.0)) }
+    ensures opened { IfOk result (λ c. HasCleanDisk (file_state c) → IsOpened c) }
+    ensures found { IfOk result (λ c. HasCleanDisk (file_state c) → FindsOrBegins files c) }
+    ensures fresh { IfOk result IsNew }
+{
+    let size = PageSize::new(PAGE_BYTES).unwrap();
+    match probe_blank(alloc, &mut files, size, false) {
+        Ok(false) => Connection::open_files(alloc, files, options),
+        Ok(true) => match unopened(alloc, files, size, options) {
+            Ok(fresh) => begun(alloc, fresh),
+            Err(left) => Err((
+                Error::SqliteFailure(ErrorCode::OutOfMemory),
+                Leftover::Files(left),
+            )),
+        },
+        Err(error) => Err((probe_error(&error), Leftover::Files(files))),
+    }
+}
