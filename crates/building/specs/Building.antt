@@ -6,7 +6,7 @@ use Rattle.building.specs.PanelTable.{is_sound_panel}
 use Rattle.building.specs.PointTable.{is_sound_point}
 use Rattle.points.specs.declared.Panel.{Panel}
 use Rattle.points.specs.declared.Point.{Point}
-use Rattle.rosters.specs.Roster.{are_distinct}
+use Rattle.building.specs.Roster.{are_distinct}
 use Rattle.building.specs.declared.named_calendar.NamedCalendar.{NamedCalendar}
 use Rattle.building.specs.declared.named_schedule.NamedSchedule.{NamedSchedule}
 use Rattle.building.specs.ScheduleTable.{is_sound_schedule}

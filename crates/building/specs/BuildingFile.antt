@@ -3,13 +3,13 @@ use Rattle.std.specs.Prelude.{ℕ, nat_le, List, [], ◌∷◌, length, Option, 
 use Rattle.toml.specs.Data.{Items, Members}
 use Rattle.toml.specs.Parse.{parse_document}
 use Rattle.jiff_tz.specs.PosixText.{TzText}
-use Rattle.building_fault.specs.declared.cause.Cause.TheVariants.{BeyondLimit, NotToml}
-use Rattle.building_fault.specs.declared.file_fault.FileFault.{FileFault}
-use Rattle.building_fault.specs.declared.key.Key.{Key}
-use Rattle.building_fault.specs.declared.key.Key.TheVariants as key
-use Rattle.building_fault.specs.declared.section.Section.TheVariants as section
-use Rattle.building_fault.specs.FaultAt.{fault_at}
-use Rattle.building_fault.specs.Steps.{◌>>=◌, or_fault, where_holds}
+use Rattle.building.specs.declared.cause.Cause.TheVariants.{BeyondLimit, NotToml}
+use Rattle.building.specs.declared.file_fault.FileFault.{FileFault}
+use Rattle.building.specs.declared.key.Key.{Key}
+use Rattle.building.specs.declared.key.Key.TheVariants as key
+use Rattle.building.specs.declared.section.Section.TheVariants as section
+use Rattle.building.specs.FaultAt.{fault_at}
+use Rattle.building.specs.Steps.{◌>>=◌, or_fault, where_holds}
 use Rattle.building.specs.PanelTable.{panel_in}
 use Rattle.building.specs.PointTable.{point_in}
 use Rattle.building.specs.Section.{each_table, table_in}

@@ -1,10 +1,10 @@
 -- The calendar that a `[[calendar]]` table names.
 use Rattle.std.specs.Prelude.{ℕ, List, Result, Ok}
 use Rattle.toml.specs.Data.{Members}
-use Rattle.building_fault.specs.declared.file_fault.FileFault.{FileFault}
-use Rattle.building_fault.specs.declared.key.Key.TheVariants as key
-use Rattle.building_fault.specs.declared.location.Location.{Location}
-use Rattle.building_fault.specs.Steps.{◌>>=◌}
+use Rattle.building.specs.declared.file_fault.FileFault.{FileFault}
+use Rattle.building.specs.declared.key.Key.TheVariants as key
+use Rattle.building.specs.declared.location.Location.{Location}
+use Rattle.building.specs.Steps.{◌>>=◌}
 use Rattle.building.specs.declared.named_calendar.NamedCalendar.{NamedCalendar}
 use Rattle.building.specs.EntryText.{entry_in}
 use Rattle.building.specs.Fields.{list_at}

@@ -1,16 +1,16 @@
 -- The exceptions of a schedule in a building file.
 use Rattle.std.specs.Prelude.{ℕ, Bool, true, ◌&&◌, nat_lt, List, [], ◌∷◌, length, position, Option, Some, None, option_and_then, option_map, Result, Ok, Err}
 use Rattle.toml.specs.Data.{Data, Members, as_table, get_member}
-use Rattle.building_fault.specs.declared.cause.Cause.TheVariants.{MissingKey, UnknownKey, UnknownName, WrongType}
-use Rattle.building_fault.specs.declared.file_fault.FileFault.{FileFault}
-use Rattle.building_fault.specs.declared.key.Key.{Key}
-use Rattle.building_fault.specs.declared.key.Key.TheVariants as key
-use Rattle.building_fault.specs.declared.location.Location.{Location}
-use Rattle.building_fault.specs.FaultAt.{fault_at}
-use Rattle.building_fault.specs.FaultLine.{key_text}
-use Rattle.building_fault.specs.Steps.{◌>>=◌, or_fault}
+use Rattle.building.specs.declared.cause.Cause.TheVariants.{MissingKey, UnknownKey, UnknownName, WrongType}
+use Rattle.building.specs.declared.file_fault.FileFault.{FileFault}
+use Rattle.building.specs.declared.key.Key.{Key}
+use Rattle.building.specs.declared.key.Key.TheVariants as key
+use Rattle.building.specs.declared.location.Location.{Location}
+use Rattle.building.specs.FaultAt.{fault_at}
+use Rattle.building.specs.FaultLine.{key_text}
+use Rattle.building.specs.Steps.{◌>>=◌, or_fault}
 use Rattle.points.specs.declared.Kind.{Kind}
-use Rattle.rosters.specs.Roster.{has_the_name}
+use Rattle.building.specs.Roster.{has_the_name}
 use Rattle.sched.specs.declared.day_list.TimeValue.{TimeValue}
 use Rattle.sched.specs.declared.calendar.CalId.{CalId}
 use Rattle.sched.specs.declared.exception.Exception.{Exception}

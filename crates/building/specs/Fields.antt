@@ -3,14 +3,14 @@ use Rattle.std.specs.Prelude.{ℕ, ℤ, Bool, true, ◌&&◌, List, Option, Some
 use Rattle.std.specs.List.{list_any}
 use Rattle.std.specs.Str.{bytes_eq}
 use Rattle.toml.specs.Data.{Data, Items, Members, no_members, member, as_array, as_integer, as_str, get_member}
-use Rattle.building_fault.specs.declared.cause.Cause.TheVariants.{MissingKey, UnknownKey, WrongType}
-use Rattle.building_fault.specs.declared.file_fault.FileFault.{FileFault}
-use Rattle.building_fault.specs.declared.key.Key.{Key}
-use Rattle.building_fault.specs.declared.key.Key.TheVariants as key
-use Rattle.building_fault.specs.declared.location.Location.{Location}
-use Rattle.building_fault.specs.FaultAt.{fault_at}
-use Rattle.building_fault.specs.FaultLine.{key_text}
-use Rattle.building_fault.specs.Steps.{◌>>=◌, or_fault, where_holds}
+use Rattle.building.specs.declared.cause.Cause.TheVariants.{MissingKey, UnknownKey, WrongType}
+use Rattle.building.specs.declared.file_fault.FileFault.{FileFault}
+use Rattle.building.specs.declared.key.Key.{Key}
+use Rattle.building.specs.declared.key.Key.TheVariants as key
+use Rattle.building.specs.declared.location.Location.{Location}
+use Rattle.building.specs.FaultAt.{fault_at}
+use Rattle.building.specs.FaultLine.{key_text}
+use Rattle.building.specs.Steps.{◌>>=◌, or_fault, where_holds}
 
 -- the table has no key but these
 abbrev pub has_only : List Key → Members → Bool

@@ -1,12 +1,12 @@
 -- What is read of the items of a list.
 use Rattle.std.specs.Prelude.{ℕ, ◌+◌, ◌==◌, Bool, true, ◌&&◌, nat_le, List, [], ◌∷◌, Result, Ok, is_some, ⊤}
 use Rattle.toml.specs.Data.{Data, Items, no_items, item, as_table, get_item}
-use Rattle.building_fault.specs.declared.cause.Cause.TheVariants.{BeyondLimit, WrongType}
-use Rattle.building_fault.specs.declared.file_fault.FileFault.{FileFault}
-use Rattle.building_fault.specs.declared.key.Key.{Key}
-use Rattle.building_fault.specs.declared.location.Location.{Location}
-use Rattle.building_fault.specs.FaultAt.{fault_at}
-use Rattle.building_fault.specs.Steps.{◌>>=◌, or_fault, where_holds}
+use Rattle.building.specs.declared.cause.Cause.TheVariants.{BeyondLimit, WrongType}
+use Rattle.building.specs.declared.file_fault.FileFault.{FileFault}
+use Rattle.building.specs.declared.key.Key.{Key}
+use Rattle.building.specs.declared.location.Location.{Location}
+use Rattle.building.specs.FaultAt.{fault_at}
+use Rattle.building.specs.Steps.{◌>>=◌, or_fault, where_holds}
 use Rattle.building.specs.Fields.{list_in}
 
 -- what is read of each item, or the first fault

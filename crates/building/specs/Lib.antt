@@ -1,9 +1,12 @@
+pub mod Answers
 pub mod Building
 pub mod BuildingFile
 pub mod CalendarTable
 pub mod DayValues
 pub mod EntryText
 pub mod ExceptionTable
+pub mod FaultAt
+pub mod FaultLine
 pub mod Fields
 pub mod Items
 pub mod Kinds
@@ -11,7 +14,10 @@ pub mod PanelTable
 pub mod PointTable
 pub mod Priority
 pub mod Reference
+pub mod Roster
 pub mod ScheduleTable
 pub mod Section
+pub mod Steps
 pub mod TimeLists
+pub mod TimeValue
 pub mod TopTable

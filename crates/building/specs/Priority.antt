@@ -1,12 +1,12 @@
 -- Priorities of a building file.
 use Rattle.std.specs.Prelude.{ℕ, ℤ, pos, negsuc, ◌==◌, Bool, ◌&&◌, not, nat_le, Option, Some, None, Result, if◌then◌else◌}
 use Rattle.toml.specs.Data.{Data}
-use Rattle.building_fault.specs.declared.cause.Cause.TheVariants.{NotAPriority}
-use Rattle.building_fault.specs.declared.file_fault.FileFault.{FileFault}
-use Rattle.building_fault.specs.declared.key.Key.{Key}
-use Rattle.building_fault.specs.declared.location.Location.{Location}
-use Rattle.building_fault.specs.FaultAt.{fault_at}
-use Rattle.building_fault.specs.Steps.{◌>>=◌, or_fault}
+use Rattle.building.specs.declared.cause.Cause.TheVariants.{NotAPriority}
+use Rattle.building.specs.declared.file_fault.FileFault.{FileFault}
+use Rattle.building.specs.declared.key.Key.{Key}
+use Rattle.building.specs.declared.location.Location.{Location}
+use Rattle.building.specs.FaultAt.{fault_at}
+use Rattle.building.specs.Steps.{◌>>=◌, or_fault}
 use Rattle.building.specs.Fields.{integer_in}
 
 -- 1 to 16

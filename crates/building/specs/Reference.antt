@@ -1,15 +1,15 @@
 -- Names that refer to items of the file.
 use Rattle.std.specs.Prelude.{ℕ, Bool, ◌&&◌, not, List, [], ◌∷◌, ◌++◌, Result, Ok}
 use Rattle.toml.specs.Data.{Items, no_items, item}
-use Rattle.building_fault.specs.declared.cause.Cause.TheVariants.{RepeatedName, UnknownName}
-use Rattle.building_fault.specs.declared.file_fault.FileFault.{FileFault}
-use Rattle.building_fault.specs.declared.key.Key.{Key}
-use Rattle.building_fault.specs.declared.location.Location.{Location}
-use Rattle.building_fault.specs.FaultAt.{fault_at}
-use Rattle.building_fault.specs.Steps.{◌>>=◌, where_holds}
+use Rattle.building.specs.declared.cause.Cause.TheVariants.{RepeatedName, UnknownName}
+use Rattle.building.specs.declared.file_fault.FileFault.{FileFault}
+use Rattle.building.specs.declared.key.Key.{Key}
+use Rattle.building.specs.declared.location.Location.{Location}
+use Rattle.building.specs.FaultAt.{fault_at}
+use Rattle.building.specs.Steps.{◌>>=◌, where_holds}
 use Rattle.points.specs.Name.{is_name}
 use Rattle.points.specs.Names.{is_among}
-use Rattle.rosters.specs.Roster.{has_name}
+use Rattle.building.specs.Roster.{has_name}
 use Rattle.building.specs.Fields.{text_in}
 
 -- an item that is there has the name

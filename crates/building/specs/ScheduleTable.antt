@@ -3,12 +3,12 @@ use Rattle.std.specs.Prelude.{ℕ, Bool, ◌&&◌, List, [], Option, Some, None,
 use Rattle.std.specs.List.{list_all}
 use Rattle.std.specs.Str.{bytes_eq}
 use Rattle.toml.specs.Data.{Members}
-use Rattle.building_fault.specs.declared.cause.Cause.TheVariants.{WrongType}
-use Rattle.building_fault.specs.declared.file_fault.FileFault.{FileFault}
-use Rattle.building_fault.specs.declared.key.Key.TheVariants as key
-use Rattle.building_fault.specs.declared.location.Location.{Location}
-use Rattle.building_fault.specs.FaultAt.{fault_at}
-use Rattle.building_fault.specs.Steps.{◌>>=◌}
+use Rattle.building.specs.declared.cause.Cause.TheVariants.{WrongType}
+use Rattle.building.specs.declared.file_fault.FileFault.{FileFault}
+use Rattle.building.specs.declared.key.Key.TheVariants as key
+use Rattle.building.specs.declared.location.Location.{Location}
+use Rattle.building.specs.FaultAt.{fault_at}
+use Rattle.building.specs.Steps.{◌>>=◌}
 use Rattle.dates.specs.declared.range.Range.{Range}
 use Rattle.building.specs.Reference.{each_reference, is_named}
 use Rattle.points.specs.declared.Point.{Point}

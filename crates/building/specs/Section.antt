@@ -1,15 +1,15 @@
 -- The tables of a section of a building file, each with a name of its own.
 use Rattle.std.specs.Prelude.{ℕ, ◌+◌, not, List, [], ◌∷◌, ◌++◌, length, false, Result, Ok}
 use Rattle.toml.specs.Data.{Data, Items, no_items, item, Members, as_table}
-use Rattle.building_fault.specs.declared.cause.Cause.TheVariants.{NotAName, RepeatedName, WrongType}
-use Rattle.building_fault.specs.declared.file_fault.FileFault.{FileFault}
-use Rattle.building_fault.specs.declared.key.Key.{Key}
-use Rattle.building_fault.specs.declared.key.Key.TheVariants as key
-use Rattle.building_fault.specs.declared.location.Location.{Location}
-use Rattle.building_fault.specs.declared.section.Section.{Section}
-use Rattle.building_fault.specs.FaultAt.{fault_at}
-use Rattle.building_fault.specs.Steps.{◌>>=◌, or_fault, where_holds}
-use Rattle.rosters.specs.Roster.{has_name}
+use Rattle.building.specs.declared.cause.Cause.TheVariants.{NotAName, RepeatedName, WrongType}
+use Rattle.building.specs.declared.file_fault.FileFault.{FileFault}
+use Rattle.building.specs.declared.key.Key.{Key}
+use Rattle.building.specs.declared.key.Key.TheVariants as key
+use Rattle.building.specs.declared.location.Location.{Location}
+use Rattle.building.specs.declared.section.Section.{Section}
+use Rattle.building.specs.FaultAt.{fault_at}
+use Rattle.building.specs.Steps.{◌>>=◌, or_fault, where_holds}
+use Rattle.building.specs.Roster.{has_name}
 use Rattle.texts.specs.Texts.{name_of as name_in}
 use Rattle.building.specs.Fields.{known_keys, text_at}
 

@@ -2,16 +2,16 @@
 use Rattle.std.specs.Prelude.{Bool, List, Result}
 use Rattle.std.specs.List.{list_all}
 use Rattle.toml.specs.Data.{Data, Items}
-use Rattle.building_fault.specs.declared.cause.Cause.TheVariants.{NotATimeValue, OutsideKind}
-use Rattle.building_fault.specs.declared.file_fault.FileFault.{FileFault}
-use Rattle.building_fault.specs.declared.key.Key.{Key}
-use Rattle.building_fault.specs.declared.location.Location.{Location}
-use Rattle.building_fault.specs.FaultAt.{fault_at}
-use Rattle.building_fault.specs.Steps.{◌>>=◌, or_fault, where_holds}
+use Rattle.building.specs.declared.cause.Cause.TheVariants.{NotATimeValue, OutsideKind}
+use Rattle.building.specs.declared.file_fault.FileFault.{FileFault}
+use Rattle.building.specs.declared.key.Key.{Key}
+use Rattle.building.specs.declared.location.Location.{Location}
+use Rattle.building.specs.FaultAt.{fault_at}
+use Rattle.building.specs.Steps.{◌>>=◌, or_fault, where_holds}
 use Rattle.points.specs.declared.Kind.{Kind}
 use Rattle.sched.specs.declared.day_list.TimeValue.{TimeValue}
 use Rattle.building.specs.Kinds.{lies_in_all}
-use Rattle.time_values.specs.TimeValue.{time_value_at}
+use Rattle.building.specs.TimeValue.{time_value_at}
 use Rattle.building.specs.Fields.{text_in}
 use Rattle.building.specs.Items.{at_most, each_item}
 

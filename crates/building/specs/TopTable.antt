@@ -4,14 +4,14 @@ use Rattle.jiff_tz.specs.PosixReader.{read_whole}
 use Rattle.jiff_tz.specs.PosixText.{TzText}
 use Rattle.toml.specs.Data.{Items, no_items, Members}
 use Rattle.toml.specs.View.{items_view}
-use Rattle.building_fault.specs.declared.cause.Cause.TheVariants.{NotAZoneRule}
-use Rattle.building_fault.specs.declared.file_fault.FileFault.{FileFault}
-use Rattle.building_fault.specs.declared.key.Key.{Key}
-use Rattle.building_fault.specs.declared.key.Key.TheVariants as key
-use Rattle.building_fault.specs.declared.location.Location.{Location}
-use Rattle.building_fault.specs.declared.section.Section.TheVariants as section
-use Rattle.building_fault.specs.FaultAt.{fault_at}
-use Rattle.building_fault.specs.Steps.{◌>>=◌, or_fault}
+use Rattle.building.specs.declared.cause.Cause.TheVariants.{NotAZoneRule}
+use Rattle.building.specs.declared.file_fault.FileFault.{FileFault}
+use Rattle.building.specs.declared.key.Key.{Key}
+use Rattle.building.specs.declared.key.Key.TheVariants as key
+use Rattle.building.specs.declared.location.Location.{Location}
+use Rattle.building.specs.declared.section.Section.TheVariants as section
+use Rattle.building.specs.FaultAt.{fault_at}
+use Rattle.building.specs.Steps.{◌>>=◌, or_fault}
 use Rattle.building.specs.declared.top_table.TopTable.{TopTable}
 use Rattle.building.specs.Fields.{known_keys, optional_list_at, text_at}
 use Rattle.building.specs.Items.{all_tables, at_most}

@@ -4,12 +4,13 @@ ghost use Rattle.std.specs.Prelude.{true};
 ghost use Rattle.building.specs.CalendarTable.{calendar_in};
 ghost use Rattle.building.specs.EntryText.{entry_in};
 
+use crate::building_refusal::BuildingFault;
 use crate::entry_text::entry_in;
 use crate::fields::Fields;
 use crate::item_list::{ReadItem, read_items};
+use crate::key::Key;
 use crate::named_calendar::NamedCalendar;
 use crate::section_tables::ReadTable;
-use building_fault::{BuildingFault, Key};
 use dates::Entry;
 use listing::Listing;
 use points::Name;

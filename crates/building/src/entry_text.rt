@@ -4,8 +4,10 @@ ghost use Rattle.std.specs.Prelude.{◌≡◌};
 ghost use Rattle.toml.specs.View.{view};
 ghost use Rattle.building.specs.EntryText.{entry_in, entry_of};
 
+use crate::cause::Cause;
 use crate::fields::Fields;
-use building_fault::{Cause, FileFault, Key};
+use crate::file_fault::FileFault;
+use crate::key::Key;
 use dates::Entry;
 use toml::Value;
 

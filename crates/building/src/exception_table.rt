@@ -2,22 +2,26 @@
 
 ghost use Rattle.std.specs.Prelude.{◌≡◌, IfOk, IfSome, IsTrue};
 ghost use Rattle.toml.specs.View.{table_view, view};
-ghost use Rattle.building_fault.specs.Answers.{Answers};
-ghost use Rattle.building_fault.specs.Steps.{result_map};
+ghost use Rattle.building.specs.Answers.{Answers};
+ghost use Rattle.building.specs.Steps.{result_map};
 ghost use Rattle.building.specs.ExceptionTable.{calendar_at, calendar_named, exception_in, fields_at};
 ghost use Rattle.building.specs.ExceptionTable.{is_sound_exception, is_sound_period, period_in, period_of};
 ghost use Rattle.building.specs.ExceptionTable.{times_at};
 ghost use Rattle.building.specs.TimeLists.{is_list_within};
 
+use crate::building_refusal::BuildingFault;
+use crate::cause::Cause;
 use crate::entry_text::entry_in;
 use crate::fields::Fields;
+use crate::file_fault::FileFault;
 use crate::item_list::ReadItem;
+use crate::key::Key;
+use crate::location::Location;
 use crate::named_calendar::NamedCalendar;
 use crate::priority::event_priority;
+use crate::roster::Roster;
 use crate::time_lists::TimeLists;
-use building_fault::{BuildingFault, Cause, FileFault, Key, Location};
 use points::Kind;
-use rosters::Roster;
 use sched::{CalId, DayList, Exception, Period};
 use std::alloc::Global;
 use toml::{Table, Value};

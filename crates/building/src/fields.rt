@@ -3,18 +3,21 @@
 ghost use Rattle.std.specs.Prelude.{◌≡◌, is_some, option_copied, option_map, slice_get, string_bytes};
 ghost use Rattle.std.specs.BTreeMap.{keys};
 ghost use Rattle.std.specs.List.{list_all, list_any};
-ghost use Rattle.building_fault.specs.Steps.{result_map};
+ghost use Rattle.building.specs.Steps.{result_map};
 ghost use Rattle.std.specs.Str.{bytes_eq};
 ghost use Rattle.toml.specs.Data.{as_table, get_item, get_member};
 ghost use Rattle.toml.specs.View.{items_view, table_view, view};
-ghost use Rattle.building_fault.specs.FaultAt.{fault_at};
-ghost use Rattle.building_fault.specs.FaultLine.{key_text};
+ghost use Rattle.building.specs.FaultAt.{fault_at};
+ghost use Rattle.building.specs.FaultLine.{key_text};
 ghost use Rattle.building.specs.Items.{all_tables, are_tables, at_most, count_of, exactly, list_item_at};
 ghost use Rattle.building.specs.Fields.{has_key, has_only, integer_at, known_keys, lacks_keys, list_at, list_in};
 ghost use Rattle.building.specs.Fields.{optional_integer_at, optional_list_at, optional_text_at};
 ghost use Rattle.building.specs.Fields.{integer_in, required_at, text_at, text_in};
 
-use building_fault::{Cause, FileFault, Key, Location};
+use crate::cause::Cause;
+use crate::file_fault::FileFault;
+use crate::key::Key;
+use crate::location::Location;
 use toml::{Table, Value};
 
 /// A table of a building file, and where it stands.

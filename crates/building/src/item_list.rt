@@ -2,12 +2,12 @@
 
 ghost use Rattle.std.specs.Prelude.{IfOk, IsTrue};
 ghost use Rattle.std.specs.List.{list_all};
-ghost use Rattle.building_fault.specs.Steps.{result_map};
+ghost use Rattle.building.specs.Steps.{result_map};
 ghost use Rattle.toml.specs.View.{items_view, view};
-ghost use Rattle.building_fault.specs.Answers.{Answers};
+ghost use Rattle.building.specs.Answers.{Answers};
 ghost use Rattle.building.specs.Items.{each_item};
 
-use building_fault::BuildingFault;
+use crate::building_refusal::BuildingFault;
 use std::alloc::Global;
 use toml::Value;
 
@@ -15,7 +15,7 @@ use toml::Value;
 pub(crate) trait ReadItem<T> {
     ghost use Rattle.std.specs.Prelude.{Bool, Result};
     ghost use Rattle.toml.specs.Data.{Data};
-    ghost use Rattle.building_fault.specs.declared.file_fault.FileFault.{FileFault};
+    ghost use Rattle.building.specs.declared.file_fault.FileFault.{FileFault};
 
     /// What an item means, or its first fault.
     ghost meaning: { Self → Data → Result T FileFault };

@@ -5,8 +5,8 @@ ghost use Rattle.points.specs.Kind.{lies_in};
 ghost use Rattle.std.specs.List.{list_all};
 ghost use Rattle.building.specs.Kinds.{kind_of, kinds_of, lies_in_all};
 
+use crate::roster::Roster;
 use points::{Kind, Name, Point};
-use rosters::Roster;
 use std::alloc::{AllocError, Global};
 
 /// The kinds of the points of these names, in their order.

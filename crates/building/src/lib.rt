@@ -8,23 +8,37 @@
 //! From the bottom up: `Fields` is a table with its `Location`, which gives the value at a `Key` in the type that the
 //! key takes, or the fault that tells why not; `read_items` reads a list item by item, `read_references` a list of
 //! names, and `read_section` the tables of a section, each by what knows its table (`PointTable`, `PanelTable`,
-//! `CalendarTable`, `ScheduleTable`).
+//! `CalendarTable`, `ScheduleTable`). What is wrong in a file is a `FileFault` at a `Location`, and is printed as one line: its
+//! number, the section, the place in it, and the key. A `Roster` keeps items by name.
 #![tactic(auto)]
 
 pub use building::Building;
-pub use building_fault::{BuildingFault, Cause, FileFault, Key, Section};
+pub use building_refusal::BuildingFault;
+pub use cause::Cause;
+pub use file_fault::FileFault;
+pub use key::Key;
 pub use local_times::ZoneRule;
+pub use location::Location;
+pub use named::Named;
 pub use named_calendar::NamedCalendar;
 pub use named_schedule::{NamedSchedule, OnLeave};
+pub use roster::Roster;
+pub use section::Section;
 
 mod building;
+mod building_refusal;
 mod calendar_table;
+mod cause;
 mod day_values;
 mod entry_text;
 mod exception_table;
 mod fields;
+mod file_fault;
 mod item_list;
+mod key;
 mod kinds;
+mod location;
+mod named;
 mod named_calendar;
 mod named_schedule;
 mod panel_table;
@@ -32,8 +46,11 @@ mod parsed_file;
 mod point_table;
 mod priority;
 mod reference;
+mod roster;
 mod schedule_table;
+mod section;
 mod section_tables;
 mod sections;
 mod time_lists;
+mod time_value;
 mod top_table;

@@ -1,7 +1,7 @@
 //! Calendars of a building.
 
+use crate::named::Named;
 use points::Name;
-use rosters::Named;
 use sched::Calendar;
 
 /// A calendar of the building, with the entries of the file (12.9).

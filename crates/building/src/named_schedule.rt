@@ -1,7 +1,7 @@
 //! Schedules of a building.
 
+use crate::named::Named;
 use points::{Name, Names};
-use rosters::Named;
 use sched::Schedule;
 
 /// What becomes of the places that a schedule wrote last, on a day outside its effective period (this

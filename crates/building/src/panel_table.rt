@@ -3,19 +3,20 @@
 ghost use Rattle.std.specs.Prelude.{IfOk, IsTrue};
 ghost use Rattle.std.specs.List.{list_all};
 ghost use Rattle.toml.specs.View.{items_view, table_view};
-ghost use Rattle.building_fault.specs.Answers.{Answers};
+ghost use Rattle.building.specs.Answers.{Answers};
 ghost use Rattle.building.specs.Items.{each_item};
 ghost use Rattle.building.specs.Priority.{is_write_priority, write_priority_in};
 ghost use Rattle.building.specs.PanelTable.{is_sound_panel, panel_in};
 
+use crate::building_refusal::BuildingFault;
 use crate::fields::Fields;
 use crate::item_list::{ReadItem, read_items};
+use crate::key::Key;
 use crate::priority::write_priority;
 use crate::reference::read_references;
+use crate::roster::Roster;
 use crate::section_tables::ReadTable;
-use building_fault::{BuildingFault, Key};
 use points::{Listing, Name, Panel, Point};
-use rosters::Roster;
 use std::alloc::Global;
 use toml::Value;
 

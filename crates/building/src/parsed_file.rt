@@ -4,11 +4,15 @@ ghost use Rattle.std.specs.Prelude.{◌≡◌, ◌⊎◌};
 ghost use Rattle.toml.specs.Errors.{IsMemory};
 ghost use Rattle.toml.specs.Parse.{parse_document};
 ghost use Rattle.toml.specs.View.{table_view};
-ghost use Rattle.building_fault.specs.Answers.{Answers};
-ghost use Rattle.building_fault.specs.Steps.{or_fault, result_map};
+ghost use Rattle.building.specs.Answers.{Answers};
+ghost use Rattle.building.specs.Steps.{or_fault, result_map};
 ghost use Rattle.building.specs.BuildingFile.{no_toml, tree_of};
 
-use building_fault::{BuildingFault, Cause, FileFault, Key, Location};
+use crate::building_refusal::BuildingFault;
+use crate::cause::Cause;
+use crate::file_fault::FileFault;
+use crate::key::Key;
+use crate::location::Location;
 use std::alloc::Global;
 use texts::text_of;
 use toml::Table;

@@ -5,9 +5,12 @@ ghost use Rattle.toml.specs.View.{table_view};
 ghost use Rattle.building.specs.PointTable.{analog_at, binary_at, bound_at, is_bound, is_kind};
 ghost use Rattle.building.specs.PointTable.{is_sound_point, kind_at, kind_named, multi_at, point_in};
 
+use crate::building_refusal::BuildingFault;
+use crate::cause::Cause;
 use crate::fields::Fields;
+use crate::file_fault::FileFault;
+use crate::key::Key;
 use crate::section_tables::ReadTable;
-use building_fault::{BuildingFault, Cause, FileFault, Key};
 use points::{GREATEST_ANALOG, Kind, LEAST_ANALOG, MOST_STATES, Name, Point};
 
 /// Reads a point.

@@ -5,8 +5,10 @@ ghost use Rattle.toml.specs.View.{view};
 ghost use Rattle.building.specs.Priority.{event_priority_in, event_priority_of, is_priority};
 ghost use Rattle.building.specs.Priority.{is_write_priority, write_priority_in, write_priority_of};
 
+use crate::cause::Cause;
 use crate::fields::Fields;
-use building_fault::{Cause, FileFault, Key};
+use crate::file_fault::FileFault;
+use crate::key::Key;
 use toml::Value;
 
 /// A priority at which something is written: 1 to 16, and not 6, which is for minimum on and off times

@@ -3,14 +3,18 @@
 ghost use Rattle.std.specs.Prelude.{◌≡◌, [], IfOk, IsTrue};
 ghost use Rattle.std.specs.List.{list_all};
 ghost use Rattle.toml.specs.View.{items_view};
-ghost use Rattle.building_fault.specs.Answers.{Answers};
-ghost use Rattle.building_fault.specs.Steps.{result_map};
+ghost use Rattle.building.specs.Answers.{Answers};
+ghost use Rattle.building.specs.Steps.{result_map};
 ghost use Rattle.building.specs.Reference.{each_reference, is_named, reference};
 
+use crate::building_refusal::BuildingFault;
+use crate::cause::Cause;
 use crate::fields::Fields;
-use building_fault::{BuildingFault, Cause, FileFault, Key};
+use crate::file_fault::FileFault;
+use crate::key::Key;
+use crate::named::Named;
+use crate::roster::Roster;
 use points::{Name, Names};
-use rosters::{Named, Roster};
 use std::alloc::Global;
 use toml::Value;
 

@@ -3,24 +3,27 @@
 ghost use Rattle.std.specs.Prelude.{◌≡◌, IfOk, IsTrue};
 ghost use Rattle.std.specs.List.{list_all};
 ghost use Rattle.toml.specs.View.{table_view};
-ghost use Rattle.building_fault.specs.Answers.{Answers};
+ghost use Rattle.building.specs.Answers.{Answers};
 ghost use Rattle.building.specs.Reference.{is_named};
 ghost use Rattle.building.specs.Priority.{is_write_priority};
 ghost use Rattle.building.specs.ScheduleTable.{is_sound_schedule, leave_in, leave_of, period_at, period_of};
 ghost use Rattle.building.specs.ScheduleTable.{priority_at, schedule_in, targets_at};
 
+use crate::building_refusal::BuildingFault;
+use crate::cause::Cause;
 use crate::day_values::day_values_in;
 use crate::fields::Fields;
+use crate::file_fault::FileFault;
+use crate::key::Key;
 use crate::kinds::kinds_of;
 use crate::named_calendar::NamedCalendar;
 use crate::named_schedule::{NamedSchedule, OnLeave};
 use crate::priority::write_priority;
 use crate::reference::read_references;
+use crate::roster::Roster;
 use crate::section_tables::ReadTable;
-use building_fault::{BuildingFault, Cause, FileFault, Key};
 use dates::{Entry, EntryFault, Range};
 use points::{Name, Names, Point};
-use rosters::Roster;
 use sched::Schedule;
 use std::alloc::Global;
 

@@ -3,15 +3,21 @@
 ghost use Rattle.std.specs.Prelude.{◌≡◌, [], false, IfOk, IsTrue};
 ghost use Rattle.std.specs.List.{list_all};
 ghost use Rattle.toml.specs.View.{items_view, table_view, view};
-ghost use Rattle.building_fault.specs.Answers.{Answers};
-ghost use Rattle.building_fault.specs.Steps.{result_map};
-ghost use Rattle.rosters.specs.Roster.{has_name};
+ghost use Rattle.building.specs.Answers.{Answers};
+ghost use Rattle.building.specs.Steps.{result_map};
+ghost use Rattle.building.specs.Roster.{has_name};
 ghost use Rattle.building.specs.Section.{each_table, name_at, new_name, table_at, table_in};
 
+use crate::building_refusal::BuildingFault;
+use crate::cause::Cause;
 use crate::fields::Fields;
-use building_fault::{BuildingFault, Cause, FileFault, Key, Location, Section};
+use crate::file_fault::FileFault;
+use crate::key::Key;
+use crate::location::Location;
+use crate::named::Named;
+use crate::roster::Roster;
+use crate::section::Section;
 use points::Name;
-use rosters::{Named, Roster};
 use std::alloc::Global;
 use toml::Value;
 
@@ -20,9 +26,9 @@ pub(crate) trait ReadTable<T: Named> {
     ghost use Rattle.std.specs.Prelude.{◌≡◌, Bool, IfOk, IsTrue, List, Result, ℕ};
     ghost use Rattle.toml.specs.Data.{Members};
     ghost use Rattle.toml.specs.View.{table_view};
-    ghost use Rattle.building_fault.specs.Answers.{Answers};
-    ghost use Rattle.building_fault.specs.declared.file_fault.FileFault.{FileFault};
-    ghost use Rattle.building_fault.specs.declared.location.Location.{Location};
+    ghost use Rattle.building.specs.Answers.{Answers};
+    ghost use Rattle.building.specs.declared.file_fault.FileFault.{FileFault};
+    ghost use Rattle.building.specs.declared.location.Location.{Location};
 
     /// What a table of the name means, or its first fault after the name.
     ghost meaning: { Self → Location → List ℕ → Members → Result T FileFault };

@@ -3,22 +3,24 @@
 ghost use Rattle.std.specs.Prelude.{◌≡◌, IfOk, IsTrue};
 ghost use Rattle.std.specs.List.{list_all};
 ghost use Rattle.toml.specs.View.{items_view};
-ghost use Rattle.building_fault.specs.Answers.{Answers};
+ghost use Rattle.building.specs.Answers.{Answers};
 ghost use Rattle.building.specs.PanelTable.{is_sound_panel};
 ghost use Rattle.building.specs.PointTable.{is_sound_point};
 ghost use Rattle.building.specs.ScheduleTable.{is_sound_schedule};
 ghost use Rattle.building.specs.BuildingFile.{calendars_in, panels_in, points_in, schedules_in};
 
+use crate::building_refusal::BuildingFault;
 use crate::calendar_table::CalendarTable;
+use crate::key::Key;
 use crate::named_calendar::NamedCalendar;
 use crate::named_schedule::NamedSchedule;
 use crate::panel_table::PanelTable;
 use crate::point_table::PointTable;
+use crate::roster::Roster;
 use crate::schedule_table::ScheduleTable;
+use crate::section::Section;
 use crate::section_tables::read_section;
-use building_fault::{BuildingFault, Key, Section};
 use points::{Panel, Point};
-use rosters::Roster;
 use std::alloc::Global;
 use toml::Value;
 

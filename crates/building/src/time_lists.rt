@@ -3,18 +3,21 @@
 ghost use Rattle.std.specs.Prelude.{◌≡◌, IfOk, IsTrue};
 ghost use Rattle.std.specs.List.{list_all};
 ghost use Rattle.toml.specs.View.{items_view, view};
-ghost use Rattle.building_fault.specs.Answers.{Answers};
+ghost use Rattle.building.specs.Answers.{Answers};
 ghost use Rattle.building.specs.TimeLists.{has_values_in, is_list_within, list_of};
 ghost use Rattle.building.specs.TimeLists.{time_value_in};
 
+use crate::building_refusal::BuildingFault;
+use crate::cause::Cause;
 use crate::fields::Fields;
+use crate::file_fault::FileFault;
 use crate::item_list::{ReadItem, read_items};
+use crate::key::Key;
 use crate::kinds::lies_in_all;
-use building_fault::{BuildingFault, Cause, FileFault, Key};
+use crate::time_value::read_time_value;
 use points::Kind;
 use sched::{DayList, TimeValue};
 use std::alloc::Global;
-use time_values::read_time_value;
 use toml::Value;
 
 /// The time values that a list has at most (this profile's limit).

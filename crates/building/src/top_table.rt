@@ -2,12 +2,15 @@
 
 ghost use Rattle.std.specs.Prelude.{◌≡◌, option_map};
 ghost use Rattle.toml.specs.View.{items_view, table_view};
-ghost use Rattle.building_fault.specs.Steps.{result_map};
+ghost use Rattle.building.specs.Steps.{result_map};
 ghost use Rattle.local_times.specs.ZoneRule.{rule_text};
 ghost use Rattle.building.specs.TopTable.{section_at, section_of, section_or_none, top_in, top_of, zone_at};
 
+use crate::cause::Cause;
 use crate::fields::Fields;
-use building_fault::{Cause, FileFault, Key, Location};
+use crate::file_fault::FileFault;
+use crate::key::Key;
+use crate::location::Location;
 use local_times::ZoneRule;
 use toml::{Table, Value};
 

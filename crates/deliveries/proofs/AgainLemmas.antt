@@ -6,7 +6,7 @@ use Rattle.std.specs.Str.{bytes_eq}
 use Rattle.std.proofs.lemmas.Bool.{false≢true}
 use Rattle.std.proofs.lemmas.Cmp.{int_eq_equiv}
 use Rattle.points.specs.Names.{is_among}
-use Rattle.rosters.specs.Roster.{are_distinct}
+use Rattle.building.specs.Roster.{are_distinct}
 use Rattle.building.specs.declared.named_schedule.NamedSchedule.{NamedSchedule}
 use Rattle.settling.specs.Settled.{Now, Shown, cleared_by, falls_quiet, is_active_now, is_due, put_by, shown_by, shows, told, value_of, written}
 use Rattle.store.specs.declared.change.ShownValue.{ShownValue}

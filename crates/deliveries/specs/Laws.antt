@@ -10,7 +10,7 @@ use Rattle.deliveries.specs.Machine.{added, told_at, writes_at}
 use Rattle.deliveries.specs.Reply.{reply}
 use Rattle.deliveries.specs.Tables.{tables}
 use Rattle.local_times.specs.declared.local_clock.LocalTime.{LocalTime}
-use Rattle.rosters.specs.Roster.{are_distinct}
+use Rattle.building.specs.Roster.{are_distinct}
 use Rattle.sched.specs.declared.calendar.CalendarEntry.{CalendarEntry}
 use Rattle.building.specs.declared.named_schedule.NamedSchedule.{NamedSchedule}
 use Rattle.settling.specs.Settled.{Shown}

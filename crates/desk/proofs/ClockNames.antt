@@ -7,7 +7,7 @@ use Rattle.std.proofs.lemmas.Bool.{cases_Bool, false≢true}
 use Rattle.std.proofs.lemmas.List.Folds.{list_any-append}
 use Rattle.std.proofs.lemmas.Slice.Eq.{bytes_eq-Decides}
 use Rattle.points.specs.PriorityArray.{Places}
-use Rattle.rosters.proofs.RosterLemmas.{among-map}
+use Rattle.building.proofs.RosterLemmas.{among-map}
 use Rattle.sched.specs.declared.calendar.CalendarEntry.{CalendarEntry}
 use Rattle.building.specs.declared.named_calendar.NamedCalendar.{NamedCalendar}
 use Rattle.building.specs.declared.named_schedule.NamedSchedule.{NamedSchedule}

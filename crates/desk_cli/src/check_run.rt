@@ -4,7 +4,7 @@ ghost use Rattle.std.specs.Prelude.{◌≡◌, List, ℕ, IfOk, OnOk, Ok, Some, 
 ghost use Rattle.std.specs.Io.KnownBytes.{Appends, Keeps};
 ghost use Rattle.building.specs.Building.{contents_of};
 ghost use Rattle.building.specs.BuildingFile.{building_of};
-ghost use Rattle.building_fault.specs.Steps.{result_map};
+ghost use Rattle.building.specs.Steps.{result_map};
 ghost use Rattle.desk_console.specs.Input.{bytes_of};
 ghost use Rattle.desk_cli.specs.Check.{Checks, counts_line, ok_line};
 

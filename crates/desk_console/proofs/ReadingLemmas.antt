@@ -4,9 +4,9 @@ use Rattle.std.proofs.lemmas.Bool.{leb-false, leb-true}
 use Rattle.std.proofs.lemmas.List.{length-take-le, take_all}
 use Rattle.building.specs.BuildingFile.{Contents, building_of, longest_file, tree_of}
 use Rattle.building.specs.TopTable.{top_location}
-use Rattle.building_fault.specs.declared.cause.Cause.TheVariants.{BeyondLimit}
-use Rattle.building_fault.specs.declared.key.Key.TheVariants as key
-use Rattle.building_fault.specs.FaultAt.{fault_at}
+use Rattle.building.specs.declared.cause.Cause.TheVariants.{BeyondLimit}
+use Rattle.building.specs.declared.key.Key.TheVariants as key
+use Rattle.building.specs.FaultAt.{fault_at}
 
 building_of-long : (xs : List ℕ) → nat_le (length xs) longest_file ≡ false
     → building_of xs ≡ Err (fault_at top_location key.File BeyondLimit)

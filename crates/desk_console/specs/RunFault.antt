@@ -1,9 +1,9 @@
 -- The line that tells why a run stopped.
 use Rattle.std.specs.Prelude.{ℕ, List, ◌++◌, codes}
 use Rattle.std.specs.Fmt.{decimal}
-use Rattle.building_fault.specs.declared.building_refusal.BuildingFault.{BuildingFault}
-use Rattle.building_fault.specs.declared.building_refusal.BuildingFault.TheVariants as building
-use Rattle.building_fault.specs.FaultLine.{fault_line}
+use Rattle.building.specs.declared.building_refusal.BuildingFault.{BuildingFault}
+use Rattle.building.specs.declared.building_refusal.BuildingFault.TheVariants as building
+use Rattle.building.specs.FaultLine.{fault_line}
 use Rattle.store.specs.declared.StoreFault.{StoreFault}
 use Rattle.store.specs.declared.StoreFault.TheVariants as store
 use Rattle.store.specs.FaultCode.{code_of}

@@ -3,8 +3,7 @@ use crate::asking::{Got, assert_got, command, done, served};
 use crate::desks::desk;
 use counted::Counted;
 use desk::Desk;
-use http::StatusCode;
-use panel_http::Served;
+use panel_http::{Served, StatusCode};
 use std::alloc::Global;
 use std::io::{Read, Write};
 use std::net::{Ipv4Addr, SocketAddr, TcpListener, TcpStream};
@@ -48,7 +47,7 @@ fn a_command_over_the_loopback_gets_its_response(rt: HostRuntime) -> Result<(), 
     assert_got(
         &rt,
         &got,
-        Served::Answered(StatusCode::OK),
+        Served::Answered(StatusCode::Ok),
         done(),
         "the loopback",
     );

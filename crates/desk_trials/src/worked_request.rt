@@ -2,9 +2,8 @@
 use crate::asking::{Got, HEAD, ask, assert_got, command, done, serve};
 use crate::desks::desk_over;
 use crate::ends::Pieces;
-use http::StatusCode;
 use mem_store::MemStore;
-use panel_http::Served;
+use panel_http::{Served, StatusCode};
 use std::alloc::Global;
 use std::process::Abort;
 use std::test::Fail;
@@ -42,7 +41,7 @@ fn two_reads(first: usize) -> Case {
         end: command().len(),
         first,
         room: 1_000,
-        served: Served::Answered(StatusCode::OK),
+        served: Served::Answered(StatusCode::Ok),
         text: done(),
         point: point_after(),
     }
@@ -53,7 +52,7 @@ fn cut_body(end: usize) -> Case {
         end,
         first: HEAD,
         room: 1_000,
-        served: Served::Answered(StatusCode::BAD_REQUEST),
+        served: Served::Answered(StatusCode::BadRequest),
         text: cut(),
         point: point_before(),
     }
@@ -121,14 +120,14 @@ fn try_case<S: Store + Drop>(
     assert_got(
         rt,
         &told.point,
-        Served::Answered(StatusCode::OK),
+        Served::Answered(StatusCode::Ok),
         case.point,
         case.end,
     );
     assert_got(
         rt,
         &told.again,
-        Served::Answered(StatusCode::OK),
+        Served::Answered(StatusCode::Ok),
         done(),
         "the repeat",
     );

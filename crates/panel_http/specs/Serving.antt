@@ -12,6 +12,8 @@ use Rattle.request_reading.specs.Requests.{IsRequest}
 use Rattle.request_reading.specs.declared.request.Request.{Request}
 use Rattle.response_texts.specs.Response.{Said, response_text}
 use Rattle.response_texts.specs.Responses.{no_memory_said, store_said}
+use Rattle.response_texts.specs.declared.status_code.StatusCode.{StatusCode}
+use Rattle.response_texts.specs.declared.status_code.StatusCode.TheVariants as status
 use Rattle.response_texts.specs.declared.whole_response.Response.{Response}
 use Rattle.store.specs.Standing.{Standing}
 use Rattle.panel_http.specs.declared.served.Served.{Served}
@@ -21,36 +23,36 @@ abbrev pub Text : Type 0
 Text = List ℕ
 
 -- the status and the text of what is said
-abbrev pub IsOf : Said → ℕ → Text → Type 0
-IsOf said status text = (status ≡ said.status) × (text ≡ response_text said)
+abbrev pub IsOf : Said → StatusCode → Text → Type 0
+IsOf said code text = (code ≡ said.status) × (text ≡ response_text said)
 
 -- ---- what is told, and what the store holds then
 
 -- the response of the definitions to what the bytes ask, and the tables with what they deliver
-pub record Responds (b : Building) (earlier : List Delivery) (bytes : Text) (status : ℕ) (text : Text) (now : Standing) : Type 0 where
+pub record Responds (b : Building) (earlier : List Delivery) (bytes : Text) (code : StatusCode) (text : Text) (now : Standing) : Type 0 where
   pub request : Request
   pub is_request : IsRequest b bytes request
   pub said : Said
   pub is_said : IsSaid b earlier request said
-  pub is_told : IsOf said status text
+  pub is_told : IsOf said code text
   pub holds : Holds b (after earlier request) now
 
 -- memory was refused, and nothing is delivered
-pub record LacksMemory (b : Building) (earlier : List Delivery) (status : ℕ) (text : Text) (now : Standing) : Type 0 where
-  pub is_told : IsOf no_memory_said status text
+pub record LacksMemory (b : Building) (earlier : List Delivery) (code : StatusCode) (text : Text) (now : Standing) : Type 0 where
+  pub is_told : IsOf no_memory_said code text
   pub holds : Holds b earlier now
 
 -- the store failed in this call, or was shut
-pub record LacksStore (b : Building) (earlier : List Delivery) (bytes : Text) (status : ℕ) (text : Text) (old now : Standing) : Type 0 where
+pub record LacksStore (b : Building) (earlier : List Delivery) (bytes : Text) (code : StatusCode) (text : Text) (old now : Standing) : Type 0 where
   pub request : Request
   pub is_request : IsRequest b bytes request
-  pub is_told : IsOf store_said status text
+  pub is_told : IsOf store_said code text
   pub ends : StoreEnds b earlier (after earlier request) old now
 
-abbrev pub Tells : Building → List Delivery → Text → ℕ → Text → Standing → Standing → Type 0
-Tells b earlier bytes status text old now =
-    Responds b earlier bytes status text now
-    ⊎ (LacksMemory b earlier status text now ⊎ LacksStore b earlier bytes status text old now)
+abbrev pub Tells : Building → List Delivery → Text → StatusCode → Text → Standing → Standing → Type 0
+Tells b earlier bytes code text old now =
+    Responds b earlier bytes code text now
+    ⊎ (LacksMemory b earlier code text now ⊎ LacksStore b earlier bytes code text old now)
 
 -- nothing is told, and the tables are those with what the bytes deliver
 pub record IsSilent (b : Building) (earlier : List Delivery) (bytes : Text) (now : Standing) : Type 0 where
@@ -64,10 +66,10 @@ pub record IsSilent (b : Building) (earlier : List Delivery) (bytes : Text) (now
 -- there was no byte; or memory for the response was refused. Of the reader the counts of failures before and after,
 -- of the writer what it holds and its counts, and how the store stands.
 abbrev pub Serves : Building → List Delivery → Text → ℕ → ℕ → Option Text → Option Text → ℕ → ℕ → Standing → Standing → Served → Type 0
-Serves b earlier bytes read_before read_after held holds before now old new (Answered status) =
-    (0 < length bytes) × (text : Text) × Appends held holds text × Tells b earlier bytes status text old new
+Serves b earlier bytes read_before read_after held holds before now old new (Answered code) =
+    (0 < length bytes) × (text : Text) × Appends held holds text × Tells b earlier bytes code text old new
 Serves b earlier bytes read_before read_after held holds before now old new ReplyLost =
-    (0 < length bytes) × (status : ℕ) × (text : Text) × Lost held holds text before now × Tells b earlier bytes status text old new
+    (0 < length bytes) × (code : StatusCode) × (text : Text) × Lost held holds text before now × Tells b earlier bytes code text old new
 Serves b earlier bytes read_before read_after held holds before now old new NoRequest =
     (Rises read_before read_after ⊎ (bytes ≡ [])) × Keeps held holds × Holds b earlier new
 Serves b earlier bytes read_before read_after held holds before now old new NoReply =
@@ -76,15 +78,15 @@ Serves b earlier bytes read_before read_after held holds before now old new NoRe
 -- ---- how an answer is written
 
 -- the status and the text of an answer
-abbrev pub written : Result Response Unanswered → Option (ℕ × Text)
+abbrev pub written : Result Response Unanswered → Option (StatusCode × Text)
 written (Ok response) = Some (response.status, string_bytes response.text)
-written (Err unanswered.NoMemory) = Some (503, response_text no_memory_said)
-written (Err unanswered.Store) = Some (500, response_text store_said)
+written (Err unanswered.NoMemory) = Some (status.ServiceUnavailable, response_text no_memory_said)
+written (Err unanswered.Store) = Some (status.InternalServerError, response_text store_said)
 written (Err unanswered.NoReply) = None
 
-abbrev pub Writes : Option (ℕ × Text) → Option Text → Option Text → ℕ → ℕ → Served → Type 0
-Writes told held holds before now (Answered status) = (text : Text) × (told ≡ Some (status, text)) × Appends held holds text
+abbrev pub Writes : Option (StatusCode × Text) → Option Text → Option Text → ℕ → ℕ → Served → Type 0
+Writes told held holds before now (Answered code) = (text : Text) × (told ≡ Some (code, text)) × Appends held holds text
 Writes told held holds before now ReplyLost =
-    (status : ℕ) × (text : Text) × (told ≡ Some (status, text)) × Lost held holds text before now
+    (code : StatusCode) × (text : Text) × (told ≡ Some (code, text)) × Lost held holds text before now
 Writes told held holds before now NoRequest = ⊥
 Writes told held holds before now NoReply = (told ≡ None) × Keeps held holds

@@ -6,6 +6,7 @@
 #![tactic(auto)]
 
 pub use request_reading::Routes;
+pub use response_texts::StatusCode;
 pub use served::Served;
 pub use serving::serve_one;
 

@@ -1,6 +1,6 @@
 //! How a request was served.
 
-use http::StatusCode;
+use response_texts::StatusCode;
 
 /// How a request was served.
 #[derive(Clone, Copy, PartialEq, Eq)]

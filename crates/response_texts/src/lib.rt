@@ -10,6 +10,7 @@ pub use point_text::{no_point_response, point_response};
 pub use refusal::Refusal;
 pub use replies::{import_refused_response, reply_response};
 pub use reports::{no_day_response, report_response};
+pub use status_code::StatusCode;
 pub use whole_response::Response;
 
 mod fixed_texts;
@@ -17,4 +18,5 @@ mod point_text;
 mod refusal;
 mod replies;
 mod reports;
+mod status_code;
 mod whole_response;

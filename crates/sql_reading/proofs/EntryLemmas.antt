@@ -13,18 +13,18 @@ use Rattle.sqlite_value.proofs.OrderLemmas.{value_cmp-Text}
 use Rattle.sql_rows.specs.Looking.{FindsLeast, is_after}
 use Rattle.store.specs.declared.change.ImportedEntry.{ImportedEntry}
 use Rattle.store.specs.Tables.{Text}
-use Rattle.stored_rows.specs.Cells.{entry_in, entry_of, is_text, name_in}
-use Rattle.stored_rows.specs.Rows.{imported_said, of_entry}
-use Rattle.stored_rows.specs.Stored.{Kept, is_sound_in, tables_in}
-use Rattle.stored_rows.proofs.CellLemmas.{entry-agrees, entry-cell}
-use Rattle.stored_rows.proofs.RowLemmas.{no-row}
-use Rattle.stored_rows.proofs.TableLemmas.{entry-at}
+use Rattle.sql_rows.specs.Cells.{entry_in, entry_of, is_text, name_in}
+use Rattle.sql_rows.specs.Rows.{imported_said, of_entry}
+use Rattle.sql_rows.specs.Stored.{Kept, is_sound_in, tables_in}
+use Rattle.sql_rows.proofs.ReadCellLemmas.{entry-agrees, entry-cell}
+use Rattle.sql_rows.proofs.StoredRowLemmas.{no-row}
+use Rattle.sql_rows.proofs.TableLemmas.{entry-at}
 use Rattle.store.specs.Change.{with_imported}
 use Rattle.std.specs.Str.{bytes_eq}
 use Rattle.dates.specs.DateFields.{date_fields_at}
 use Rattle.dates.specs.Notation.{cut_at, parts_at, without_prefix}
 use Rattle.dates.specs.Pattern.{date_part, pattern_at}
-use Rattle.stored_rows.proofs.StoredLemmas.{bad_imported, here_imported, not_imported}
+use Rattle.sql_rows.proofs.StoredLemmas.{bad_imported, here_imported, not_imported}
 use Rattle.sql_reading.specs.Texts.{IsBefore, IsEntryAt, IsImported, IsNextText}
 use Rattle.sql_reading.proofs.NumberLemmas.{name_here, none_picked, not_both, passes_nothing, text_here}
 use Rattle.sql_reading.proofs.TextLemmas.{after_before, before_after, not_lt}

@@ -18,13 +18,13 @@ use Rattle.store.specs.Tables.{Tables, Text}
 use Rattle.dates.specs.declared.entry.Entry.{Entry}
 use Rattle.dates.specs.Entry.{spelling}
 use Rattle.points.specs.declared.numbered_row.NumberedRow.{NumberedRow}
-use Rattle.stored_rows.specs.Cells.{is_count, is_text, name_in}
-use Rattle.stored_rows.specs.Rows.{command_said, imported_said, next_said, of_command, of_entry, of_panel, of_place, of_schedule, place_said, shown_said}
-use Rattle.stored_rows.specs.Stored.{Kept, is_sound_in, tables_in}
-use Rattle.stored_rows.proofs.CellLemmas.{command-agrees, entry-agrees, name-cell, panel-agrees, place-agrees, schedule-agrees}
-use Rattle.stored_rows.proofs.RowLemmas.{Agrees, no-row}
-use Rattle.stored_rows.proofs.StoredLemmas.{bad_command, bad_imported, bad_next, bad_place, bad_shown, no_command, no_next, no_place, no_shown, outside_places}
-use Rattle.stored_rows.proofs.TableLemmas.{entry-at, next-at, place-at, row-at, shown-at}
+use Rattle.sql_rows.specs.Cells.{is_count, is_text, name_in}
+use Rattle.sql_rows.specs.Rows.{command_said, imported_said, next_said, of_command, of_entry, of_panel, of_place, of_schedule, place_said, shown_said}
+use Rattle.sql_rows.specs.Stored.{Kept, is_sound_in, tables_in}
+use Rattle.sql_rows.proofs.ReadCellLemmas.{command-agrees, entry-agrees, name-cell, panel-agrees, place-agrees, schedule-agrees}
+use Rattle.sql_rows.proofs.StoredRowLemmas.{Agrees, no-row}
+use Rattle.sql_rows.proofs.StoredLemmas.{bad_command, bad_imported, bad_next, bad_place, bad_shown, no_command, no_next, no_place, no_shown, outside_places}
+use Rattle.sql_rows.proofs.TableLemmas.{entry-at, next-at, place-at, row-at, shown-at}
 use Rattle.sql_reading.specs.declared.names.NameList.{NameList}
 use Rattle.sql_reading.specs.declared.names.NameList.TheVariants.{Calendars, Panels, Points, Schedules}
 use Rattle.sql_reading.specs.Naming.{HasName, HasNoName, IsLesser, StandsIn, Tells}

@@ -17,13 +17,13 @@ use Rattle.store.specs.declared.change.KeptRow.{KeptRow}
 use Rattle.store.specs.Change.{with_row}
 use Rattle.store.proofs.RowLemmas.{next-none, next-row}
 use Rattle.std.specs.Str.{bytes_eq}
-use Rattle.stored_rows.specs.Cells.{count_in, is_count, is_text, name_in}
-use Rattle.stored_rows.specs.Rows.{command_said, of_command}
-use Rattle.stored_rows.specs.Stored.{Kept, is_sound_in, tables_in}
-use Rattle.stored_rows.proofs.CellLemmas.{command-parts, count-cell, same-text, text-same}
-use Rattle.stored_rows.proofs.RowLemmas.{here-row, no-row}
-use Rattle.stored_rows.proofs.TableLemmas.{row-at}
-use Rattle.stored_rows.proofs.StoredLemmas.{bad_command, no_command}
+use Rattle.sql_rows.specs.Cells.{count_in, is_count, is_text, name_in}
+use Rattle.sql_rows.specs.Rows.{command_said, of_command}
+use Rattle.sql_rows.specs.Stored.{Kept, is_sound_in, tables_in}
+use Rattle.sql_rows.proofs.ReadCellLemmas.{command-parts, count-cell, same-text, text-same}
+use Rattle.sql_rows.proofs.StoredRowLemmas.{here-row, no-row}
+use Rattle.sql_rows.proofs.TableLemmas.{row-at}
+use Rattle.sql_rows.proofs.StoredLemmas.{bad_command, no_command}
 use Rattle.sql_reading.specs.Stepping.{AreNone, AreSoFar, Ends, IsNextNumber, IsNextOf, IsNumberAt, IsRowAt}
 
 -- ---- lists and cells

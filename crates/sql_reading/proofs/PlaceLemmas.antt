@@ -7,12 +7,12 @@ use Rattle.sqlite_rules.proofs.ListLemmas.{contains_had}
 use Rattle.sqlite_value.specs.declared.value.Value.TheVariants.{Int}
 use Rattle.sqlite_value.specs.Order.{Row, column, value_cmp}
 use Rattle.sql_rows.specs.Looking.{FindsLeast, is_from}
-use Rattle.stored_rows.specs.Cells.{count_in, is_count, is_text}
-use Rattle.stored_rows.specs.declared.read_fault.ReadFault.{ReadFault}
-use Rattle.stored_rows.specs.Rows.{of_place}
-use Rattle.stored_rows.specs.Stored.{Kept, is_sound_in, tables_in}
-use Rattle.stored_rows.proofs.CellLemmas.{count-cell}
-use Rattle.stored_rows.proofs.StoredLemmas.{bad_place, no_place}
+use Rattle.sql_rows.specs.Cells.{count_in, is_count, is_text}
+use Rattle.sql_rows.specs.declared.read_fault.ReadFault.{ReadFault}
+use Rattle.sql_rows.specs.Rows.{of_place}
+use Rattle.sql_rows.specs.Stored.{Kept, is_sound_in, tables_in}
+use Rattle.sql_rows.proofs.ReadCellLemmas.{count-cell}
+use Rattle.sql_rows.proofs.StoredLemmas.{bad_place, no_place}
 use Rattle.sql_reading.specs.Naming.{AreNoneBelow}
 use Rattle.sql_reading.proofs.NumberLemmas.{count_here, count_of_row, is_picked, name_here, not_less, nothing_passes, passes_nothing}
 

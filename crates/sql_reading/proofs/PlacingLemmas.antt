@@ -21,11 +21,11 @@ use Rattle.sql_rows.specs.Looking.{Finds}
 use Rattle.sql_reading.specs.Asking.{AreSeveral}
 use Rattle.sql_reading.specs.Placing.{AreTold, IsPlaced, cannot_place, is_taken_in, rows_at}
 use Rattle.sql_reading.proofs.ToldLemmas.{count_given, name_here, place_none, place_one, place_several}
-use Rattle.stored_rows.specs.Cells.{count_in, is_count, is_text, number_in}
-use Rattle.stored_rows.specs.Rows.{of_place}
-use Rattle.stored_rows.specs.Stored.{Kept, is_sound_in, tables_in}
-use Rattle.stored_rows.proofs.StoredLemmas.{bad_place, outside_places}
-use Rattle.stored_rows.proofs.TableLemmas.{get-put_at}
+use Rattle.sql_rows.specs.Cells.{count_in, is_count, is_text, number_in}
+use Rattle.sql_rows.specs.Rows.{of_place}
+use Rattle.sql_rows.specs.Stored.{Kept, is_sound_in, tables_in}
+use Rattle.sql_rows.proofs.StoredLemmas.{bad_place, outside_places}
+use Rattle.sql_rows.proofs.TableLemmas.{get-put_at}
 
 -- ---- one row more
 

@@ -5,7 +5,7 @@ use Rattle.sqlite.specs.State.{HasCleanDisk, IsUnchanged, State, Survives}
 use Rattle.sqlite.proofs.StateLemmas.{survives_then}
 use Rattle.sql_rows.specs.Ours.{IsOurs}
 use Rattle.sql_reading.specs.Asking.{Asks, HasRead, Sees, is_sql}
-use Rattle.stored_rows.specs.declared.read_fault.ReadFault.{ReadFault}
+use Rattle.sql_rows.specs.declared.read_fault.ReadFault.{ReadFault}
 
 pub sees_unchanged : (old new : State) → IsUnchanged old new → Sees old new
 sees_unchanged old new same = record { now = same.0.now_is; committed = same.0.committed_is; is_open = same.0.is_open ∙ sym same.0.was_open }

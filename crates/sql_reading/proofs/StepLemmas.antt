@@ -5,7 +5,7 @@ use Rattle.sql_rows.specs.Ours.{IsOurs}
 use Rattle.sql_reading.specs.Asking.{Asks, HasRead, Sees, is_sql}
 use Rattle.sql_reading.proofs.ReadLemmas.{clean_before, read_none, read_then, sees_unchanged}
 use Rattle.sqlite.proofs.StateLemmas.{survives_then}
-use Rattle.stored_rows.specs.declared.read_fault.ReadFault.{ReadFault}
+use Rattle.sql_rows.specs.declared.read_fault.ReadFault.{ReadFault}
 
 pub sees_same : (old new : State) → IsUnchanged old new → Sees old new
 sees_same = sees_unchanged

@@ -9,12 +9,12 @@ use Rattle.sqlite_value.specs.declared.value.Value.{Value}
 use Rattle.sqlite_value.specs.declared.value.Value.TheVariants.{Int, Null, Text, Real, Blob}
 use Rattle.sqlite_value.specs.Order.{Row, column}
 use Rattle.sql_rows.specs.Looking.{Finds}
-use Rattle.stored_rows.specs.Cells.{count_in, is_count, is_text, name_in, number_in, optional_in}
-use Rattle.stored_rows.specs.Rows.{command_in, of_command, of_panel, of_place, of_schedule}
-use Rattle.stored_rows.specs.declared.read_fault.ReadFault.{ReadFault}
-use Rattle.stored_rows.specs.Stored.{Kept, is_desk, is_sound_in, tables_in}
-use Rattle.stored_rows.proofs.CellLemmas.{same-text}
-use Rattle.stored_rows.proofs.StoredLemmas.{bad_command, bad_last, bad_next, bad_place, bad_shown, no_command, no_next, no_place, no_shown, one_command, one_last, one_next, one_place, one_shown, two_command, two_next, two_place, two_shown}
+use Rattle.sql_rows.specs.Cells.{count_in, is_count, is_text, name_in, number_in, optional_in}
+use Rattle.sql_rows.specs.Rows.{command_in, of_command, of_panel, of_place, of_schedule}
+use Rattle.sql_rows.specs.declared.read_fault.ReadFault.{ReadFault}
+use Rattle.sql_rows.specs.Stored.{Kept, is_desk, is_sound_in, tables_in}
+use Rattle.sql_rows.proofs.ReadCellLemmas.{same-text}
+use Rattle.sql_rows.proofs.StoredLemmas.{bad_command, bad_last, bad_next, bad_place, bad_shown, no_command, no_next, no_place, no_shown, one_command, one_last, one_next, one_place, one_shown, two_command, two_next, two_place, two_shown}
 use Rattle.sql_reading.specs.Asking.{AreSeveral}
 use Rattle.sql_reading.proofs.FoundLemmas.{found_none, found_one, found_two}
 

@@ -5,8 +5,8 @@ use Rattle.sqlite_value.specs.Order.{Row}
 use Rattle.sqlite.specs.State.{HasCleanDisk, State, Survives}
 use Rattle.sql_rows.specs.Looking.{Rests}
 use Rattle.sql_rows.specs.Ours.{IsOurs}
-use Rattle.stored_rows.specs.declared.read_fault.ReadFault.{ReadFault}
-use Rattle.stored_rows.specs.declared.read_fault.ReadFault.TheVariants.{Sql, BadRow}
+use Rattle.sql_rows.specs.declared.read_fault.ReadFault.{ReadFault}
+use Rattle.sql_rows.specs.declared.read_fault.ReadFault.TheVariants.{Sql, BadRow}
 
 -- the database refused or failed
 abbrev pub is_sql : Option ReadFault → Bool

@@ -8,7 +8,7 @@ use Rattle.sqlite_value.specs.declared.value.Value.TheVariants.{Text as TextCell
 use Rattle.sqlite_value.specs.Order.{Row, column}
 use Rattle.store.specs.Listed.{HasCalendar, HasPanel, HasPoint, HasSchedule}
 use Rattle.store.specs.Tables.{Tables, Text}
-use Rattle.stored_rows.specs.Cells.{name_in}
+use Rattle.sql_rows.specs.Cells.{name_in}
 use Rattle.sql_reading.specs.Texts.{IsBefore}
 use Rattle.sql_reading.specs.declared.names.NameList.{NameList}
 use Rattle.sql_reading.specs.declared.names.NameList.TheVariants.{Calendars, Panels, Points, Schedules}

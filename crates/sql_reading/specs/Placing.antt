@@ -4,7 +4,7 @@ use Rattle.std.specs.List.{filter}
 use Rattle.std.specs.FinMap.{get}
 use Rattle.points.specs.PriorityArray.{Places, put}
 use Rattle.sqlite_value.specs.Order.{Row, column}
-use Rattle.stored_rows.specs.Cells.{count_in, is_count, number_in}
+use Rattle.sql_rows.specs.Cells.{count_in, is_count, number_in}
 
 -- the row tells a priority that has no value, and that priority now has the value it tells
 pub record IsPlaced (row : Row) (old new : Places) : Type 0 where

@@ -2,7 +2,7 @@
 use Rattle.std.specs.Prelude.{◌≡◌, ◌≤◌, ◌<◌, ◌⊎◌, ℕ, List, Option, Some, None, IsSome, false}
 use Rattle.points.specs.declared.numbered_row.NumberedRow.{NumberedRow}
 use Rattle.points.specs.Run.{Rows, rows_between}
-use Rattle.stored_rows.specs.Stored.{Kept, is_sound_in, tables_in}
+use Rattle.sql_rows.specs.Stored.{Kept, is_sound_in, tables_in}
 
 -- no row stands from one number on and below another
 abbrev pub AreNone : Rows → ℕ → ℕ → Type 0

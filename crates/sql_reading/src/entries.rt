@@ -9,18 +9,17 @@ ghost use Rattle.sql_rows.specs.Ours.{IsOurs, kept_in};
 ghost use Rattle.sql_reading.specs.Asking.{Asks, is_sql};
 ghost use Rattle.dates.specs.Entry.{spelling};
 ghost use Rattle.store.specs.Listed.{AreEntries};
-ghost use Rattle.stored_rows.specs.Cells.{is_text};
-ghost use Rattle.stored_rows.specs.declared.read_fault.ReadFault.TheVariants.{BadRow};
-ghost use Rattle.stored_rows.specs.Stored.{Kept, is_sound_in, tables_in};
+ghost use Rattle.sql_rows.specs.Cells.{is_text};
+ghost use Rattle.sql_rows.specs.declared.read_fault.ReadFault.TheVariants.{BadRow};
+ghost use Rattle.sql_rows.specs.Stored.{Kept, is_sound_in, tables_in};
 ghost use Rattle.sql_reading.specs.Texts.{IsNextEntry};
 
 use crate::memory::{no_memory, push};
 use dates::Entry;
 use points::Name;
-use sql_rows::calendars;
+use sql_rows::{ReadFault, calendars, entry_at};
 use sqlite::{Alter, Connection, Row};
 use std::alloc::Global;
-use stored_rows::{ReadFault, entry_at};
 
 // What the answer of the query on the least entry tells.
 fn told_entry(calendar: &Name, after: &str, rows: Vec<Row>) -> Result<Option<Entry>, ReadFault>

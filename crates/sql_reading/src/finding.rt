@@ -8,15 +8,17 @@ ghost use Rattle.sqlite_value.specs.Order.{column};
 ghost use Rattle.sql_rows.specs.Looking.{Finds};
 ghost use Rattle.sql_rows.specs.Ours.{IsOurs, kept_in};
 ghost use Rattle.sql_reading.specs.Asking.{Asks};
-ghost use Rattle.stored_rows.specs.declared.read_fault.ReadFault.TheVariants.{BadRow};
-ghost use Rattle.stored_rows.specs.Rows.{of_command, of_panel, of_place, of_schedule};
-ghost use Rattle.stored_rows.specs.Stored.{Kept, is_sound_in, tables_in};
+ghost use Rattle.sql_rows.specs.declared.read_fault.ReadFault.TheVariants.{BadRow};
+ghost use Rattle.sql_rows.specs.Rows.{of_command, of_panel, of_place, of_schedule};
+ghost use Rattle.sql_rows.specs.Stored.{Kept, is_sound_in, tables_in};
 
 use crate::only::only;
 use points::{CommandRow, Name};
-use sql_rows::{commands, desk_row, panels, places, schedules};
+use sql_rows::{
+    ReadFault, command_at, commands, count_at, desk_row, number_at, optional_at, panels, places,
+    schedules,
+};
 use sqlite::{Alter, Connection, Row};
-use stored_rows::{ReadFault, command_at, count_at, number_at, optional_at};
 
 const LEAST_NUMBER: u64 = 1;
 

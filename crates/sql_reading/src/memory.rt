@@ -3,7 +3,7 @@ ghost use Rattle.std.specs.Prelude.{◌≡◌, ◌++◌, IfErr, OnOk, [], ◌∷
 ghost use Rattle.std.specs.Bool.{IsTrue};
 ghost use Rattle.sql_reading.specs.Asking.{is_sql};
 
-use stored_rows::ReadFault;
+use sql_rows::ReadFault;
 
 /// The fault of memory that is refused.
 pub fn no_memory() -> ReadFault

@@ -9,9 +9,9 @@ ghost use Rattle.sql_rows.specs.Ours.{IsOurs, kept_in};
 ghost use Rattle.sql_reading.specs.Asking.{Asks, is_sql};
 ghost use Rattle.store.specs.Listed.{AreNames, AreTexts, HasCalendar, HasPanel, HasPoint, HasSchedule};
 ghost use Rattle.store.specs.Tables.{Text};
-ghost use Rattle.stored_rows.specs.Cells.{is_text};
-ghost use Rattle.stored_rows.specs.declared.read_fault.ReadFault.TheVariants.{BadRow};
-ghost use Rattle.stored_rows.specs.Stored.{Kept, is_sound_in, tables_in};
+ghost use Rattle.sql_rows.specs.Cells.{is_text};
+ghost use Rattle.sql_rows.specs.declared.read_fault.ReadFault.TheVariants.{BadRow};
+ghost use Rattle.sql_rows.specs.Stored.{Kept, is_sound_in, tables_in};
 ghost use Rattle.sql_reading.specs.Naming.{AreNoneBelow, IsLesser, StandsIn, Tells};
 ghost use Rattle.sql_reading.specs.Texts.{IsNextText};
 
@@ -23,11 +23,10 @@ use crate::next_names::{
 };
 use crate::rows::next_row;
 use points::Name;
-use sql_rows::places;
+use sql_rows::{ReadFault, count_at, places};
 use sqlite::{Alter, Connection, Row};
 use std::alloc::Global;
 use store::Names;
-use stored_rows::{ReadFault, count_at};
 
 const LEAST_NUMBER: u64 = 1;
 

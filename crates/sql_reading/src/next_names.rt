@@ -7,16 +7,15 @@ ghost use Rattle.sqlite_value.specs.Order.{Row as Cells, column};
 ghost use Rattle.sql_rows.specs.Looking.{FindsLeast, is_after};
 ghost use Rattle.sql_rows.specs.Ours.{IsOurs, kept_in};
 ghost use Rattle.sql_reading.specs.Asking.{Asks};
-ghost use Rattle.stored_rows.specs.declared.read_fault.ReadFault.TheVariants.{BadRow};
+ghost use Rattle.sql_rows.specs.declared.read_fault.ReadFault.TheVariants.{BadRow};
 ghost use Rattle.store.specs.Listed.{HasCalendar, HasPoint, HasSchedule};
-ghost use Rattle.stored_rows.specs.Stored.{is_sound_in, tables_in};
+ghost use Rattle.sql_rows.specs.Stored.{is_sound_in, tables_in};
 ghost use Rattle.sql_reading.specs.Naming.{HasName, HasNoName};
 ghost use Rattle.sql_reading.specs.Texts.{IsNextText};
 
 use points::Name;
-use sql_rows::{calendars, commands, panels, places, schedules};
+use sql_rows::{ReadFault, calendars, commands, name_at, panels, places, schedules};
 use sqlite::{Alter, Connection, Row};
-use stored_rows::{ReadFault, name_at};
 
 // What the answer of a query on the least name tells.
 fn told_name(after: &str, rows: Vec<Row>) -> Result<Option<Name>, ReadFault>

@@ -2,10 +2,10 @@
 ghost use Rattle.std.specs.Prelude.{◌≡◌, IfErr, IfOk, None, Ok, IfSome, [], ◌∷◌, List};
 ghost use Rattle.sqlite_value.specs.Order.{Row as Cells};
 ghost use Rattle.sql_reading.specs.Asking.{AreSeveral};
-ghost use Rattle.stored_rows.specs.declared.read_fault.ReadFault.TheVariants.{BadRow};
+ghost use Rattle.sql_rows.specs.declared.read_fault.ReadFault.TheVariants.{BadRow};
 
+use sql_rows::ReadFault;
 use sqlite::Row;
-use stored_rows::ReadFault;
 
 /// The row of an answer, if it has one. An answer of several rows tells of two rows with one key.
 pub fn only(mut rows: Vec<Row>) -> Result<Option<Row>, ReadFault>

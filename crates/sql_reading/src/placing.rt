@@ -8,14 +8,13 @@ ghost use Rattle.sql_rows.specs.Looking.{Finds};
 ghost use Rattle.sql_rows.specs.Ours.{IsOurs, kept_in};
 ghost use Rattle.sql_reading.specs.Asking.{Asks};
 ghost use Rattle.sql_reading.specs.Placing.{IsPlaced, cannot_place};
-ghost use Rattle.stored_rows.specs.Cells.{is_text};
-ghost use Rattle.stored_rows.specs.declared.read_fault.ReadFault.TheVariants.{BadRow};
-ghost use Rattle.stored_rows.specs.Stored.{Kept, is_sound_in, tables_in};
+ghost use Rattle.sql_rows.specs.Cells.{is_text};
+ghost use Rattle.sql_rows.specs.declared.read_fault.ReadFault.TheVariants.{BadRow};
+ghost use Rattle.sql_rows.specs.Stored.{Kept, is_sound_in, tables_in};
 
 use points::{Name, PriorityArray};
-use sql_rows::places;
+use sql_rows::{ReadFault, count_at, number_at, places};
 use sqlite::{Alter, Connection, Row};
-use stored_rows::{ReadFault, count_at, number_at};
 
 // Puts the value that a row with the cells of a priority and a value tells, where that place has none.
 fn place(array: &mut PriorityArray, row: &Row) -> Result<(), ReadFault>

@@ -8,18 +8,17 @@ ghost use Rattle.sqlite_value.specs.Order.{column};
 ghost use Rattle.sql_rows.specs.Looking.{FindsLeast, is_from};
 ghost use Rattle.sql_rows.specs.Ours.{IsOurs, kept_in};
 ghost use Rattle.sql_reading.specs.Asking.{Asks};
-ghost use Rattle.stored_rows.specs.Cells.{is_text};
-ghost use Rattle.stored_rows.specs.declared.read_fault.ReadFault.TheVariants.{BadRow};
-ghost use Rattle.stored_rows.specs.Stored.{Kept, is_sound_in, tables_in};
+ghost use Rattle.sql_rows.specs.Cells.{is_text};
+ghost use Rattle.sql_rows.specs.declared.read_fault.ReadFault.TheVariants.{BadRow};
+ghost use Rattle.sql_rows.specs.Stored.{Kept, is_sound_in, tables_in};
 ghost use Rattle.sql_reading.specs.Stepping.{GoesOn, IsNextNumber, IsNextRow};
 
 use crate::finding::command_under;
 use crate::memory::{no_memory, push};
 use points::{CommandRow, Name, NumberedRow};
-use sql_rows::commands;
+use sql_rows::{ReadFault, commands, count_at};
 use sqlite::{Alter, Connection, Row};
 use std::alloc::Global;
-use stored_rows::{ReadFault, count_at};
 
 const LEAST_NUMBER: u64 = 1;
 

@@ -19,7 +19,7 @@ use Rattle.sqlite_schema.specs.declared.schema.Kind.TheVariants.{Integer}
 use Rattle.sqlite_sql.specs.Ops.{unary}
 use Rattle.sqlite.specs.Values.{bound_value}
 use Rattle.sql_rows.specs.Looking.{is_after, is_from}
-use Rattle.stored_rows.specs.Cells.{cell_of, is_below, is_count, is_text}
+use Rattle.sql_rows.specs.Cells.{cell_of, is_below, is_count, is_text}
 
 by_both : (a b : Bool) → (a ≡ true → b ≡ true) → (b ≡ true → a ≡ true) → a ≡ b
 by_both true b there back = sym (there refl)

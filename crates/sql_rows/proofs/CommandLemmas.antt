@@ -29,8 +29,8 @@ use Rattle.sql_rows.specs.Looking.{Finds, FindsLeast, is_after, is_from}
 use Rattle.sql_rows.proofs.SlotLemmas.{gains, is_command, loses}
 use Rattle.sql_rows.proofs.TypeLemmas.{IsFilled, first_filled, ruled, second_filled}
 use Rattle.sql_rows.proofs.CommandTexts.{add_is, add_plain, add_text, clear_is, clear_plain, clear_text, drop_is, drop_plain, drop_text, find_is, find_plain, find_text, find_unlisted, next_number_is, next_number_plain, next_number_text, next_number_unlisted, next_panel_is, next_panel_plain, next_panel_text, next_panel_unlisted}
-use Rattle.stored_rows.specs.Cells.{cell_of, is_below, is_count, is_text}
-use Rattle.stored_rows.specs.Rows.{of_command, of_lower_command}
+use Rattle.sql_rows.specs.Cells.{cell_of, is_below, is_count, is_text}
+use Rattle.sql_rows.specs.Rows.{of_command, of_lower_command}
 
 command_cells : (db : Database) → IsOurs db → (row : Row) → Has (db.trees command_tree) row → IsFilled kind.Text (column row 1) × IsFilled kind.Integer (column row 2)
 command_cells db ours row h =

@@ -21,8 +21,8 @@ use Rattle.sql_rows.specs.Looking.{FindsLeast, is_after}
 use Rattle.sql_rows.proofs.SlotLemmas.{gains, is_imported, loses}
 use Rattle.sql_rows.proofs.TypeLemmas.{IsFilled, first_filled, ruled, second_filled}
 use Rattle.sql_rows.proofs.ImportedTexts.{add_is, add_plain, add_text, clear_is, clear_plain, clear_text, next_entry_is, next_entry_plain, next_entry_text, next_entry_unlisted, next_name_is, next_name_plain, next_name_text, next_name_unlisted}
-use Rattle.stored_rows.specs.Cells.{is_text}
-use Rattle.stored_rows.specs.Rows.{of_entry}
+use Rattle.sql_rows.specs.Cells.{is_text}
+use Rattle.sql_rows.specs.Rows.{of_entry}
 
 imported_cells : (db : Database) → IsOurs db → (row : Row) → Has (db.trees imported_tree) row → IsFilled kind.Text (column row 1) × IsFilled kind.Text (column row 2)
 imported_cells db ours row h =

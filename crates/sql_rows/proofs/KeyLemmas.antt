@@ -26,7 +26,7 @@ use Rattle.sql_create.specs.Schema.{desk_schema}
 use Rattle.sql_rows.specs.Ours.{AreOwn, IsOurs}
 use Rattle.sql_rows.proofs.SlotLemmas.{not_true}
 use Rattle.sql_rows.proofs.TypeLemmas.{ruled}
-use Rattle.stored_rows.specs.Cells.{is_count, is_text}
+use Rattle.sql_rows.specs.Cells.{is_count, is_text}
 
 truth_of : (b : Bool) → is_true (from_truth (Some b)) ≡ b
 truth_of true = refl

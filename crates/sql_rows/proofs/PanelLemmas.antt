@@ -28,8 +28,8 @@ use Rattle.sql_rows.specs.Looking.{Finds, FindsLeast, is_after}
 use Rattle.sql_rows.proofs.SlotLemmas.{gains, is_panel}
 use Rattle.sql_rows.proofs.TypeLemmas.{IsFilled, first_filled, ruled}
 use Rattle.sql_rows.proofs.PanelTexts.{add_is, add_plain, add_text, cells_set, find_is, find_plain, find_text, find_unlisted, next_name_is, next_name_plain, next_name_text, next_name_unlisted, set_is, set_plain, set_text}
-use Rattle.stored_rows.specs.Cells.{is_text}
-use Rattle.stored_rows.specs.Rows.{of_panel}
+use Rattle.sql_rows.specs.Cells.{is_text}
+use Rattle.sql_rows.specs.Rows.{of_panel}
 
 panel_cells : (db : Database) → IsOurs db → (row : Row) → Has (db.trees panel_tree) row → IsFilled kind.Text (column row 1)
 panel_cells db ours row h =

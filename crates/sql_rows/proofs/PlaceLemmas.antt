@@ -31,8 +31,8 @@ use Rattle.sql_rows.proofs.RewriteLemmas.{rewrites}
 use Rattle.sql_rows.proofs.RestLemmas.{finds, finds_least, finds_same, least_same}
 use Rattle.sql_rows.specs.Looking.{Finds, FindsLeast, is_after, is_from}
 use Rattle.sql_rows.proofs.SlotLemmas.{gains, is_place, loses}
-use Rattle.stored_rows.specs.Cells.{is_count, is_text}
-use Rattle.stored_rows.specs.Rows.{of_place}
+use Rattle.sql_rows.specs.Cells.{is_count, is_text}
+use Rattle.sql_rows.specs.Rows.{of_place}
 
 place_cells : (db : Database) → IsOurs db → (row : Row) → Has (db.trees place_tree) row → IsFilled kind.Text (column row 1) × IsFilled kind.Integer (column row 2)
 place_cells db ours row h =

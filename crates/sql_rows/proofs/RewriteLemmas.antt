@@ -29,7 +29,7 @@ use Rattle.sql_rows.proofs.AnswerLemmas.{map_map}
 use Rattle.sql_rows.proofs.RowLemmas.{deleted, filter_same, has_permuted, own_filtered, own_put, put_apart, tied_taken}
 use Rattle.sql_rows.proofs.SlotLemmas.{IsSlot, changed, not_true, own_rows}
 use Rattle.sql_rows.proofs.WriteLemmas.{Ran, updates}
-use Rattle.stored_rows.specs.Stored.{HasPut}
+use Rattle.sql_rows.specs.Stored.{HasPut}
 
 -- the rows of a key, of which an UPDATE makes these cells
 pub record Aims (slot : Slot) (gone : Row → Bool) (set : List Term) (params cells : Row) (rows : List Row) : Type 0 where

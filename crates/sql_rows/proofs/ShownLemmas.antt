@@ -21,8 +21,8 @@ use Rattle.sql_rows.specs.Looking.{Finds, FindsLeast, is_after}
 use Rattle.sql_rows.proofs.SlotLemmas.{gains, is_shown, loses}
 use Rattle.sql_rows.proofs.TypeLemmas.{IsFilled, first_filled, ruled}
 use Rattle.sql_rows.proofs.ShownTexts.{add_is, add_plain, add_text, clear_is, clear_plain, clear_text, find_is, find_plain, find_text, find_unlisted, next_name_is, next_name_plain, next_name_text, next_name_unlisted}
-use Rattle.stored_rows.specs.Cells.{cell_of, is_text}
-use Rattle.stored_rows.specs.Rows.{of_schedule}
+use Rattle.sql_rows.specs.Cells.{cell_of, is_text}
+use Rattle.sql_rows.specs.Rows.{of_schedule}
 
 shown_cells : (db : Database) → IsOurs db → (row : Row) → Has (db.trees shown_tree) row → IsFilled kind.Text (column row 1)
 shown_cells db ours row h =

@@ -26,7 +26,7 @@ use Rattle.sql_rows.specs.Ours.{AreOurs, AreOwn, Changes, Gains, HasOneMore, IsI
 use Rattle.sql_rows.specs.Slot.{On, Slot, command_slot, imported_slot, panel_slot, place_slot, shown_slot}
 use Rattle.sql_rows.proofs.RowLemmas.{deleted, filter_same, own_filtered, own_put, put_apart}
 use Rattle.sql_rows.proofs.WriteLemmas.{Ran, adds, removes}
-use Rattle.stored_rows.specs.Stored.{Kept}
+use Rattle.sql_rows.specs.Stored.{Kept}
 
 pub record IsSlot (slot : Slot) : Type 0 where
   pub found : slice_get desk_schema.tables slot.at ≡ Some slot.table

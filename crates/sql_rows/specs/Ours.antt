@@ -11,7 +11,7 @@ use Rattle.sqlite.specs.State.{Shows, State}
 use Rattle.sql_create.specs.Schema.{command_tree, desk_schema, desk_tree, imported_tree, panel_tree, place_tree, shown_tree}
 use Rattle.store.specs.Standing.{Content}
 use Rattle.store.specs.Tables.{Tables}
-use Rattle.stored_rows.specs.Stored.{HasPut, Kept, content_in, is_sound_in, tables_in}
+use Rattle.sql_rows.specs.Stored.{HasPut, Kept, content_in, is_sound_in, tables_in}
 
 -- the rows of the six tables
 abbrev pub kept_in : Trees → Kept

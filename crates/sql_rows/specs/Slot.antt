@@ -3,7 +3,7 @@ use Rattle.std.specs.Prelude.{◌≡◌, ℕ, List, [], ◌∷◌}
 use Rattle.sqlite_schema.specs.declared.schema.Table.{Table}
 use Rattle.sqlite_value.specs.Order.{Row}
 use Rattle.sql_create.specs.Schema.{command_table, imported_table, panel_table, place_table, shown_table}
-use Rattle.stored_rows.specs.Stored.{Kept}
+use Rattle.sql_rows.specs.Stored.{Kept}
 
 pub record Slot : Type 0 where
   -- its place in the schema

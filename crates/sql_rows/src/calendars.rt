@@ -7,8 +7,8 @@ ghost use Rattle.sqlite_value.specs.Order.{column};
 ghost use Rattle.sql_rows.specs.Looking.{Finds, FindsLeast, Rests, is_after, is_from};
 ghost use Rattle.sql_rows.specs.Ours.{Changes, Gains, IsInside, IsOurs, Loses, kept_in};
 ghost use Rattle.sql_rows.specs.Slot.{On, imported_slot};
-ghost use Rattle.stored_rows.specs.Cells.{is_text};
-ghost use Rattle.stored_rows.specs.Rows.{of_entry};
+ghost use Rattle.sql_rows.specs.Cells.{is_text};
+ghost use Rattle.sql_rows.specs.Rows.{of_entry};
 
 use crate::looking::look;
 use crate::parameters::{text, words};

@@ -10,15 +10,15 @@ ghost use Rattle.sqlite_value.specs.Order.{column};
 ghost use Rattle.sql_rows.specs.Looking.{Finds, FindsLeast, Rests, is_after, is_from};
 ghost use Rattle.sql_rows.specs.Ours.{Adds, Changes, IsInside, IsOurs, Loses, kept_in};
 ghost use Rattle.sql_rows.specs.Slot.{On, command_slot};
-ghost use Rattle.stored_rows.specs.Cells.{cell_of, is_text};
-ghost use Rattle.stored_rows.specs.Rows.{of_command, of_lower_command};
+ghost use Rattle.sql_rows.specs.Cells.{cell_of, is_text};
+ghost use Rattle.sql_rows.specs.Rows.{of_command, of_lower_command};
 
+use crate::command_cells::StateCells;
 use crate::looking::look;
 use crate::parameters::{count, optional, text, whole, words};
 use crate::running::run;
 use points::{Content, Name};
 use sqlite::{Alter, Connection, Error, Row, Transaction};
-use stored_rows::StateCells;
 
 /// Removes the row under a number of a panel.
 pub fn clear<S: Alter>(

@@ -1,14 +1,24 @@
-//! Which statements read and write the desk's tables?
+//! Which statements read and write the desk's tables, and what do the rows say?
 //!
-//! Each function runs one statement of SQL, and its contract says what that makes of the rows of the six tables.
+//! Each function of the modules `calendars` to `schedules` runs one statement of SQL, and its contract says what that
+//! makes of the rows of the six tables. Those of `putting` put one item of a change into them, in a transaction. What a
+//! row says is read by `cells` and `command_cells`.
 #![tactic(auto)]
 
+pub use cells::{count_at, entry_at, name_at, number_at, optional_at};
+pub use command_cells::{StateCells, cells_of, command_at};
+pub use read_fault::ReadFault;
+
 pub mod calendars;
+mod cells;
+mod command_cells;
 pub mod commands;
 pub mod desk_row;
 mod looking;
 pub mod panels;
 mod parameters;
 pub mod places;
+pub mod putting;
+mod read_fault;
 mod running;
 pub mod schedules;

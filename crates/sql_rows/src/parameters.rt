@@ -1,6 +1,6 @@
 //! The parameters of a statement.
 ghost use Rattle.std.specs.Prelude.{◌≡◌, ◌<◌, ◌^◌, pos};
-ghost use Rattle.stored_rows.specs.Cells.{cell_of};
+ghost use Rattle.sql_rows.specs.Cells.{cell_of};
 ghost use Rattle.sqlite_value.specs.declared.value.Value.TheVariants.{Int, Text};
 ghost use Rattle.sqlite_value.specs.Value.{owned};
 

@@ -7,8 +7,8 @@ ghost use Rattle.sqlite_value.specs.Order.{column};
 ghost use Rattle.sql_rows.specs.Looking.{Finds, FindsLeast, Rests, is_after, is_from};
 ghost use Rattle.sql_rows.specs.Ours.{Changes, Gains, IsInside, IsOurs, Loses, Rewrites, kept_in};
 ghost use Rattle.sql_rows.specs.Slot.{On, place_slot};
-ghost use Rattle.stored_rows.specs.Cells.{is_text};
-ghost use Rattle.stored_rows.specs.Rows.{of_place};
+ghost use Rattle.sql_rows.specs.Cells.{is_text};
+ghost use Rattle.sql_rows.specs.Rows.{of_place};
 
 use crate::looking::look;
 use crate::parameters::{count, text, whole, words};

@@ -11,8 +11,8 @@ use Rattle.sqlite.proofs.StateLemmas.{survives_then}
 use Rattle.store.specs.declared.change.Change.{Change}
 use Rattle.store.specs.Change.{with_change}
 use Rattle.sql_rows.specs.Ours.{IsOurs, Makes, kept_in}
-use Rattle.sql_writing.specs.Steps.{Steps, Turns}
-use Rattle.sql_writing.proofs.StepLemmas.{clean_before}
+use Rattle.sql_rows.specs.Steps.{Steps, Turns}
+use Rattle.sql_rows.proofs.StepLemmas.{clean_before}
 
 -- the connection shows what was committed
 abbrev pub ShowsCommitted : State → State → Type 0

@@ -9,7 +9,7 @@ use Rattle.store.specs.declared.change.RowsBelow.{RowsBelow}
 use Rattle.store.specs.declared.change.ShownValue.{ShownValue}
 use Rattle.store.specs.Change.{with_change, with_each, with_imported, with_next, with_place, with_row, with_shown, without_rows}
 use Rattle.store.specs.Tables.{Tables}
-use Rattle.sql_writing.specs.Steps.{imported_put, last_put, next_put, place_put, row_put, rows_dropped, shown_put, with_commands, with_values}
+use Rattle.sql_rows.specs.Steps.{imported_put, last_put, next_put, place_put, row_put, rows_dropped, shown_put, with_commands, with_values}
 
 nexts : (items : List NextNumber) (t : Tables) → with_each next_put items t ≡ record t { next = with_each with_next items t.next }
 nexts [] t = refl

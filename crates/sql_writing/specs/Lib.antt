@@ -1,2 +1,1 @@
 pub mod Committed
-pub mod Steps

@@ -8,5 +8,4 @@ pub use committing::commit_change;
 pub use writing::write;
 
 mod committing;
-mod putting;
 mod writing;

@@ -3,9 +3,11 @@ ghost use Rattle.std.specs.Prelude.{◌≡◌};
 ghost use Rattle.std.specs.List.{All};
 ghost use Rattle.sqlite.specs.Held.{state};
 ghost use Rattle.store.specs.Change.{CanStand, IsKeptRow, IsNext, IsPlace, with_change, with_each};
-ghost use Rattle.sql_writing.specs.Steps.{Steps, Turns, imported_put, next_put, place_put, row_put, rows_dropped, shown_put, with_commands, with_values};
+ghost use Rattle.sql_rows.specs.Steps.{Steps, Turns, imported_put, next_put, place_put, row_put, rows_dropped, shown_put, with_commands, with_values};
 
-use crate::putting::{drop_rows, put_imported, put_last, put_next, put_place, put_row, put_shown};
+use sql_rows::putting::{
+    drop_rows, put_imported, put_last, put_next, put_place, put_row, put_shown,
+};
 use sqlite::{Alter, Error, Transaction};
 use std::alloc::Global;
 use store::{Change, ImportedEntry, KeptRow, NextNumber, PlaceValue, RowsBelow, ShownValue};

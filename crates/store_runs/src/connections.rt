@@ -6,8 +6,7 @@ use counted::Counted;
 use deliveries::Delivery;
 use desk::Desk;
 use desk_console::Status;
-use http::StatusCode;
-use panel_http::{Routes, Served, serve_one};
+use panel_http::{Routes, Served, StatusCode, serve_one};
 use std::io::Read;
 use std::net::{Shutdown, TcpListener, TcpStream};
 use std::time::Instant;
@@ -54,7 +53,7 @@ fn serve_stream<S: Store + Drop>(
     let served = served(rt, routes, desk, stream, taken);
     if let Served::Answered(status) = served {
         end(rt, stream, taken, status);
-        return status == StatusCode::INTERNAL_SERVER_ERROR;
+        return status == StatusCode::InternalServerError;
     }
     false
 }

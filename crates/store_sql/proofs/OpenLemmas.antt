@@ -8,8 +8,8 @@ use Rattle.sql_reading.specs.Asking.{Asks, Sees}
 use Rattle.sql_rows.specs.Looking.{Finds, Rests}
 use Rattle.sql_rows.specs.Ours.{IsOne}
 use Rattle.sql_rows.proofs.RestLemmas.{rests_unchanged}
-use Rattle.stored_rows.specs.Cells.{number_in}
-use Rattle.stored_rows.specs.declared.read_fault.ReadFault.{ReadFault}
+use Rattle.sql_rows.specs.Cells.{number_in}
+use Rattle.sql_rows.specs.declared.read_fault.ReadFault.{ReadFault}
 use Rattle.sql_rows.specs.Ours.{IsOurs}
 use Rattle.store_sql.specs.Opening.{IsFound, IsJudged, IsSettled, version_in, version_of}
 

@@ -11,10 +11,10 @@ use Rattle.sqlite.proofs.StateLemmas.{survives_then}
 use Rattle.store.specs.declared.change.Change.{Change}
 use Rattle.store.specs.Change.{with_change}
 use Rattle.sql_rows.specs.Ours.{IsOurs, kept_in}
-use Rattle.sql_writing.specs.Steps.{Steps, Turns}
-use Rattle.sql_writing.proofs.StepLemmas.{clean_before, then}
+use Rattle.sql_rows.specs.Steps.{Steps, Turns}
+use Rattle.sql_rows.proofs.StepLemmas.{clean_before, then}
 use Rattle.sql_reading.specs.Asking.{Asks}
-use Rattle.stored_rows.specs.Stored.{tables_in}
+use Rattle.sql_rows.specs.Stored.{tables_in}
 use Rattle.store_sql.specs.Opening.{DropsEarly, IsChangedBy, IsFirst, IsRaised, Raises, SetsVersion, ShowsCommitted}
 use Rattle.store_sql.proofs.OpenLemmas.{answered_sees}
 

@@ -14,9 +14,9 @@ use Rattle.store.specs.declared.fault.StoreFault.{StoreFault}
 use Rattle.store.specs.declared.fault.StoreFault.TheVariants.{BadRow, Failed, NoMemory, Shut}
 use Rattle.store.specs.Standing.{HasRisen, IsSettled, Reads}
 use Rattle.store.specs.Tables.{Tables}
-use Rattle.stored_rows.specs.declared.read_fault.ReadFault.{ReadFault}
-use Rattle.stored_rows.specs.declared.read_fault.ReadFault.TheVariants as read
-use Rattle.stored_rows.specs.Stored.{is_sound_in, tables_in}
+use Rattle.sql_rows.specs.declared.read_fault.ReadFault.{ReadFault}
+use Rattle.sql_rows.specs.declared.read_fault.ReadFault.TheVariants as read
+use Rattle.sql_rows.specs.Stored.{is_sound_in, tables_in}
 use Rattle.store_sql.specs.Opening.{Stands}
 use Rattle.store_sql.specs.Standing.{IsFit, standing_at, standing_of}
 use Rattle.store_sql.specs.declared.session.Session.{Session}

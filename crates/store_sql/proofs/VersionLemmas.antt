@@ -31,7 +31,7 @@ use Rattle.sql_rows.proofs.DeskTexts.{set_version_is, set_version_plain, set_ver
 use Rattle.sql_rows.proofs.RowLemmas.{has_own_id}
 use Rattle.sql_rows.proofs.TypeLemmas.{ruled}
 use Rattle.sql_rows.proofs.WriteLemmas.{Ran, updates}
-use Rattle.stored_rows.proofs.StoredLemmas.{set_version}
+use Rattle.sql_rows.proofs.StoredLemmas.{set_version}
 use Rattle.store_sql.specs.Opening.{SetsVersion, version_in}
 
 -- ---- the cell of the last tick keeps its value

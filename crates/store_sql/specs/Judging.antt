@@ -6,8 +6,8 @@ use Rattle.sqlite.specs.State.{HasCleanDisk, IsUnchanged}
 use Rattle.store.specs.declared.fault.StoreFault.{StoreFault}
 use Rattle.store.specs.declared.fault.StoreFault.TheVariants.{BadRow, Failed, NoMemory}
 use Rattle.store.specs.Standing.{HasRisen}
-use Rattle.stored_rows.specs.declared.read_fault.ReadFault.{ReadFault}
-use Rattle.stored_rows.specs.declared.read_fault.ReadFault.TheVariants as read
+use Rattle.sql_rows.specs.declared.read_fault.ReadFault.{ReadFault}
+use Rattle.sql_rows.specs.declared.read_fault.ReadFault.TheVariants as read
 use Rattle.store_sql.specs.declared.session.Session.{Session}
 
 -- the failure is counted, and shuts the store

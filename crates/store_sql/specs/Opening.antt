@@ -8,12 +8,12 @@ use Rattle.store.specs.declared.change.RowsBelow.{RowsBelow}
 use Rattle.store.specs.Change.{with_change}
 use Rattle.store.specs.Standing.{sound}
 use Rattle.store.specs.Tables.{Tables, Text, no_tables}
-use Rattle.stored_rows.specs.Cells.{number_in}
-use Rattle.stored_rows.specs.declared.read_fault.ReadFault.{ReadFault}
-use Rattle.stored_rows.specs.declared.read_fault.ReadFault.TheVariants as read
+use Rattle.sql_rows.specs.Cells.{number_in}
+use Rattle.sql_rows.specs.declared.read_fault.ReadFault.{ReadFault}
+use Rattle.sql_rows.specs.declared.read_fault.ReadFault.TheVariants as read
 use Rattle.sql_create.specs.Schema.{desk_schema, desk_tree, schema_0}
 use Rattle.sql_rows.specs.Ours.{AreOurs, IsOurs, Makes, content_of, kept_in}
-use Rattle.sql_writing.specs.Steps.{Turns}
+use Rattle.sql_rows.specs.Steps.{Turns}
 use Rattle.store_sql.specs.Fitting.{IsFitting}
 use Rattle.store_sql.specs.declared.refusal.Refusal.{Refusal}
 use Rattle.store_sql.specs.declared.refusal.Refusal.TheVariants.{BadRow, NotOurs, Sql}

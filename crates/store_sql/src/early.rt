@@ -6,16 +6,16 @@ ghost use Rattle.sqlite.specs.State.{HasCleanDisk, Survives};
 ghost use Rattle.sql_rows.specs.Ours.{IsOurs, kept_in};
 ghost use Rattle.sql_reading.specs.Asking.{Asks, is_sql};
 ghost use Rattle.store.specs.Change.{CanStand};
-ghost use Rattle.stored_rows.specs.Stored.{is_sound_in, tables_in};
-ghost use Rattle.stored_rows.specs.declared.read_fault.ReadFault.TheVariants.{BadRow};
+ghost use Rattle.sql_rows.specs.Stored.{is_sound_in, tables_in};
+ghost use Rattle.sql_rows.specs.declared.read_fault.ReadFault.TheVariants.{BadRow};
 ghost use Rattle.store_sql.specs.Opening.{DropsEarly, early_rows};
 
 use points::Name;
 use sql_reading::{names_of, next_of};
+use sql_rows::ReadFault;
 use sqlite::{Alter, Connection, Error, ErrorCode};
 use std::alloc::Global;
 use store::{Change, RowsBelow};
-use stored_rows::ReadFault;
 
 // How many numbers below a panel's next one keep their rows.
 const KEPT: u64 = 1_000;

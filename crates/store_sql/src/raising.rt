@@ -4,7 +4,7 @@ ghost use Rattle.sqlite.specs.Held.{state};
 ghost use Rattle.sqlite.specs.State.{HasCleanDisk, Survives};
 ghost use Rattle.store.specs.Change.{CanStand, with_change};
 ghost use Rattle.sql_rows.specs.Ours.{IsOurs};
-ghost use Rattle.sql_writing.specs.Steps.{Steps};
+ghost use Rattle.sql_rows.specs.Steps.{Steps};
 ghost use Rattle.store_sql.specs.Opening.{IsChangedBy, IsWritten, Raises, SetsVersion, ShowsCommitted};
 
 use sql_writing::write;

@@ -4,9 +4,9 @@ ghost use Rattle.store.specs.declared.open_fault.OpenFault.TheVariants.{Failed, 
 ghost use Rattle.store_sql.specs.Opened.{told_of};
 ghost use Rattle.store_sql.specs.Opening.{is_sql};
 
+use sql_rows::ReadFault;
 use sqlite::{Error, ErrorCode};
 use store::OpenFault;
-use stored_rows::ReadFault;
 
 /// Why a database was not taken.
 #[derive(Clone, Copy, PartialEq, Eq)]

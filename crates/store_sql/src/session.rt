@@ -7,9 +7,9 @@ ghost use Rattle.sqlite.specs.declared.error.ErrorCode.TheVariants.{OutOfMemory}
 ghost use Rattle.store.specs.declared.fault.StoreFault.TheVariants.{NoMemory};
 ghost use Rattle.store_sql.specs.Judging.{IsRefusal, IsTold};
 
+use sql_rows::ReadFault;
 use sqlite::{Alter, Connection, Error, ErrorCode};
 use store::StoreFault;
-use stored_rows::ReadFault;
 
 /// A connection, whether a failure has shut it, and how often the device or the database has failed.
 #[derive(Drop)]

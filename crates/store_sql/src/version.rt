@@ -8,11 +8,10 @@ ghost use Rattle.sql_rows.specs.Looking.{Finds};
 ghost use Rattle.sql_rows.specs.Ours.{IsOne, IsOurs};
 ghost use Rattle.sql_reading.specs.Asking.{Asks};
 ghost use Rattle.store_sql.specs.Opening.{version_in, version_of};
-ghost use Rattle.stored_rows.specs.declared.read_fault.ReadFault.TheVariants.{BadRow};
+ghost use Rattle.sql_rows.specs.declared.read_fault.ReadFault.TheVariants.{BadRow};
 
-use sql_rows::desk_row;
+use sql_rows::{ReadFault, desk_row, number_at};
 use sqlite::{Alter, Connection, Row};
-use stored_rows::{ReadFault, number_at};
 
 // What the answer of the query on `desk` tells.
 fn told_version(rows: &[Row]) -> Result<i64, ReadFault>

@@ -3,8 +3,8 @@ use Rattle.std.specs.List.{list_all, list_any}
 use Rattle.std.specs.Map.{keys_of}
 use Rattle.toml.proofs.Views.{Entry}
 use Rattle.toml.specs.View.{members_view}
-use Rattle.building_fault.specs.declared.key.Key.{Key}
-use Rattle.building_fault.specs.FaultLine.{key_text}
+use Rattle.building.specs.declared.key.Key.{Key}
+use Rattle.building.specs.FaultLine.{key_text}
 use Rattle.building.specs.Fields.{has_only}
 use Rattle.building.proofs.fields.has_only.Goals as goal
 

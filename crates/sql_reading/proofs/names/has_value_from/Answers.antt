@@ -5,7 +5,7 @@ use Rattle.sqlite.specs.Held.{state}
 use Rattle.sql_rows.specs.Ours.{IsOurs, kept_in}
 use Rattle.sql_reading.specs.Asking.{is_sql}
 use Rattle.sql_reading.proofs.ReadLemmas.{clean_before, read_then}
-use Rattle.stored_rows.specs.Stored.{tables_in}
+use Rattle.sql_rows.specs.Stored.{tables_in}
 use Rattle.sql_reading.proofs.NameLemmas.{no_value, point_gone, point_held, point_more}
 use Rattle.sql_reading.proofs.names.has_value_from.Goals as goal
 

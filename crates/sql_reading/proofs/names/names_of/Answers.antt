@@ -5,7 +5,7 @@ use Rattle.sql_rows.specs.Ours.{IsOurs, kept_in}
 use Rattle.sql_reading.specs.Asking.{is_sql}
 use Rattle.sql_reading.proofs.ReadLemmas.{clean_before, read_none, read_then}
 use Rattle.store.specs.Listed.{AreTexts}
-use Rattle.stored_rows.specs.Stored.{tables_in}
+use Rattle.sql_rows.specs.Stored.{tables_in}
 use Rattle.sql_reading.specs.declared.names.NameList.TheVariants.{Calendars, Points, Schedules}
 use Rattle.sql_reading.specs.Naming.{StandsIn}
 use Rattle.sql_reading.proofs.NameLemmas.{all_stand}

@@ -1,7 +1,7 @@
 use Rattle.std.proofs.Common.{ap, sym, subst, ◌∙◌, IfOk}
 use Rattle.sqlite.specs.Held.{state}
 use Rattle.sql_rows.specs.Ours.{kept_in}
-use Rattle.stored_rows.specs.Stored.{tables_in}
+use Rattle.sql_rows.specs.Stored.{tables_in}
 use Rattle.sql_reading.specs.Naming.{StandsIn}
 use Rattle.sql_reading.specs.Texts.{IsNextText}
 use Rattle.sql_reading.proofs.NameLemmas.{stands_calendars, stands_panels, stands_points, stands_schedules}

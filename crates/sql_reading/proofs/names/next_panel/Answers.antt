@@ -5,7 +5,7 @@ use Rattle.sql_rows.specs.Ours.{IsOurs, kept_in}
 use Rattle.sql_reading.specs.Asking.{is_sql}
 use Rattle.sql_reading.proofs.ReadLemmas.{clean_before}
 use Rattle.store.specs.Listed.{HasPanel}
-use Rattle.stored_rows.specs.Stored.{tables_in}
+use Rattle.sql_rows.specs.Stored.{tables_in}
 use Rattle.sql_reading.specs.Naming.{HasName}
 use Rattle.sql_reading.specs.Texts.{IsNextText}
 use Rattle.sql_reading.proofs.NameLemmas.{next_either, next_fewer, panel_named}

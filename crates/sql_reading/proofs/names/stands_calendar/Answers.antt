@@ -2,7 +2,7 @@ use Rattle.std.proofs.Common.{sym, subst}
 use Rattle.sqlite.specs.Held.{state}
 use Rattle.sql_rows.specs.Ours.{kept_in}
 use Rattle.store.specs.Listed.{HasCalendar}
-use Rattle.stored_rows.specs.Stored.{tables_in}
+use Rattle.sql_rows.specs.Stored.{tables_in}
 use Rattle.sql_reading.specs.Naming.{Tells}
 use Rattle.sql_reading.proofs.NameLemmas.{calendar_tells}
 use Rattle.sql_reading.proofs.names.stands_calendar.Goals as goal

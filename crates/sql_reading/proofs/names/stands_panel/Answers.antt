@@ -5,7 +5,7 @@ use Rattle.sql_rows.specs.Ours.{IsOurs, kept_in}
 use Rattle.sql_reading.specs.Asking.{is_sql}
 use Rattle.sql_reading.proofs.ReadLemmas.{clean_before}
 use Rattle.store.specs.Listed.{HasPanel}
-use Rattle.stored_rows.specs.Stored.{tables_in}
+use Rattle.sql_rows.specs.Stored.{tables_in}
 use Rattle.sql_reading.specs.Naming.{Tells}
 use Rattle.sql_reading.specs.Stepping.{IsNextRow}
 use Rattle.sql_reading.proofs.NameLemmas.{panel_tells}

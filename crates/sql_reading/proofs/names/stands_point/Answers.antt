@@ -5,7 +5,7 @@ use Rattle.sql_rows.specs.Ours.{IsOurs, kept_in}
 use Rattle.sql_reading.specs.Asking.{is_sql}
 use Rattle.sql_reading.proofs.ReadLemmas.{clean_before}
 use Rattle.store.specs.Listed.{HasPoint}
-use Rattle.stored_rows.specs.Stored.{tables_in}
+use Rattle.sql_rows.specs.Stored.{tables_in}
 use Rattle.sql_reading.specs.Naming.{AreNoneBelow, Tells}
 use Rattle.sql_reading.proofs.StepLemmas.{read_one, survives_more}
 use Rattle.sql_reading.proofs.names.stands_point.Goals as goal

@@ -1,8 +1,8 @@
 use Rattle.std.proofs.Common.{Err, IfOk, Ok, Option, Result}
 use Rattle.store.specs.Listed.{HasPoint}
 use Rattle.store.specs.Tables.{Text}
-use Rattle.stored_rows.specs.declared.read_fault.ReadFault.{ReadFault}
-use Rattle.stored_rows.specs.Stored.{Kept, tables_in}
+use Rattle.sql_rows.specs.declared.read_fault.ReadFault.{ReadFault}
+use Rattle.sql_rows.specs.Stored.{Kept, tables_in}
 use Rattle.sql_reading.specs.Naming.{HasName}
 use Rattle.sql_reading.specs.Texts.{IsNextText}
 use Rattle.sqlite.specs.Held.{state}

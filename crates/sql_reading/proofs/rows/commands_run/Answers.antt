@@ -4,7 +4,7 @@ use Rattle.sqlite.specs.Held.{state}
 use Rattle.sql_rows.specs.Ours.{IsOurs, kept_in}
 use Rattle.sql_reading.specs.Asking.{is_sql}
 use Rattle.sql_reading.proofs.ReadLemmas.{clean_before, read_then}
-use Rattle.stored_rows.specs.Stored.{tables_in}
+use Rattle.sql_rows.specs.Stored.{tables_in}
 use Rattle.sql_reading.specs.Stepping.{GoesOn}
 use Rattle.sql_reading.proofs.NumberLemmas.{run_ends, so_far_more}
 use Rattle.sql_reading.proofs.rows.commands_run.Goals as goal

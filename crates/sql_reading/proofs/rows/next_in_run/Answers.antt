@@ -1,7 +1,7 @@
 use Rattle.std.proofs.Common.{◌<◌, rules}
 use Rattle.sqlite.specs.Held.{state}
 use Rattle.sql_rows.specs.Ours.{kept_in}
-use Rattle.stored_rows.specs.Stored.{tables_in}
+use Rattle.sql_rows.specs.Stored.{tables_in}
 use Rattle.sql_reading.proofs.NumberLemmas.{ends_beyond}
 use Rattle.sql_reading.proofs.rows.next_in_run.Goals as goal
 

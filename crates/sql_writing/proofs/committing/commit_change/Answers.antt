@@ -5,7 +5,7 @@ use Rattle.sqlite.specs.Steps.{FailsToCommit}
 use Rattle.sqlite.specs.Held.{state}
 use Rattle.store.specs.Change.{with_change}
 use Rattle.sql_rows.specs.Ours.{IsOurs, Makes, kept_in}
-use Rattle.sql_writing.proofs.StepLemmas.{clean_before}
+use Rattle.sql_rows.proofs.StepLemmas.{clean_before}
 use Rattle.sql_writing.proofs.CommitLemmas.{not_committed, survives_whole}
 use Rattle.sql_writing.proofs.committing.commit_change.Goals as goal
 

@@ -1,8 +1,8 @@
 use Rattle.std.proofs.Common.{◌<◌, ◌∙◌, length, arith}
 use Rattle.std.proofs.lemmas.List.{drop_all}
 use Rattle.sqlite.specs.Held.{state}
-use Rattle.sql_writing.specs.Steps.{shown_put}
-use Rattle.sql_writing.proofs.StepLemmas.{nears_last, nears_next}
+use Rattle.sql_rows.specs.Steps.{shown_put}
+use Rattle.sql_rows.proofs.StepLemmas.{nears_last, nears_next}
 use Rattle.sql_writing.proofs.writing.put_all_shown.Goals as goal
 
 pub loop-item-preserved : goal.loop-item-preserved

@@ -1,8 +1,8 @@
 use Rattle.std.proofs.Common.{◌≡◌, drop, Ok}
 use Rattle.sqlite.specs.Held.{state}
 use Rattle.store.specs.Change.{with_each}
-use Rattle.sql_writing.specs.Steps.{Steps, next_put}
-use Rattle.sql_writing.proofs.StepLemmas.{Nears}
+use Rattle.sql_rows.specs.Steps.{Steps, next_put}
+use Rattle.sql_rows.proofs.StepLemmas.{Nears}
 use Rattle.sql_writing.proofs.writing.put_nexts.Given as goal
 
 abbrev pub invariant-loop-item : goal.invariant-loop-item

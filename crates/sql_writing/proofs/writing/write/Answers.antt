@@ -1,7 +1,7 @@
 use Rattle.sqlite.specs.Held.{state}
 use Rattle.store.specs.Change.{with_change}
-use Rattle.sql_writing.specs.Steps.{with_commands, with_values}
-use Rattle.sql_writing.proofs.StepLemmas.{turns_then}
+use Rattle.sql_rows.specs.Steps.{with_commands, with_values}
+use Rattle.sql_rows.proofs.StepLemmas.{turns_then}
 use Rattle.sql_writing.proofs.WholeLemmas.{whole}
 use Rattle.sql_writing.proofs.writing.write.Goals as goal
 

@@ -2,8 +2,8 @@ use Rattle.std.proofs.Common.{◌≡◌, refl, rules}
 use Rattle.sqlite.specs.Held.{state}
 use Rattle.store.specs.Change.{with_each}
 use Rattle.store.specs.Tables.{Tables}
-use Rattle.sql_writing.specs.Steps.{imported_put, last_put, place_put, shown_put, with_values}
-use Rattle.sql_writing.proofs.StepLemmas.{turns_then}
+use Rattle.sql_rows.specs.Steps.{imported_put, last_put, place_put, shown_put, with_values}
+use Rattle.sql_rows.proofs.StepLemmas.{turns_then}
 use Rattle.sql_writing.proofs.writing.write_values.Goals as goal
 
 pub returns-clause-steps : goal.returns-clause-steps

@@ -2,7 +2,7 @@ use Rattle.std.proofs.Common.{◌≡◌, map, sym, subst}
 use Rattle.sqlite.specs.Held.{state}
 use Rattle.sql_rows.specs.Ours.{IsOurs, kept_in}
 use Rattle.sql_reading.proofs.ReadLemmas.{clean_before}
-use Rattle.stored_rows.specs.Stored.{tables_in}
+use Rattle.sql_rows.specs.Stored.{tables_in}
 use Rattle.store_sql.specs.Opening.{early_rows}
 use Rattle.store_sql.proofs.EarlyLemmas.{drops_early}
 use Rattle.store_sql.proofs.OpenLemmas.{answered_sees}

@@ -5,7 +5,7 @@ use Rattle.store.specs.declared.change.RowsBelow.{RowsBelow}
 use Rattle.sql_rows.specs.Ours.{IsOurs, kept_in}
 use Rattle.sql_reading.specs.Asking.{is_sql}
 use Rattle.sql_reading.proofs.ReadLemmas.{clean_before, read_then}
-use Rattle.stored_rows.specs.Stored.{tables_in}
+use Rattle.sql_rows.specs.Stored.{tables_in}
 use Rattle.store_sql.proofs.EarlyLemmas.{far_more}
 use Rattle.store_sql.proofs.early.early_of.Goals as goal
 

@@ -3,7 +3,7 @@ use Rattle.sqlite.specs.Held.{state}
 use Rattle.sqlite.specs.State.{HasCleanDisk}
 use Rattle.sql_rows.specs.Ours.{IsOurs, kept_in}
 use Rattle.sql_reading.specs.Asking.{HasRead}
-use Rattle.stored_rows.specs.Stored.{tables_in}
+use Rattle.sql_rows.specs.Stored.{tables_in}
 use Rattle.store_sql.specs.Opening.{early_rows}
 use Rattle.store_sql.proofs.early.early_of.Given as goal
 

@@ -4,7 +4,7 @@ use Rattle.sqlite.specs.State.{HasCleanDisk, Survives}
 use Rattle.sqlite.specs.Steps.{FailsToCommit}
 use Rattle.sqlite.specs.Held.{state}
 use Rattle.sql_rows.specs.Ours.{IsOurs}
-use Rattle.sql_writing.proofs.StepLemmas.{clean_before}
+use Rattle.sql_rows.proofs.StepLemmas.{clean_before}
 use Rattle.store_sql.specs.Opening.{IsChangedBy}
 use Rattle.store_sql.proofs.RaiseLemmas.{not_committed, survives_raised}
 use Rattle.store_sql.proofs.raising.commit_raised.Goals as goal

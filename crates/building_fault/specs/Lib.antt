@@ -1,4 +1,0 @@
-pub mod Answers
-pub mod FaultAt
-pub mod FaultLine
-pub mod Steps
