@@ -31,7 +31,7 @@ pub(crate) struct Got {
 }
 
 /// What is made of a request, without what is promised of it: the promise is dear to carry, and dearer at the types of one
-/// store and one connection.
+/// store and one connection. Where memory for the routes is refused it is what no test awaits.
 pub(crate) fn served<S: Store + Drop, R: Read, W: Write>(
     alloc: Global,
     desk: &mut Desk<S>,
@@ -40,7 +40,7 @@ pub(crate) fn served<S: Store + Drop, R: Read, W: Write>(
 ) -> Served {
     match Routes::new(alloc) {
         Ok(routes) => serve_one(alloc, &routes, reader, writer, desk),
-        Err(_) => Served::NoRequest,
+        Err(_) => Served::NoReply,
     }
 }
 
