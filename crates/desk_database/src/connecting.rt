@@ -1,11 +1,14 @@
 //! A connection to the database in a file and its log.
 ghost use Rattle.std.specs.Prelude.{◌≡◌, [], IsTrue, IfOk, IfErr};
-ghost use Rattle.sqlite_store.specs.Unopened.{files_of, state_of, wanted_by, AreUsable};
+ghost use Rattle.sqlite_wal.specs.PageSize.{bytes_of};
+ghost use Rattle.sqlite_store.specs.FileStore.{view};
+ghost use Rattle.sqlite_store.specs.Unopened.{files_of, image, state_of, wanted_by, AreUsable, Creates};
+ghost use Rattle.sqlite_pool.specs.Opening.{IsBlankFile};
 ghost use Rattle.sqlite.specs.Held.{IsNew};
 ghost use Rattle.sqlite.specs.State.{HasCleanDisk};
-ghost use Rattle.sqlite.specs.Files.{file_state, IsOpened};
-ghost use Rattle.sqlite.specs.Opening.{is_open_error};
-ghost use Rattle.desk_database.specs.Begun.{IsBegun, FindsOrBegins};
+ghost use Rattle.sqlite.specs.Files.{file_state, faults_left, IsCleanLeft, IsFullLeft, IsOpened};
+ghost use Rattle.sqlite.specs.Opening.{blurred, is_open_error, probed, reported, FailsFor, FailsToMake, IsMade};
+ghost use Rattle.desk_database.specs.Begun.{FailsToConnect, FindsOrBegins, IsBegun, LeavesFound, LeavesMade};
 ghost use Rattle.desk_database.specs.declared.connecting.TheConstants.{PAGES_IN_LOG, PAGES_IN_MEMORY};
 
 use sqlite::{Connection, Error, ErrorCode, FileStore, Files, Leftover, Options};
@@ -38,9 +41,10 @@ pub fn options(seed: u64) -> Options
     }
 }
 
-/// Why a database could not be begun, in the words of an open.
-fn error_of(error: OpenError) -> Error
+/// Why a database could not be made, in the words of an open.
+fn made_error(error: OpenError) -> Error
     ensures named { IsTrue (is_open_error result) }
+    ensures value { result ≡ reported error }
 {
     Error::SqliteFailure(match error {
         OpenError::OutOfMemory => ErrorCode::OutOfMemory,
@@ -53,12 +57,27 @@ fn error_of(error: OpenError) -> Error
 /// Why it could not be told whether there is a database.
 fn probe_error(error: &sqlite_wal::Error) -> Error
     ensures named { IsTrue (is_open_error result) }
+    ensures value { result ≡ probed error.now }
 {
     Error::SqliteFailure(match error {
         sqlite_wal::Error::OutOfMemory => ErrorCode::OutOfMemory,
+        sqlite_wal::Error::Io(_) => ErrorCode::SystemIoFailure,
         sqlite_wal::Error::Full => ErrorCode::DiskFull,
-        _ => ErrorCode::SystemIoFailure,
+        _ => ErrorCode::NotADatabase,
     })
+}
+
+/// Why a new database could not be connected to: what is not want of memory is a fault of the disk.
+fn new_error(error: Error) -> Error
+    ensures named { IsTrue (is_open_error error) → IsTrue (is_open_error result) }
+    ensures value { result ≡ blurred error }
+{
+    match error {
+        Error::SqliteFailure(ErrorCode::DatabaseCorrupt | ErrorCode::DiskFull) => {
+            Error::SqliteFailure(ErrorCode::SystemIoFailure)
+        }
+        other => other,
+    }
 }
 
 /// The files of a database that is to have pages of this size and no table. They are given back where memory is refused.
@@ -69,7 +88,9 @@ fn unopened<D: Disk>(
     options: Options,
 ) -> Result<Unopened<D>, Files<D>>
     ensures files { IfOk result (λ it. files_of it ≡ (files.log, files.db)) }
+    ensures size { IfOk result (λ it. (state_of it).page_size ≡ bytes_of size) }
     ensures none { IfOk result (λ it. wanted_by it ≡ []) }
+    ensures back { IfErr result (λ left. (left.log ≡ files.log) × (left.db ≡ files.db)) }
 {
     let pager = match Pager::new(alloc, files, size, options) {
         Ok(pager) => pager,
@@ -78,6 +99,23 @@ fn unopened<D: Disk>(
     match Unopened::new(alloc, pager, &[]) {
         Ok(fresh) => Ok(fresh),
         Err(AllocFailed { value }) => Err(value.close()),
+    }
+}
+
+/// Makes a database with no table in files that hold none.
+fn made<D: Disk>(fresh: Unopened<D>) -> Result<FileStore<D>, (Error, Unopened<D>)>
+    requires usable { AreUsable fresh }
+    requires none { wanted_by fresh ≡ [] }
+    ensures named { IfErr result (λ e. IsTrue (is_open_error e.0)) }
+    ensures honest { IfOk result (λ store. IsTrue (view store).is_clean → IsTrue (state_of fresh).is_clean) }
+    ensures ok { IfOk result (λ store. IsTrue (view store).is_clean → IsMade fresh store) }
+    ensures falls { IfErr result (λ e. IsTrue (state_of e.1).is_clean → IsTrue (state_of fresh).is_clean) }
+    ensures cause { IfErr result (λ e. IsTrue (state_of e.1).is_clean → FailsToMake fresh e.1 e.0) }
+    ensures kept { IfErr result (λ e. IsTrue (state_of e.1).is_clean → Creates fresh (state_of e.1)) }
+{
+    match fresh.create() {
+        Ok(store) => Ok(store),
+        Err((error, left)) => Err((made_error(error), left)),
     }
 }
 
@@ -92,14 +130,17 @@ fn begun<D: Disk + Drop>(
     ensures opened { IfOk result (λ c. HasCleanDisk (file_state c) → IsOpened c) }
     ensures empty { IfOk result (λ c. HasCleanDisk (file_state c) → IsTrue (state_of fresh).is_clean × IsBegun c) }
     ensures fresh { IfOk result IsNew }
+    ensures cause { IfErr result (λ e. IsCleanLeft e.1 → IsTrue (state_of fresh).is_clean × FailsFor (state_of fresh).faults (faults_left e.1)
+        (IsFullLeft e.1) (IsBlankFile (state_of fresh).page_size (image fresh)) e.0) }
+    ensures unharmed { IfErr result (λ e. IsCleanLeft e.1 → IsTrue (state_of fresh).is_clean × LeavesMade fresh e.1) }
 {
-    let store = match fresh.create() {
+    let store = match made(fresh) {
         Ok(store) => store,
-        Err((error, left)) => return Err((error_of(error), Leftover::Unopened(left))),
+        Err((error, left)) => return Err((error, Leftover::Unopened(left))),
     };
     match Connection::over(alloc, store) {
         Ok(connection) => Ok(connection),
-        Err((error, store)) => Err((error, Leftover::Store(store))),
+        Err((error, store)) => Err((new_error(error), Leftover::Store(store))),
     }
 }
 
@@ -116,6 +157,8 @@ pub fn connected<D: Disk + Drop>(
     ensures opened { IfOk result (λ c. HasCleanDisk (file_state c) → IsOpened c) }
     ensures found { IfOk result (λ c. HasCleanDisk (file_state c) → FindsOrBegins files c) }
     ensures fresh { IfOk result IsNew }
+    ensures cause { IfErr result (λ e. IsCleanLeft e.1 → FailsToConnect files e.1 e.0) }
+    ensures unharmed { IfErr result (λ e. IsCleanLeft e.1 → LeavesFound files e.1) }
 {
     let size = PageSize::new(PAGE_BYTES).unwrap();
     match probe_blank(alloc, &mut files, size, false) {

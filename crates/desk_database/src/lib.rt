@@ -2,8 +2,8 @@
 //!
 //! `open_store` has the two files of a path, a connection to the database in them (`connecting`), and the store over that.
 //! Where there is no database, one is begun: it has small pages, since a command's commit writes five of them whole. What a
-//! connection then shows is `specs/Begun.antt`. All that knows the types of a real file stands in that one function, so
-//! that what they cost to prove is paid once.
+//! connection then shows, and what a failed one says and leaves, is `specs/Begun.antt`. All that knows the types of a real
+//! file stands in that one function, so that what they cost to prove is paid once.
 #![tactic(auto)]
 
 pub use connecting::{connected, options};
