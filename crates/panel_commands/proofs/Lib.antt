@@ -1,3 +1,4 @@
+pub mod ActedLemmas
 pub mod CarryLemmas
 pub mod CommandLemmas
 pub mod DeliverLemmas
