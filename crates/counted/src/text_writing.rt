@@ -10,7 +10,8 @@ use std::io::Write;
 /// risen: a write that fails or takes no byte is not made again.
 pub fn write_text<W: Write>(writer: &mut Counted<W>, text: &[u8]) -> bool
     ensures whole { result ≡ true → Appends (W.contents writer.old.inner) (W.contents writer.new.inner) text.now }
-    ensures lost { result ≡ false → Lost (W.contents writer.old.inner) (W.contents writer.new.inner) text.now writer.old.failures writer.new.failures }
+    ensures lost { result ≡ false
+        → Lost (W.contents writer.old.inner) (W.contents writer.new.inner) text.now writer.old.failures writer.new.failures }
 {
     let mut rest = text;
     while !rest.is_empty() {

@@ -241,7 +241,8 @@ fn point_text<'a, S: Store + Drop>(
     ensures text { (S.standing desk.new.store).is_honest → IfOk result (λ text. string_bytes text ≡ state_line name.now
         (state_of ((S.standing desk.old.store).content.tables.places name.now)
         (point_named desk.old.building.points name.now))) }
-    ensures same { (S.standing desk.new.store).is_honest → OnOk result ((S.standing desk.new.store).content ≡ (S.standing desk.old.store).content) }
+    ensures same { (S.standing desk.new.store).is_honest
+        → OnOk result ((S.standing desk.new.store).content ≡ (S.standing desk.old.store).content) }
     ensures honest { (S.standing desk.new.store).is_honest → (S.standing desk.old.store).is_honest }
     ensures building { desk.new.building ≡ desk.old.building }
 {

@@ -45,7 +45,8 @@ impl CalendarTable {
     /// Imports an entry for whose text there is room.
     pub fn import(&mut self, spelled: &SpelledEntry)
         requires { IsSome (entry_slot self.old.entries (spelling spelled.now.item.entry)) }
-        ensures has { (q : Text) → has_text self.new.entries q ≡ (bytes_eq (spelling spelled.now.item.entry) q || has_text self.old.entries q) }
+        ensures has { (q : Text)
+            → has_text self.new.entries q ≡ (bytes_eq (spelling spelled.now.item.entry) q || has_text self.old.entries q) }
         ensures stays { (q : Text) → IsSome (entry_slot self.old.entries q) → IsSome (entry_slot self.new.entries q) }
     {
         if let Some(slot) = self.entries.get_mut(&spelled.text) {

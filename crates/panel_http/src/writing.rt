@@ -14,7 +14,8 @@ pub(crate) fn write_answer<W: Write>(
     writer: &mut Counted<W>,
     answer: Result<Response, Unanswered>,
 ) -> Served
-    ensures { Writes (written answer) (W.contents writer.old.inner) (W.contents writer.new.inner) writer.old.failures writer.new.failures result }
+    ensures { Writes (written answer) (W.contents writer.old.inner) (W.contents writer.new.inner) writer.old.failures
+        writer.new.failures result }
 {
     match answer {
         Ok(response) => write_response(writer, response.status, response.text.as_str()),
@@ -30,7 +31,8 @@ pub(crate) fn write_answer<W: Write>(
 
 /// Writes the text of a response with this status.
 fn write_response<W: Write>(writer: &mut Counted<W>, status: StatusCode, text: &str) -> Served
-    ensures { Writes (Some (status, text.now)) (W.contents writer.old.inner) (W.contents writer.new.inner) writer.old.failures writer.new.failures result }
+    ensures { Writes (Some (status, text.now)) (W.contents writer.old.inner) (W.contents writer.new.inner) writer.old.failures
+        writer.new.failures result }
 {
     if write_text(writer, text.as_bytes()) {
         Served::Answered(status)

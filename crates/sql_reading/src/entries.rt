@@ -23,8 +23,12 @@ use std::alloc::Global;
 
 // What the answer of the query on the least entry tells.
 fn told_entry(calendar: &Name, after: &str, rows: Vec<Row>) -> Result<Option<Entry>, ReadFault>
-    ensures value { (kept : Kept) → FindsLeast (λ row. is_text calendar.now (column row 1) && is_after after.now (column row 2)) 2 kept.imported rows.items → IfOk result (IsNextEntry (tables_in kept) calendar.now after.now) }
-    ensures bad { (kept : Kept) → FindsLeast (λ row. is_text calendar.now (column row 1) && is_after after.now (column row 2)) 2 kept.imported rows.items → IfErr result (λ _. is_sound_in kept ≡ false) }
+    ensures value { (kept : Kept)
+        → FindsLeast (λ row. is_text calendar.now (column row 1) && is_after after.now (column row 2)) 2 kept.imported rows.items
+        → IfOk result (IsNextEntry (tables_in kept) calendar.now after.now) }
+    ensures bad { (kept : Kept)
+        → FindsLeast (λ row. is_text calendar.now (column row 1) && is_after after.now (column row 2)) 2 kept.imported rows.items
+        → IfErr result (λ _. is_sound_in kept ≡ false) }
     ensures fault { IfErr result (λ fault. fault ≡ BadRow) }
 {
     // What is asked for is a name, as a row's own has to be.
@@ -43,10 +47,14 @@ pub fn next_entry<S: Alter>(
     after: &str,
 ) -> Result<Option<Entry>, ReadFault>
     ensures mode { connection.old.in_transaction ≡ false → connection.new.in_transaction ≡ false }
-    ensures asks { HasCleanDisk (state S.Store connection.new) → IsOurs (state S.Store connection.old).now → Asks (result_err result) (state S.Store connection.old) (state S.Store connection.new) }
-    ensures value { HasCleanDisk (state S.Store connection.new) → IsOurs (state S.Store connection.old).now → IfOk result (IsNextEntry (tables_in (kept_in (state S.Store connection.old).now.trees)) calendar.now after.now) }
-    ensures bad { HasCleanDisk (state S.Store connection.new) → IsOurs (state S.Store connection.old).now → result ≡ Err BadRow → is_sound_in (kept_in (state S.Store connection.old).now.trees) ≡ false }
-    ensures survives { Survives (state S.Store connection.old) (state S.Store connection.new) (λ _. IsOurs (state S.Store connection.old).now → ⊥) }
+    ensures asks { HasCleanDisk (state S.Store connection.new) → IsOurs (state S.Store connection.old).now
+        → Asks (result_err result) (state S.Store connection.old) (state S.Store connection.new) }
+    ensures value { HasCleanDisk (state S.Store connection.new) → IsOurs (state S.Store connection.old).now
+        → IfOk result (IsNextEntry (tables_in (kept_in (state S.Store connection.old).now.trees)) calendar.now after.now) }
+    ensures bad { HasCleanDisk (state S.Store connection.new) → IsOurs (state S.Store connection.old).now → result ≡ Err BadRow
+        → is_sound_in (kept_in (state S.Store connection.old).now.trees) ≡ false }
+    ensures survives { Survives (state S.Store connection.old) (state S.Store connection.new)
+        (λ _. IsOurs (state S.Store connection.old).now → ⊥) }
 {
     let rows = calendars::next_entry(connection, calendar, after)?;
     told_entry(calendar, after, rows)
@@ -70,10 +78,14 @@ pub fn entries_of<S: Alter>(
     calendar: &Name,
 ) -> Result<Vec<Entry>, ReadFault>
     ensures mode { connection.old.in_transaction ≡ false → connection.new.in_transaction ≡ false }
-    ensures asks { HasCleanDisk (state S.Store connection.new) → IsOurs (state S.Store connection.old).now → Asks (result_err result) (state S.Store connection.old) (state S.Store connection.new) }
-    ensures value { HasCleanDisk (state S.Store connection.new) → IsOurs (state S.Store connection.old).now → IfOk result (λ it. AreEntries (tables_in (kept_in (state S.Store connection.old).now.trees)) calendar.now it.items) }
-    ensures bad { HasCleanDisk (state S.Store connection.new) → IsOurs (state S.Store connection.old).now → result ≡ Err BadRow → is_sound_in (kept_in (state S.Store connection.old).now.trees) ≡ false }
-    ensures survives { Survives (state S.Store connection.old) (state S.Store connection.new) (λ _. IsOurs (state S.Store connection.old).now → ⊥) }
+    ensures asks { HasCleanDisk (state S.Store connection.new) → IsOurs (state S.Store connection.old).now
+        → Asks (result_err result) (state S.Store connection.old) (state S.Store connection.new) }
+    ensures value { HasCleanDisk (state S.Store connection.new) → IsOurs (state S.Store connection.old).now
+        → IfOk result (λ it. AreEntries (tables_in (kept_in (state S.Store connection.old).now.trees)) calendar.now it.items) }
+    ensures bad { HasCleanDisk (state S.Store connection.new) → IsOurs (state S.Store connection.old).now → result ≡ Err BadRow
+        → is_sound_in (kept_in (state S.Store connection.old).now.trees) ≡ false }
+    ensures survives { Survives (state S.Store connection.old) (state S.Store connection.new)
+        (λ _. IsOurs (state S.Store connection.old).now → ⊥) }
 {
     let mut entries = Vec::new(alloc);
     let mut after = String::new(alloc);

@@ -28,8 +28,10 @@ const GREATEST_NEXT: u64 = 1_000_000_000_001;
 
 // What the answer of the query on a panel tells.
 fn told_next(panel: &Name, rows: Vec<Row>) -> Result<u64, ReadFault>
-    ensures value { (kept : Kept) → Finds (of_panel panel.now) (λ row. column row 2 ∷ []) kept.panel rows.items → IfOk result (λ it. it ≡ (tables_in kept).next panel.now) }
-    ensures bad { (kept : Kept) → Finds (of_panel panel.now) (λ row. column row 2 ∷ []) kept.panel rows.items → IfErr result (λ _. is_sound_in kept ≡ false) }
+    ensures value { (kept : Kept) → Finds (of_panel panel.now) (λ row. column row 2 ∷ []) kept.panel rows.items
+        → IfOk result (λ it. it ≡ (tables_in kept).next panel.now) }
+    ensures bad { (kept : Kept) → Finds (of_panel panel.now) (λ row. column row 2 ∷ []) kept.panel rows.items
+        → IfErr result (λ _. is_sound_in kept ≡ false) }
     ensures fault { IfErr result (λ fault. fault ≡ BadRow) }
 {
     // What is asked for is a name, as a row's own has to be.
@@ -44,10 +46,14 @@ fn told_next(panel: &Name, rows: Vec<Row>) -> Result<u64, ReadFault>
 #[tactic(auto, using(crate::proofs::ReadLemmas::sees_unchanged))]
 pub fn next_of<S: Alter>(connection: &mut Connection<S>, panel: &Name) -> Result<u64, ReadFault>
     ensures mode { connection.old.in_transaction ≡ false → connection.new.in_transaction ≡ false }
-    ensures asks { HasCleanDisk (state S.Store connection.new) → IsOurs (state S.Store connection.old).now → Asks (result_err result) (state S.Store connection.old) (state S.Store connection.new) }
-    ensures value { HasCleanDisk (state S.Store connection.new) → IsOurs (state S.Store connection.old).now → IfOk result (λ it. it ≡ (tables_in (kept_in (state S.Store connection.old).now.trees)).next panel.now) }
-    ensures bad { HasCleanDisk (state S.Store connection.new) → IsOurs (state S.Store connection.old).now → result ≡ Err BadRow → is_sound_in (kept_in (state S.Store connection.old).now.trees) ≡ false }
-    ensures survives { Survives (state S.Store connection.old) (state S.Store connection.new) (λ _. IsOurs (state S.Store connection.old).now → ⊥) }
+    ensures asks { HasCleanDisk (state S.Store connection.new) → IsOurs (state S.Store connection.old).now
+        → Asks (result_err result) (state S.Store connection.old) (state S.Store connection.new) }
+    ensures value { HasCleanDisk (state S.Store connection.new) → IsOurs (state S.Store connection.old).now
+        → IfOk result (λ it. it ≡ (tables_in (kept_in (state S.Store connection.old).now.trees)).next panel.now) }
+    ensures bad { HasCleanDisk (state S.Store connection.new) → IsOurs (state S.Store connection.old).now → result ≡ Err BadRow
+        → is_sound_in (kept_in (state S.Store connection.old).now.trees) ≡ false }
+    ensures survives { Survives (state S.Store connection.old) (state S.Store connection.new)
+        (λ _. IsOurs (state S.Store connection.old).now → ⊥) }
 {
     let rows = panels::find(connection, panel)?;
     told_next(panel, rows)
@@ -57,8 +63,16 @@ pub fn next_of<S: Alter>(connection: &mut Connection<S>, panel: &Name) -> Result
 fn told_command(panel: &Name, number: u64, rows: Vec<Row>) -> Result<Option<CommandRow>, ReadFault>
     requires at_least_1 { 1 ≤ number }
     requires greatest { number ≤ 1_000_000_000_000 }
-    ensures value { (kept : Kept) → Finds (of_command panel.now number) (λ row. column row 3 ∷ column row 4 ∷ column row 5 ∷ column row 6 ∷ column row 7 ∷ column row 8 ∷ []) kept.command rows.items → IfOk result (λ it. it ≡ (tables_in kept).row panel.now number) }
-    ensures bad { (kept : Kept) → Finds (of_command panel.now number) (λ row. column row 3 ∷ column row 4 ∷ column row 5 ∷ column row 6 ∷ column row 7 ∷ column row 8 ∷ []) kept.command rows.items → IfErr result (λ _. is_sound_in kept ≡ false) }
+    ensures value { (kept : Kept)
+        → Finds (of_command panel.now number)
+        (λ row. column row 3 ∷ column row 4 ∷ column row 5 ∷ column row 6 ∷ column row 7 ∷ column row 8 ∷ []) kept.command
+        rows.items
+        → IfOk result (λ it. it ≡ (tables_in kept).row panel.now number) }
+    ensures bad { (kept : Kept)
+        → Finds (of_command panel.now number)
+        (λ row. column row 3 ∷ column row 4 ∷ column row 5 ∷ column row 6 ∷ column row 7 ∷ column row 8 ∷ []) kept.command
+        rows.items
+        → IfErr result (λ _. is_sound_in kept ≡ false) }
     ensures fault { IfErr result (λ fault. fault ≡ BadRow) }
 {
     // What is asked for is a name, as a row's own has to be.
@@ -79,10 +93,14 @@ pub fn command_under<S: Alter>(
     requires at_least_1 { 1 ≤ number }
     requires greatest { number ≤ 1_000_000_000_000 }
     ensures mode { connection.old.in_transaction ≡ false → connection.new.in_transaction ≡ false }
-    ensures asks { HasCleanDisk (state S.Store connection.new) → IsOurs (state S.Store connection.old).now → Asks (result_err result) (state S.Store connection.old) (state S.Store connection.new) }
-    ensures value { HasCleanDisk (state S.Store connection.new) → IsOurs (state S.Store connection.old).now → IfOk result (λ it. it ≡ (tables_in (kept_in (state S.Store connection.old).now.trees)).row panel.now number) }
-    ensures bad { HasCleanDisk (state S.Store connection.new) → IsOurs (state S.Store connection.old).now → result ≡ Err BadRow → is_sound_in (kept_in (state S.Store connection.old).now.trees) ≡ false }
-    ensures survives { Survives (state S.Store connection.old) (state S.Store connection.new) (λ _. IsOurs (state S.Store connection.old).now → ⊥) }
+    ensures asks { HasCleanDisk (state S.Store connection.new) → IsOurs (state S.Store connection.old).now
+        → Asks (result_err result) (state S.Store connection.old) (state S.Store connection.new) }
+    ensures value { HasCleanDisk (state S.Store connection.new) → IsOurs (state S.Store connection.old).now
+        → IfOk result (λ it. it ≡ (tables_in (kept_in (state S.Store connection.old).now.trees)).row panel.now number) }
+    ensures bad { HasCleanDisk (state S.Store connection.new) → IsOurs (state S.Store connection.old).now → result ≡ Err BadRow
+        → is_sound_in (kept_in (state S.Store connection.old).now.trees) ≡ false }
+    ensures survives { Survives (state S.Store connection.old) (state S.Store connection.new)
+        (λ _. IsOurs (state S.Store connection.old).now → ⊥) }
 {
     let rows = commands::find(connection, panel, number)?;
     told_command(panel, number, rows)
@@ -92,8 +110,10 @@ pub fn command_under<S: Alter>(
 fn told_place(point: &Name, priority: u64, rows: Vec<Row>) -> Result<Option<i64>, ReadFault>
     requires at_least_1 { 1 ≤ priority }
     requires at_most_16 { priority ≤ 16 }
-    ensures value { (kept : Kept) → Finds (of_place point.now priority) (λ row. column row 3 ∷ []) kept.place rows.items → IfOk result (λ it. it ≡ get ((tables_in kept).places point.now) priority) }
-    ensures bad { (kept : Kept) → Finds (of_place point.now priority) (λ row. column row 3 ∷ []) kept.place rows.items → IfErr result (λ _. is_sound_in kept ≡ false) }
+    ensures value { (kept : Kept) → Finds (of_place point.now priority) (λ row. column row 3 ∷ []) kept.place rows.items
+        → IfOk result (λ it. it ≡ get ((tables_in kept).places point.now) priority) }
+    ensures bad { (kept : Kept) → Finds (of_place point.now priority) (λ row. column row 3 ∷ []) kept.place rows.items
+        → IfErr result (λ _. is_sound_in kept ≡ false) }
     ensures fault { IfErr result (λ fault. fault ≡ BadRow) }
 {
     // What is asked for is a name, as a row's own has to be.
@@ -114,10 +134,14 @@ pub fn value_at<S: Alter>(
     requires at_least_1 { 1 ≤ priority }
     requires at_most_16 { priority ≤ 16 }
     ensures mode { connection.old.in_transaction ≡ false → connection.new.in_transaction ≡ false }
-    ensures asks { HasCleanDisk (state S.Store connection.new) → IsOurs (state S.Store connection.old).now → Asks (result_err result) (state S.Store connection.old) (state S.Store connection.new) }
-    ensures value { HasCleanDisk (state S.Store connection.new) → IsOurs (state S.Store connection.old).now → IfOk result (λ it. it ≡ get ((tables_in (kept_in (state S.Store connection.old).now.trees)).places point.now) priority) }
-    ensures bad { HasCleanDisk (state S.Store connection.new) → IsOurs (state S.Store connection.old).now → result ≡ Err BadRow → is_sound_in (kept_in (state S.Store connection.old).now.trees) ≡ false }
-    ensures survives { Survives (state S.Store connection.old) (state S.Store connection.new) (λ _. IsOurs (state S.Store connection.old).now → ⊥) }
+    ensures asks { HasCleanDisk (state S.Store connection.new) → IsOurs (state S.Store connection.old).now
+        → Asks (result_err result) (state S.Store connection.old) (state S.Store connection.new) }
+    ensures value { HasCleanDisk (state S.Store connection.new) → IsOurs (state S.Store connection.old).now
+        → IfOk result (λ it. it ≡ get ((tables_in (kept_in (state S.Store connection.old).now.trees)).places point.now) priority) }
+    ensures bad { HasCleanDisk (state S.Store connection.new) → IsOurs (state S.Store connection.old).now → result ≡ Err BadRow
+        → is_sound_in (kept_in (state S.Store connection.old).now.trees) ≡ false }
+    ensures survives { Survives (state S.Store connection.old) (state S.Store connection.new)
+        (λ _. IsOurs (state S.Store connection.old).now → ⊥) }
 {
     let rows = places::find(connection, point, priority)?;
     told_place(point, priority, rows)
@@ -125,8 +149,10 @@ pub fn value_at<S: Alter>(
 
 // What the answer of the query on a schedule tells.
 fn told_shown(schedule: &Name, rows: Vec<Row>) -> Result<Option<Option<i64>>, ReadFault>
-    ensures value { (kept : Kept) → Finds (of_schedule schedule.now) (λ row. column row 2 ∷ []) kept.shown rows.items → IfOk result (λ it. it ≡ (tables_in kept).shown schedule.now) }
-    ensures bad { (kept : Kept) → Finds (of_schedule schedule.now) (λ row. column row 2 ∷ []) kept.shown rows.items → IfErr result (λ _. is_sound_in kept ≡ false) }
+    ensures value { (kept : Kept) → Finds (of_schedule schedule.now) (λ row. column row 2 ∷ []) kept.shown rows.items
+        → IfOk result (λ it. it ≡ (tables_in kept).shown schedule.now) }
+    ensures bad { (kept : Kept) → Finds (of_schedule schedule.now) (λ row. column row 2 ∷ []) kept.shown rows.items
+        → IfErr result (λ _. is_sound_in kept ≡ false) }
     ensures fault { IfErr result (λ fault. fault ≡ BadRow) }
 {
     // What is asked for is a name, as a row's own has to be.
@@ -144,10 +170,14 @@ pub fn shown_by<S: Alter>(
     schedule: &Name,
 ) -> Result<Option<Option<i64>>, ReadFault>
     ensures mode { connection.old.in_transaction ≡ false → connection.new.in_transaction ≡ false }
-    ensures asks { HasCleanDisk (state S.Store connection.new) → IsOurs (state S.Store connection.old).now → Asks (result_err result) (state S.Store connection.old) (state S.Store connection.new) }
-    ensures value { HasCleanDisk (state S.Store connection.new) → IsOurs (state S.Store connection.old).now → IfOk result (λ it. it ≡ (tables_in (kept_in (state S.Store connection.old).now.trees)).shown schedule.now) }
-    ensures bad { HasCleanDisk (state S.Store connection.new) → IsOurs (state S.Store connection.old).now → result ≡ Err BadRow → is_sound_in (kept_in (state S.Store connection.old).now.trees) ≡ false }
-    ensures survives { Survives (state S.Store connection.old) (state S.Store connection.new) (λ _. IsOurs (state S.Store connection.old).now → ⊥) }
+    ensures asks { HasCleanDisk (state S.Store connection.new) → IsOurs (state S.Store connection.old).now
+        → Asks (result_err result) (state S.Store connection.old) (state S.Store connection.new) }
+    ensures value { HasCleanDisk (state S.Store connection.new) → IsOurs (state S.Store connection.old).now
+        → IfOk result (λ it. it ≡ (tables_in (kept_in (state S.Store connection.old).now.trees)).shown schedule.now) }
+    ensures bad { HasCleanDisk (state S.Store connection.new) → IsOurs (state S.Store connection.old).now → result ≡ Err BadRow
+        → is_sound_in (kept_in (state S.Store connection.old).now.trees) ≡ false }
+    ensures survives { Survives (state S.Store connection.old) (state S.Store connection.new)
+        (λ _. IsOurs (state S.Store connection.old).now → ⊥) }
 {
     let rows = schedules::find(connection, schedule)?;
     told_shown(schedule, rows)
@@ -155,8 +185,10 @@ pub fn shown_by<S: Alter>(
 
 // What the answer of the query on `desk` tells.
 fn told_last(rows: Vec<Row>) -> Result<Option<i64>, ReadFault>
-    ensures value { (kept : Kept) → Finds (λ row. true) (λ row. column row 2 ∷ column row 3 ∷ []) kept.desk rows.items → IfOk result (λ it. it ≡ (tables_in kept).last_tick) }
-    ensures bad { (kept : Kept) → Finds (λ row. true) (λ row. column row 2 ∷ column row 3 ∷ []) kept.desk rows.items → IfErr result (λ _. is_sound_in kept ≡ false) }
+    ensures value { (kept : Kept) → Finds (λ row. true) (λ row. column row 2 ∷ column row 3 ∷ []) kept.desk rows.items
+        → IfOk result (λ it. it ≡ (tables_in kept).last_tick) }
+    ensures bad { (kept : Kept) → Finds (λ row. true) (λ row. column row 2 ∷ column row 3 ∷ []) kept.desk rows.items
+        → IfErr result (λ _. is_sound_in kept ≡ false) }
     ensures fault { IfErr result (λ fault. fault ≡ BadRow) }
 {
     match only(rows)? {
@@ -169,10 +201,14 @@ fn told_last(rows: Vec<Row>) -> Result<Option<i64>, ReadFault>
 #[tactic(auto, using(crate::proofs::ReadLemmas::sees_unchanged))]
 pub fn last_tick<S: Alter>(connection: &mut Connection<S>) -> Result<Option<i64>, ReadFault>
     ensures mode { connection.old.in_transaction ≡ false → connection.new.in_transaction ≡ false }
-    ensures asks { HasCleanDisk (state S.Store connection.new) → IsOurs (state S.Store connection.old).now → Asks (result_err result) (state S.Store connection.old) (state S.Store connection.new) }
-    ensures value { HasCleanDisk (state S.Store connection.new) → IsOurs (state S.Store connection.old).now → IfOk result (λ it. it ≡ (tables_in (kept_in (state S.Store connection.old).now.trees)).last_tick) }
-    ensures bad { HasCleanDisk (state S.Store connection.new) → IsOurs (state S.Store connection.old).now → result ≡ Err BadRow → is_sound_in (kept_in (state S.Store connection.old).now.trees) ≡ false }
-    ensures survives { Survives (state S.Store connection.old) (state S.Store connection.new) (λ _. IsOurs (state S.Store connection.old).now → ⊥) }
+    ensures asks { HasCleanDisk (state S.Store connection.new) → IsOurs (state S.Store connection.old).now
+        → Asks (result_err result) (state S.Store connection.old) (state S.Store connection.new) }
+    ensures value { HasCleanDisk (state S.Store connection.new) → IsOurs (state S.Store connection.old).now
+        → IfOk result (λ it. it ≡ (tables_in (kept_in (state S.Store connection.old).now.trees)).last_tick) }
+    ensures bad { HasCleanDisk (state S.Store connection.new) → IsOurs (state S.Store connection.old).now → result ≡ Err BadRow
+        → is_sound_in (kept_in (state S.Store connection.old).now.trees) ≡ false }
+    ensures survives { Survives (state S.Store connection.old) (state S.Store connection.new)
+        (λ _. IsOurs (state S.Store connection.old).now → ⊥) }
 {
     let rows = desk_row::find(connection)?;
     told_last(rows)

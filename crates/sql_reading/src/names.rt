@@ -45,10 +45,14 @@ pub enum NameList {
 
 fn stands_panel<S: Alter>(connection: &mut Connection<S>, panel: &Name) -> Result<bool, ReadFault>
     ensures mode { connection.old.in_transaction ≡ false → connection.new.in_transaction ≡ false }
-    ensures asks { HasCleanDisk (state S.Store connection.new) → IsOurs (state S.Store connection.old).now → Asks (result_err result) (state S.Store connection.old) (state S.Store connection.new) }
-    ensures value { HasCleanDisk (state S.Store connection.new) → IsOurs (state S.Store connection.old).now → IfOk result (Tells (HasPanel (tables_in (kept_in (state S.Store connection.old).now.trees)) panel.now)) }
-    ensures bad { HasCleanDisk (state S.Store connection.new) → IsOurs (state S.Store connection.old).now → result ≡ Err BadRow → is_sound_in (kept_in (state S.Store connection.old).now.trees) ≡ false }
-    ensures survives { Survives (state S.Store connection.old) (state S.Store connection.new) (λ _. IsOurs (state S.Store connection.old).now → ⊥) }
+    ensures asks { HasCleanDisk (state S.Store connection.new) → IsOurs (state S.Store connection.old).now
+        → Asks (result_err result) (state S.Store connection.old) (state S.Store connection.new) }
+    ensures value { HasCleanDisk (state S.Store connection.new) → IsOurs (state S.Store connection.old).now
+        → IfOk result (Tells (HasPanel (tables_in (kept_in (state S.Store connection.old).now.trees)) panel.now)) }
+    ensures bad { HasCleanDisk (state S.Store connection.new) → IsOurs (state S.Store connection.old).now → result ≡ Err BadRow
+        → is_sound_in (kept_in (state S.Store connection.old).now.trees) ≡ false }
+    ensures survives { Survives (state S.Store connection.old) (state S.Store connection.new)
+        (λ _. IsOurs (state S.Store connection.old).now → ⊥) }
 {
     if next_of(connection, panel)? != LEAST_NUMBER {
         return Ok(true);
@@ -60,8 +64,12 @@ fn stands_panel<S: Alter>(connection: &mut Connection<S>, panel: &Name) -> Resul
 fn told_priority(point: &Name, rows: Vec<Row>) -> Result<u64, ReadFault>
     ensures least { IfOk result (λ it. 1 ≤ it) }
     ensures greatest { IfOk result (λ it. it ≤ 17) }
-    ensures value { (kept : Kept) → FindsLeast (λ row. is_text point.now (column row 1) && is_from 1 (column row 2)) 2 kept.place rows.items → IfOk result (AreNoneBelow ((tables_in kept).places point.now)) }
-    ensures bad { (kept : Kept) → FindsLeast (λ row. is_text point.now (column row 1) && is_from 1 (column row 2)) 2 kept.place rows.items → IfErr result (λ _. is_sound_in kept ≡ false) }
+    ensures value { (kept : Kept)
+        → FindsLeast (λ row. is_text point.now (column row 1) && is_from 1 (column row 2)) 2 kept.place rows.items
+        → IfOk result (AreNoneBelow ((tables_in kept).places point.now)) }
+    ensures bad { (kept : Kept)
+        → FindsLeast (λ row. is_text point.now (column row 1) && is_from 1 (column row 2)) 2 kept.place rows.items
+        → IfErr result (λ _. is_sound_in kept ≡ false) }
     ensures fault { IfErr result (λ fault. fault ≡ BadRow) }
 {
     // What is asked for is a name, as a row's own has to be.
@@ -78,10 +86,14 @@ fn least_priority<S: Alter>(connection: &mut Connection<S>, point: &Name) -> Res
     ensures least { IfOk result (λ it. 1 ≤ it) }
     ensures greatest { IfOk result (λ it. it ≤ 17) }
     ensures mode { connection.old.in_transaction ≡ false → connection.new.in_transaction ≡ false }
-    ensures asks { HasCleanDisk (state S.Store connection.new) → IsOurs (state S.Store connection.old).now → Asks (result_err result) (state S.Store connection.old) (state S.Store connection.new) }
-    ensures value { HasCleanDisk (state S.Store connection.new) → IsOurs (state S.Store connection.old).now → IfOk result (AreNoneBelow ((tables_in (kept_in (state S.Store connection.old).now.trees)).places point.now)) }
-    ensures bad { HasCleanDisk (state S.Store connection.new) → IsOurs (state S.Store connection.old).now → result ≡ Err BadRow → is_sound_in (kept_in (state S.Store connection.old).now.trees) ≡ false }
-    ensures survives { Survives (state S.Store connection.old) (state S.Store connection.new) (λ _. IsOurs (state S.Store connection.old).now → ⊥) }
+    ensures asks { HasCleanDisk (state S.Store connection.new) → IsOurs (state S.Store connection.old).now
+        → Asks (result_err result) (state S.Store connection.old) (state S.Store connection.new) }
+    ensures value { HasCleanDisk (state S.Store connection.new) → IsOurs (state S.Store connection.old).now
+        → IfOk result (AreNoneBelow ((tables_in (kept_in (state S.Store connection.old).now.trees)).places point.now)) }
+    ensures bad { HasCleanDisk (state S.Store connection.new) → IsOurs (state S.Store connection.old).now → result ≡ Err BadRow
+        → is_sound_in (kept_in (state S.Store connection.old).now.trees) ≡ false }
+    ensures survives { Survives (state S.Store connection.old) (state S.Store connection.new)
+        (λ _. IsOurs (state S.Store connection.old).now → ⊥) }
 {
     let rows = places::next_priority(connection, point, 1)?;
     told_priority(point, rows)
@@ -96,10 +108,15 @@ fn has_value_from<S: Alter>(
     requires at_least_1 { 1 ≤ least }
     requires at_most_17 { least ≤ 17 }
     ensures mode { connection.old.in_transaction ≡ false → connection.new.in_transaction ≡ false }
-    ensures asks { HasCleanDisk (state S.Store connection.new) → IsOurs (state S.Store connection.old).now → Asks (result_err result) (state S.Store connection.old) (state S.Store connection.new) }
-    ensures value { HasCleanDisk (state S.Store connection.new) → IsOurs (state S.Store connection.old).now → AreNoneBelow ((tables_in (kept_in (state S.Store connection.old).now.trees)).places point.now) least → IfOk result (Tells (HasPoint (tables_in (kept_in (state S.Store connection.old).now.trees)) point.now)) }
-    ensures bad { HasCleanDisk (state S.Store connection.new) → IsOurs (state S.Store connection.old).now → result ≡ Err BadRow → is_sound_in (kept_in (state S.Store connection.old).now.trees) ≡ false }
-    ensures survives { Survives (state S.Store connection.old) (state S.Store connection.new) (λ _. IsOurs (state S.Store connection.old).now → ⊥) }
+    ensures asks { HasCleanDisk (state S.Store connection.new) → IsOurs (state S.Store connection.old).now
+        → Asks (result_err result) (state S.Store connection.old) (state S.Store connection.new) }
+    ensures value { HasCleanDisk (state S.Store connection.new) → IsOurs (state S.Store connection.old).now
+        → AreNoneBelow ((tables_in (kept_in (state S.Store connection.old).now.trees)).places point.now) least
+        → IfOk result (Tells (HasPoint (tables_in (kept_in (state S.Store connection.old).now.trees)) point.now)) }
+    ensures bad { HasCleanDisk (state S.Store connection.new) → IsOurs (state S.Store connection.old).now → result ≡ Err BadRow
+        → is_sound_in (kept_in (state S.Store connection.old).now.trees) ≡ false }
+    ensures survives { Survives (state S.Store connection.old) (state S.Store connection.new)
+        (λ _. IsOurs (state S.Store connection.old).now → ⊥) }
 {
     for priority in least..PAST_PRIORITIES {
         if value_at(connection, point, priority)?.is_some() {
@@ -111,10 +128,14 @@ fn has_value_from<S: Alter>(
 
 fn stands_point<S: Alter>(connection: &mut Connection<S>, point: &Name) -> Result<bool, ReadFault>
     ensures mode { connection.old.in_transaction ≡ false → connection.new.in_transaction ≡ false }
-    ensures asks { HasCleanDisk (state S.Store connection.new) → IsOurs (state S.Store connection.old).now → Asks (result_err result) (state S.Store connection.old) (state S.Store connection.new) }
-    ensures value { HasCleanDisk (state S.Store connection.new) → IsOurs (state S.Store connection.old).now → IfOk result (Tells (HasPoint (tables_in (kept_in (state S.Store connection.old).now.trees)) point.now)) }
-    ensures bad { HasCleanDisk (state S.Store connection.new) → IsOurs (state S.Store connection.old).now → result ≡ Err BadRow → is_sound_in (kept_in (state S.Store connection.old).now.trees) ≡ false }
-    ensures survives { Survives (state S.Store connection.old) (state S.Store connection.new) (λ _. IsOurs (state S.Store connection.old).now → ⊥) }
+    ensures asks { HasCleanDisk (state S.Store connection.new) → IsOurs (state S.Store connection.old).now
+        → Asks (result_err result) (state S.Store connection.old) (state S.Store connection.new) }
+    ensures value { HasCleanDisk (state S.Store connection.new) → IsOurs (state S.Store connection.old).now
+        → IfOk result (Tells (HasPoint (tables_in (kept_in (state S.Store connection.old).now.trees)) point.now)) }
+    ensures bad { HasCleanDisk (state S.Store connection.new) → IsOurs (state S.Store connection.old).now → result ≡ Err BadRow
+        → is_sound_in (kept_in (state S.Store connection.old).now.trees) ≡ false }
+    ensures survives { Survives (state S.Store connection.old) (state S.Store connection.new)
+        (λ _. IsOurs (state S.Store connection.old).now → ⊥) }
 {
     let least = least_priority(connection, point)?;
     has_value_from(connection, point, least)
@@ -125,10 +146,14 @@ fn stands_schedule<S: Alter>(
     schedule: &Name,
 ) -> Result<bool, ReadFault>
     ensures mode { connection.old.in_transaction ≡ false → connection.new.in_transaction ≡ false }
-    ensures asks { HasCleanDisk (state S.Store connection.new) → IsOurs (state S.Store connection.old).now → Asks (result_err result) (state S.Store connection.old) (state S.Store connection.new) }
-    ensures value { HasCleanDisk (state S.Store connection.new) → IsOurs (state S.Store connection.old).now → IfOk result (Tells (HasSchedule (tables_in (kept_in (state S.Store connection.old).now.trees)) schedule.now)) }
-    ensures bad { HasCleanDisk (state S.Store connection.new) → IsOurs (state S.Store connection.old).now → result ≡ Err BadRow → is_sound_in (kept_in (state S.Store connection.old).now.trees) ≡ false }
-    ensures survives { Survives (state S.Store connection.old) (state S.Store connection.new) (λ _. IsOurs (state S.Store connection.old).now → ⊥) }
+    ensures asks { HasCleanDisk (state S.Store connection.new) → IsOurs (state S.Store connection.old).now
+        → Asks (result_err result) (state S.Store connection.old) (state S.Store connection.new) }
+    ensures value { HasCleanDisk (state S.Store connection.new) → IsOurs (state S.Store connection.old).now
+        → IfOk result (Tells (HasSchedule (tables_in (kept_in (state S.Store connection.old).now.trees)) schedule.now)) }
+    ensures bad { HasCleanDisk (state S.Store connection.new) → IsOurs (state S.Store connection.old).now → result ≡ Err BadRow
+        → is_sound_in (kept_in (state S.Store connection.old).now.trees) ≡ false }
+    ensures survives { Survives (state S.Store connection.old) (state S.Store connection.new)
+        (λ _. IsOurs (state S.Store connection.old).now → ⊥) }
 {
     Ok(shown_by(connection, schedule)?.is_some())
 }
@@ -138,10 +163,14 @@ fn stands_calendar<S: Alter>(
     calendar: &Name,
 ) -> Result<bool, ReadFault>
     ensures mode { connection.old.in_transaction ≡ false → connection.new.in_transaction ≡ false }
-    ensures asks { HasCleanDisk (state S.Store connection.new) → IsOurs (state S.Store connection.old).now → Asks (result_err result) (state S.Store connection.old) (state S.Store connection.new) }
-    ensures value { HasCleanDisk (state S.Store connection.new) → IsOurs (state S.Store connection.old).now → IfOk result (Tells (HasCalendar (tables_in (kept_in (state S.Store connection.old).now.trees)) calendar.now)) }
-    ensures bad { HasCleanDisk (state S.Store connection.new) → IsOurs (state S.Store connection.old).now → result ≡ Err BadRow → is_sound_in (kept_in (state S.Store connection.old).now.trees) ≡ false }
-    ensures survives { Survives (state S.Store connection.old) (state S.Store connection.new) (λ _. IsOurs (state S.Store connection.old).now → ⊥) }
+    ensures asks { HasCleanDisk (state S.Store connection.new) → IsOurs (state S.Store connection.old).now
+        → Asks (result_err result) (state S.Store connection.old) (state S.Store connection.new) }
+    ensures value { HasCleanDisk (state S.Store connection.new) → IsOurs (state S.Store connection.old).now
+        → IfOk result (Tells (HasCalendar (tables_in (kept_in (state S.Store connection.old).now.trees)) calendar.now)) }
+    ensures bad { HasCleanDisk (state S.Store connection.new) → IsOurs (state S.Store connection.old).now → result ≡ Err BadRow
+        → is_sound_in (kept_in (state S.Store connection.old).now.trees) ≡ false }
+    ensures survives { Survives (state S.Store connection.old) (state S.Store connection.new)
+        (λ _. IsOurs (state S.Store connection.old).now → ⊥) }
 {
     Ok(next_entry(connection, calendar, "")?.is_some())
 }
@@ -152,10 +181,14 @@ fn stands_in<S: Alter>(
     name: &Name,
 ) -> Result<bool, ReadFault>
     ensures mode { connection.old.in_transaction ≡ false → connection.new.in_transaction ≡ false }
-    ensures asks { HasCleanDisk (state S.Store connection.new) → IsOurs (state S.Store connection.old).now → Asks (result_err result) (state S.Store connection.old) (state S.Store connection.new) }
-    ensures value { HasCleanDisk (state S.Store connection.new) → IsOurs (state S.Store connection.old).now → IfOk result (Tells (StandsIn list (tables_in (kept_in (state S.Store connection.old).now.trees)) name.now)) }
-    ensures bad { HasCleanDisk (state S.Store connection.new) → IsOurs (state S.Store connection.old).now → result ≡ Err BadRow → is_sound_in (kept_in (state S.Store connection.old).now.trees) ≡ false }
-    ensures survives { Survives (state S.Store connection.old) (state S.Store connection.new) (λ _. IsOurs (state S.Store connection.old).now → ⊥) }
+    ensures asks { HasCleanDisk (state S.Store connection.new) → IsOurs (state S.Store connection.old).now
+        → Asks (result_err result) (state S.Store connection.old) (state S.Store connection.new) }
+    ensures value { HasCleanDisk (state S.Store connection.new) → IsOurs (state S.Store connection.old).now
+        → IfOk result (Tells (StandsIn list (tables_in (kept_in (state S.Store connection.old).now.trees)) name.now)) }
+    ensures bad { HasCleanDisk (state S.Store connection.new) → IsOurs (state S.Store connection.old).now → result ≡ Err BadRow
+        → is_sound_in (kept_in (state S.Store connection.old).now.trees) ≡ false }
+    ensures survives { Survives (state S.Store connection.old) (state S.Store connection.new)
+        (λ _. IsOurs (state S.Store connection.old).now → ⊥) }
 {
     match list {
         NameList::Panels => stands_panel(connection, name),
@@ -182,10 +215,14 @@ fn next_panel<S: Alter>(
     after: &str,
 ) -> Result<Option<Name>, ReadFault>
     ensures mode { connection.old.in_transaction ≡ false → connection.new.in_transaction ≡ false }
-    ensures asks { HasCleanDisk (state S.Store connection.new) → IsOurs (state S.Store connection.old).now → Asks (result_err result) (state S.Store connection.old) (state S.Store connection.new) }
-    ensures value { HasCleanDisk (state S.Store connection.new) → IsOurs (state S.Store connection.old).now → IfOk result (IsNextText (HasPanel (tables_in (kept_in (state S.Store connection.old).now.trees))) after.now) }
-    ensures bad { HasCleanDisk (state S.Store connection.new) → IsOurs (state S.Store connection.old).now → result ≡ Err BadRow → is_sound_in (kept_in (state S.Store connection.old).now.trees) ≡ false }
-    ensures survives { Survives (state S.Store connection.old) (state S.Store connection.new) (λ _. IsOurs (state S.Store connection.old).now → ⊥) }
+    ensures asks { HasCleanDisk (state S.Store connection.new) → IsOurs (state S.Store connection.old).now
+        → Asks (result_err result) (state S.Store connection.old) (state S.Store connection.new) }
+    ensures value { HasCleanDisk (state S.Store connection.new) → IsOurs (state S.Store connection.old).now
+        → IfOk result (IsNextText (HasPanel (tables_in (kept_in (state S.Store connection.old).now.trees))) after.now) }
+    ensures bad { HasCleanDisk (state S.Store connection.new) → IsOurs (state S.Store connection.old).now → result ≡ Err BadRow
+        → is_sound_in (kept_in (state S.Store connection.old).now.trees) ≡ false }
+    ensures survives { Survives (state S.Store connection.old) (state S.Store connection.new)
+        (λ _. IsOurs (state S.Store connection.old).now → ⊥) }
 {
     let numbered = next_numbered_panel(connection, after)?;
     let commanding = next_commanding_panel(connection, after)?;
@@ -198,10 +235,14 @@ fn next_in<S: Alter>(
     after: &str,
 ) -> Result<Option<Name>, ReadFault>
     ensures mode { connection.old.in_transaction ≡ false → connection.new.in_transaction ≡ false }
-    ensures asks { HasCleanDisk (state S.Store connection.new) → IsOurs (state S.Store connection.old).now → Asks (result_err result) (state S.Store connection.old) (state S.Store connection.new) }
-    ensures value { HasCleanDisk (state S.Store connection.new) → IsOurs (state S.Store connection.old).now → IfOk result (IsNextText (StandsIn list (tables_in (kept_in (state S.Store connection.old).now.trees))) after.now) }
-    ensures bad { HasCleanDisk (state S.Store connection.new) → IsOurs (state S.Store connection.old).now → result ≡ Err BadRow → is_sound_in (kept_in (state S.Store connection.old).now.trees) ≡ false }
-    ensures survives { Survives (state S.Store connection.old) (state S.Store connection.new) (λ _. IsOurs (state S.Store connection.old).now → ⊥) }
+    ensures asks { HasCleanDisk (state S.Store connection.new) → IsOurs (state S.Store connection.old).now
+        → Asks (result_err result) (state S.Store connection.old) (state S.Store connection.new) }
+    ensures value { HasCleanDisk (state S.Store connection.new) → IsOurs (state S.Store connection.old).now
+        → IfOk result (IsNextText (StandsIn list (tables_in (kept_in (state S.Store connection.old).now.trees))) after.now) }
+    ensures bad { HasCleanDisk (state S.Store connection.new) → IsOurs (state S.Store connection.old).now → result ≡ Err BadRow
+        → is_sound_in (kept_in (state S.Store connection.old).now.trees) ≡ false }
+    ensures survives { Survives (state S.Store connection.old) (state S.Store connection.new)
+        (λ _. IsOurs (state S.Store connection.old).now → ⊥) }
 {
     match list {
         NameList::Panels => next_panel(connection, after),
@@ -237,10 +278,14 @@ fn names_in<S: Alter>(
     connection: &mut Connection<S>,
 ) -> Result<Vec<Name>, ReadFault>
     ensures mode { connection.old.in_transaction ≡ false → connection.new.in_transaction ≡ false }
-    ensures asks { HasCleanDisk (state S.Store connection.new) → IsOurs (state S.Store connection.old).now → Asks (result_err result) (state S.Store connection.old) (state S.Store connection.new) }
-    ensures value { HasCleanDisk (state S.Store connection.new) → IsOurs (state S.Store connection.old).now → IfOk result (λ it. AreTexts (StandsIn list (tables_in (kept_in (state S.Store connection.old).now.trees))) it.items) }
-    ensures bad { HasCleanDisk (state S.Store connection.new) → IsOurs (state S.Store connection.old).now → result ≡ Err BadRow → is_sound_in (kept_in (state S.Store connection.old).now.trees) ≡ false }
-    ensures survives { Survives (state S.Store connection.old) (state S.Store connection.new) (λ _. IsOurs (state S.Store connection.old).now → ⊥) }
+    ensures asks { HasCleanDisk (state S.Store connection.new) → IsOurs (state S.Store connection.old).now
+        → Asks (result_err result) (state S.Store connection.old) (state S.Store connection.new) }
+    ensures value { HasCleanDisk (state S.Store connection.new) → IsOurs (state S.Store connection.old).now
+        → IfOk result (λ it. AreTexts (StandsIn list (tables_in (kept_in (state S.Store connection.old).now.trees))) it.items) }
+    ensures bad { HasCleanDisk (state S.Store connection.new) → IsOurs (state S.Store connection.old).now → result ≡ Err BadRow
+        → is_sound_in (kept_in (state S.Store connection.old).now.trees) ≡ false }
+    ensures survives { Survives (state S.Store connection.old) (state S.Store connection.new)
+        (λ _. IsOurs (state S.Store connection.old).now → ⊥) }
 {
     let mut names = Vec::new(alloc);
     let mut after = None;
@@ -261,10 +306,14 @@ fn names_in<S: Alter>(
 /// The names that stand in the tables.
 pub fn names_of<S: Alter>(alloc: Global, connection: &mut Connection<S>) -> Result<Names, ReadFault>
     ensures mode { connection.old.in_transaction ≡ false → connection.new.in_transaction ≡ false }
-    ensures asks { HasCleanDisk (state S.Store connection.new) → IsOurs (state S.Store connection.old).now → Asks (result_err result) (state S.Store connection.old) (state S.Store connection.new) }
-    ensures value { HasCleanDisk (state S.Store connection.new) → IsOurs (state S.Store connection.old).now → IfOk result (AreNames (tables_in (kept_in (state S.Store connection.old).now.trees))) }
-    ensures bad { HasCleanDisk (state S.Store connection.new) → IsOurs (state S.Store connection.old).now → result ≡ Err BadRow → is_sound_in (kept_in (state S.Store connection.old).now.trees) ≡ false }
-    ensures survives { Survives (state S.Store connection.old) (state S.Store connection.new) (λ _. IsOurs (state S.Store connection.old).now → ⊥) }
+    ensures asks { HasCleanDisk (state S.Store connection.new) → IsOurs (state S.Store connection.old).now
+        → Asks (result_err result) (state S.Store connection.old) (state S.Store connection.new) }
+    ensures value { HasCleanDisk (state S.Store connection.new) → IsOurs (state S.Store connection.old).now
+        → IfOk result (AreNames (tables_in (kept_in (state S.Store connection.old).now.trees))) }
+    ensures bad { HasCleanDisk (state S.Store connection.new) → IsOurs (state S.Store connection.old).now → result ≡ Err BadRow
+        → is_sound_in (kept_in (state S.Store connection.old).now.trees) ≡ false }
+    ensures survives { Survives (state S.Store connection.old) (state S.Store connection.new)
+        (λ _. IsOurs (state S.Store connection.old).now → ⊥) }
 {
     let panels = names_in(alloc, NameList::Panels, connection)?;
     let points = names_in(alloc, NameList::Points, connection)?;

@@ -19,8 +19,10 @@ use sqlite::{Alter, Connection, Row};
 
 // What the answer of a query on the least name tells.
 fn told_name(after: &str, rows: Vec<Row>) -> Result<Option<Name>, ReadFault>
-    ensures value { (table : List Cells) → FindsLeast (λ row. is_after after.now (column row 1)) 1 table rows.items → IfOk result (IsNextText (HasName table) after.now) }
-    ensures bad { (table : List Cells) → FindsLeast (λ row. is_after after.now (column row 1)) 1 table rows.items → IfErr result (λ _. HasNoName table) }
+    ensures value { (table : List Cells) → FindsLeast (λ row. is_after after.now (column row 1)) 1 table rows.items
+        → IfOk result (IsNextText (HasName table) after.now) }
+    ensures bad { (table : List Cells) → FindsLeast (λ row. is_after after.now (column row 1)) 1 table rows.items
+        → IfErr result (λ _. HasNoName table) }
     ensures fault { IfErr result (λ fault. fault ≡ BadRow) }
 {
     match rows.first() {
@@ -36,10 +38,14 @@ pub fn next_numbered_panel<S: Alter>(
     after: &str,
 ) -> Result<Option<Name>, ReadFault>
     ensures mode { connection.old.in_transaction ≡ false → connection.new.in_transaction ≡ false }
-    ensures asks { HasCleanDisk (state S.Store connection.new) → IsOurs (state S.Store connection.old).now → Asks (result_err result) (state S.Store connection.old) (state S.Store connection.new) }
-    ensures value { HasCleanDisk (state S.Store connection.new) → IsOurs (state S.Store connection.old).now → IfOk result (IsNextText (HasName (kept_in (state S.Store connection.old).now.trees).panel) after.now) }
-    ensures bad { HasCleanDisk (state S.Store connection.new) → IsOurs (state S.Store connection.old).now → result ≡ Err BadRow → is_sound_in (kept_in (state S.Store connection.old).now.trees) ≡ false }
-    ensures survives { Survives (state S.Store connection.old) (state S.Store connection.new) (λ _. IsOurs (state S.Store connection.old).now → ⊥) }
+    ensures asks { HasCleanDisk (state S.Store connection.new) → IsOurs (state S.Store connection.old).now
+        → Asks (result_err result) (state S.Store connection.old) (state S.Store connection.new) }
+    ensures value { HasCleanDisk (state S.Store connection.new) → IsOurs (state S.Store connection.old).now
+        → IfOk result (IsNextText (HasName (kept_in (state S.Store connection.old).now.trees).panel) after.now) }
+    ensures bad { HasCleanDisk (state S.Store connection.new) → IsOurs (state S.Store connection.old).now → result ≡ Err BadRow
+        → is_sound_in (kept_in (state S.Store connection.old).now.trees) ≡ false }
+    ensures survives { Survives (state S.Store connection.old) (state S.Store connection.new)
+        (λ _. IsOurs (state S.Store connection.old).now → ⊥) }
 {
     let rows = panels::next_name(connection, after)?;
     told_name(after, rows)
@@ -52,10 +58,14 @@ pub fn next_commanding_panel<S: Alter>(
     after: &str,
 ) -> Result<Option<Name>, ReadFault>
     ensures mode { connection.old.in_transaction ≡ false → connection.new.in_transaction ≡ false }
-    ensures asks { HasCleanDisk (state S.Store connection.new) → IsOurs (state S.Store connection.old).now → Asks (result_err result) (state S.Store connection.old) (state S.Store connection.new) }
-    ensures value { HasCleanDisk (state S.Store connection.new) → IsOurs (state S.Store connection.old).now → IfOk result (IsNextText (HasName (kept_in (state S.Store connection.old).now.trees).command) after.now) }
-    ensures bad { HasCleanDisk (state S.Store connection.new) → IsOurs (state S.Store connection.old).now → result ≡ Err BadRow → is_sound_in (kept_in (state S.Store connection.old).now.trees) ≡ false }
-    ensures survives { Survives (state S.Store connection.old) (state S.Store connection.new) (λ _. IsOurs (state S.Store connection.old).now → ⊥) }
+    ensures asks { HasCleanDisk (state S.Store connection.new) → IsOurs (state S.Store connection.old).now
+        → Asks (result_err result) (state S.Store connection.old) (state S.Store connection.new) }
+    ensures value { HasCleanDisk (state S.Store connection.new) → IsOurs (state S.Store connection.old).now
+        → IfOk result (IsNextText (HasName (kept_in (state S.Store connection.old).now.trees).command) after.now) }
+    ensures bad { HasCleanDisk (state S.Store connection.new) → IsOurs (state S.Store connection.old).now → result ≡ Err BadRow
+        → is_sound_in (kept_in (state S.Store connection.old).now.trees) ≡ false }
+    ensures survives { Survives (state S.Store connection.old) (state S.Store connection.new)
+        (λ _. IsOurs (state S.Store connection.old).now → ⊥) }
 {
     let rows = commands::next_panel(connection, after)?;
     told_name(after, rows)
@@ -68,10 +78,14 @@ pub fn next_point<S: Alter>(
     after: &str,
 ) -> Result<Option<Name>, ReadFault>
     ensures mode { connection.old.in_transaction ≡ false → connection.new.in_transaction ≡ false }
-    ensures asks { HasCleanDisk (state S.Store connection.new) → IsOurs (state S.Store connection.old).now → Asks (result_err result) (state S.Store connection.old) (state S.Store connection.new) }
-    ensures value { HasCleanDisk (state S.Store connection.new) → IsOurs (state S.Store connection.old).now → IfOk result (IsNextText (HasPoint (tables_in (kept_in (state S.Store connection.old).now.trees))) after.now) }
-    ensures bad { HasCleanDisk (state S.Store connection.new) → IsOurs (state S.Store connection.old).now → result ≡ Err BadRow → is_sound_in (kept_in (state S.Store connection.old).now.trees) ≡ false }
-    ensures survives { Survives (state S.Store connection.old) (state S.Store connection.new) (λ _. IsOurs (state S.Store connection.old).now → ⊥) }
+    ensures asks { HasCleanDisk (state S.Store connection.new) → IsOurs (state S.Store connection.old).now
+        → Asks (result_err result) (state S.Store connection.old) (state S.Store connection.new) }
+    ensures value { HasCleanDisk (state S.Store connection.new) → IsOurs (state S.Store connection.old).now
+        → IfOk result (IsNextText (HasPoint (tables_in (kept_in (state S.Store connection.old).now.trees))) after.now) }
+    ensures bad { HasCleanDisk (state S.Store connection.new) → IsOurs (state S.Store connection.old).now → result ≡ Err BadRow
+        → is_sound_in (kept_in (state S.Store connection.old).now.trees) ≡ false }
+    ensures survives { Survives (state S.Store connection.old) (state S.Store connection.new)
+        (λ _. IsOurs (state S.Store connection.old).now → ⊥) }
 {
     let rows = places::next_point(connection, after)?;
     told_name(after, rows)
@@ -84,10 +98,14 @@ pub fn next_schedule<S: Alter>(
     after: &str,
 ) -> Result<Option<Name>, ReadFault>
     ensures mode { connection.old.in_transaction ≡ false → connection.new.in_transaction ≡ false }
-    ensures asks { HasCleanDisk (state S.Store connection.new) → IsOurs (state S.Store connection.old).now → Asks (result_err result) (state S.Store connection.old) (state S.Store connection.new) }
-    ensures value { HasCleanDisk (state S.Store connection.new) → IsOurs (state S.Store connection.old).now → IfOk result (IsNextText (HasSchedule (tables_in (kept_in (state S.Store connection.old).now.trees))) after.now) }
-    ensures bad { HasCleanDisk (state S.Store connection.new) → IsOurs (state S.Store connection.old).now → result ≡ Err BadRow → is_sound_in (kept_in (state S.Store connection.old).now.trees) ≡ false }
-    ensures survives { Survives (state S.Store connection.old) (state S.Store connection.new) (λ _. IsOurs (state S.Store connection.old).now → ⊥) }
+    ensures asks { HasCleanDisk (state S.Store connection.new) → IsOurs (state S.Store connection.old).now
+        → Asks (result_err result) (state S.Store connection.old) (state S.Store connection.new) }
+    ensures value { HasCleanDisk (state S.Store connection.new) → IsOurs (state S.Store connection.old).now
+        → IfOk result (IsNextText (HasSchedule (tables_in (kept_in (state S.Store connection.old).now.trees))) after.now) }
+    ensures bad { HasCleanDisk (state S.Store connection.new) → IsOurs (state S.Store connection.old).now → result ≡ Err BadRow
+        → is_sound_in (kept_in (state S.Store connection.old).now.trees) ≡ false }
+    ensures survives { Survives (state S.Store connection.old) (state S.Store connection.new)
+        (λ _. IsOurs (state S.Store connection.old).now → ⊥) }
 {
     let rows = schedules::next_name(connection, after)?;
     told_name(after, rows)
@@ -100,10 +118,14 @@ pub fn next_calendar<S: Alter>(
     after: &str,
 ) -> Result<Option<Name>, ReadFault>
     ensures mode { connection.old.in_transaction ≡ false → connection.new.in_transaction ≡ false }
-    ensures asks { HasCleanDisk (state S.Store connection.new) → IsOurs (state S.Store connection.old).now → Asks (result_err result) (state S.Store connection.old) (state S.Store connection.new) }
-    ensures value { HasCleanDisk (state S.Store connection.new) → IsOurs (state S.Store connection.old).now → IfOk result (IsNextText (HasCalendar (tables_in (kept_in (state S.Store connection.old).now.trees))) after.now) }
-    ensures bad { HasCleanDisk (state S.Store connection.new) → IsOurs (state S.Store connection.old).now → result ≡ Err BadRow → is_sound_in (kept_in (state S.Store connection.old).now.trees) ≡ false }
-    ensures survives { Survives (state S.Store connection.old) (state S.Store connection.new) (λ _. IsOurs (state S.Store connection.old).now → ⊥) }
+    ensures asks { HasCleanDisk (state S.Store connection.new) → IsOurs (state S.Store connection.old).now
+        → Asks (result_err result) (state S.Store connection.old) (state S.Store connection.new) }
+    ensures value { HasCleanDisk (state S.Store connection.new) → IsOurs (state S.Store connection.old).now
+        → IfOk result (IsNextText (HasCalendar (tables_in (kept_in (state S.Store connection.old).now.trees))) after.now) }
+    ensures bad { HasCleanDisk (state S.Store connection.new) → IsOurs (state S.Store connection.old).now → result ≡ Err BadRow
+        → is_sound_in (kept_in (state S.Store connection.old).now.trees) ≡ false }
+    ensures survives { Survives (state S.Store connection.old) (state S.Store connection.new)
+        (λ _. IsOurs (state S.Store connection.old).now → ⊥) }
 {
     let rows = calendars::next_name(connection, after)?;
     told_name(after, rows)

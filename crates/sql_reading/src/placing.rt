@@ -33,8 +33,12 @@ fn place(array: &mut PriorityArray, row: &Row) -> Result<(), ReadFault>
 
 // What the answer of the query on the places of a point tells.
 fn told_array(point: &Name, rows: Vec<Row>) -> Result<PriorityArray, ReadFault>
-    ensures value { (kept : Kept) → Finds (λ row. is_text point.now (column row 1)) (λ row. column row 2 ∷ column row 3 ∷ []) kept.place rows.items → IfOk result (λ it. it ≡ (tables_in kept).places point.now) }
-    ensures bad { (kept : Kept) → Finds (λ row. is_text point.now (column row 1)) (λ row. column row 2 ∷ column row 3 ∷ []) kept.place rows.items → IfErr result (λ _. is_sound_in kept ≡ false) }
+    ensures value { (kept : Kept)
+        → Finds (λ row. is_text point.now (column row 1)) (λ row. column row 2 ∷ column row 3 ∷ []) kept.place rows.items
+        → IfOk result (λ it. it ≡ (tables_in kept).places point.now) }
+    ensures bad { (kept : Kept)
+        → Finds (λ row. is_text point.now (column row 1)) (λ row. column row 2 ∷ column row 3 ∷ []) kept.place rows.items
+        → IfErr result (λ _. is_sound_in kept ≡ false) }
     ensures fault { IfErr result (λ fault. fault ≡ BadRow) }
 {
     // What is asked for is a name, as a row's own has to be.
@@ -53,10 +57,14 @@ pub fn array_of<S: Alter>(
     point: &Name,
 ) -> Result<PriorityArray, ReadFault>
     ensures mode { connection.old.in_transaction ≡ false → connection.new.in_transaction ≡ false }
-    ensures asks { HasCleanDisk (state S.Store connection.new) → IsOurs (state S.Store connection.old).now → Asks (result_err result) (state S.Store connection.old) (state S.Store connection.new) }
-    ensures value { HasCleanDisk (state S.Store connection.new) → IsOurs (state S.Store connection.old).now → IfOk result (λ it. it ≡ (tables_in (kept_in (state S.Store connection.old).now.trees)).places point.now) }
-    ensures bad { HasCleanDisk (state S.Store connection.new) → IsOurs (state S.Store connection.old).now → result ≡ Err BadRow → is_sound_in (kept_in (state S.Store connection.old).now.trees) ≡ false }
-    ensures survives { Survives (state S.Store connection.old) (state S.Store connection.new) (λ _. IsOurs (state S.Store connection.old).now → ⊥) }
+    ensures asks { HasCleanDisk (state S.Store connection.new) → IsOurs (state S.Store connection.old).now
+        → Asks (result_err result) (state S.Store connection.old) (state S.Store connection.new) }
+    ensures value { HasCleanDisk (state S.Store connection.new) → IsOurs (state S.Store connection.old).now
+        → IfOk result (λ it. it ≡ (tables_in (kept_in (state S.Store connection.old).now.trees)).places point.now) }
+    ensures bad { HasCleanDisk (state S.Store connection.new) → IsOurs (state S.Store connection.old).now → result ≡ Err BadRow
+        → is_sound_in (kept_in (state S.Store connection.old).now.trees) ≡ false }
+    ensures survives { Survives (state S.Store connection.old) (state S.Store connection.new)
+        (λ _. IsOurs (state S.Store connection.old).now → ⊥) }
 {
     let rows = places::of_point(connection, point)?;
     told_array(point, rows)

@@ -31,10 +31,14 @@ pub fn command_of<S: Alter>(
     number: u64,
 ) -> Result<Option<CommandRow>, ReadFault>
     ensures mode { connection.old.in_transaction ≡ false → connection.new.in_transaction ≡ false }
-    ensures asks { HasCleanDisk (state S.Store connection.new) → IsOurs (state S.Store connection.old).now → Asks (result_err result) (state S.Store connection.old) (state S.Store connection.new) }
-    ensures value { HasCleanDisk (state S.Store connection.new) → IsOurs (state S.Store connection.old).now → IfOk result (λ it. it ≡ (tables_in (kept_in (state S.Store connection.old).now.trees)).row panel.now number) }
-    ensures bad { HasCleanDisk (state S.Store connection.new) → IsOurs (state S.Store connection.old).now → result ≡ Err BadRow → is_sound_in (kept_in (state S.Store connection.old).now.trees) ≡ false }
-    ensures survives { Survives (state S.Store connection.old) (state S.Store connection.new) (λ _. IsOurs (state S.Store connection.old).now → ⊥) }
+    ensures asks { HasCleanDisk (state S.Store connection.new) → IsOurs (state S.Store connection.old).now
+        → Asks (result_err result) (state S.Store connection.old) (state S.Store connection.new) }
+    ensures value { HasCleanDisk (state S.Store connection.new) → IsOurs (state S.Store connection.old).now
+        → IfOk result (λ it. it ≡ (tables_in (kept_in (state S.Store connection.old).now.trees)).row panel.now number) }
+    ensures bad { HasCleanDisk (state S.Store connection.new) → IsOurs (state S.Store connection.old).now → result ≡ Err BadRow
+        → is_sound_in (kept_in (state S.Store connection.old).now.trees) ≡ false }
+    ensures survives { Survives (state S.Store connection.old) (state S.Store connection.new)
+        (λ _. IsOurs (state S.Store connection.old).now → ⊥) }
 {
     if LEAST_NUMBER <= number && number <= GREATEST_NUMBER {
         command_under(connection, panel, number)
@@ -47,8 +51,12 @@ pub fn command_of<S: Alter>(
 fn told_number(panel: &Name, from: u64, rows: Vec<Row>) -> Result<Option<u64>, ReadFault>
     ensures least { IfOk result (λ it. IfSome it (λ number. 1 ≤ number)) }
     ensures greatest { IfOk result (λ it. IfSome it (λ number. number ≤ 1_000_000_000_000)) }
-    ensures value { (kept : Kept) → FindsLeast (λ row. is_text panel.now (column row 1) && is_from from (column row 2)) 2 kept.command rows.items → IfOk result (IsNextNumber kept panel.now from) }
-    ensures bad { (kept : Kept) → FindsLeast (λ row. is_text panel.now (column row 1) && is_from from (column row 2)) 2 kept.command rows.items → IfErr result (λ _. is_sound_in kept ≡ false) }
+    ensures value { (kept : Kept)
+        → FindsLeast (λ row. is_text panel.now (column row 1) && is_from from (column row 2)) 2 kept.command rows.items
+        → IfOk result (IsNextNumber kept panel.now from) }
+    ensures bad { (kept : Kept)
+        → FindsLeast (λ row. is_text panel.now (column row 1) && is_from from (column row 2)) 2 kept.command rows.items
+        → IfErr result (λ _. is_sound_in kept ≡ false) }
     ensures fault { IfErr result (λ fault. fault ≡ BadRow) }
 {
     // What is asked for is a name, as a row's own has to be.
@@ -70,10 +78,14 @@ fn next_number<S: Alter>(
     ensures least { IfOk result (λ it. IfSome it (λ number. 1 ≤ number)) }
     ensures greatest { IfOk result (λ it. IfSome it (λ number. number ≤ 1_000_000_000_000)) }
     ensures mode { connection.old.in_transaction ≡ false → connection.new.in_transaction ≡ false }
-    ensures asks { HasCleanDisk (state S.Store connection.new) → IsOurs (state S.Store connection.old).now → Asks (result_err result) (state S.Store connection.old) (state S.Store connection.new) }
-    ensures value { HasCleanDisk (state S.Store connection.new) → IsOurs (state S.Store connection.old).now → IfOk result (IsNextNumber (kept_in (state S.Store connection.old).now.trees) panel.now from) }
-    ensures bad { HasCleanDisk (state S.Store connection.new) → IsOurs (state S.Store connection.old).now → result ≡ Err BadRow → is_sound_in (kept_in (state S.Store connection.old).now.trees) ≡ false }
-    ensures survives { Survives (state S.Store connection.old) (state S.Store connection.new) (λ _. IsOurs (state S.Store connection.old).now → ⊥) }
+    ensures asks { HasCleanDisk (state S.Store connection.new) → IsOurs (state S.Store connection.old).now
+        → Asks (result_err result) (state S.Store connection.old) (state S.Store connection.new) }
+    ensures value { HasCleanDisk (state S.Store connection.new) → IsOurs (state S.Store connection.old).now
+        → IfOk result (IsNextNumber (kept_in (state S.Store connection.old).now.trees) panel.now from) }
+    ensures bad { HasCleanDisk (state S.Store connection.new) → IsOurs (state S.Store connection.old).now → result ≡ Err BadRow
+        → is_sound_in (kept_in (state S.Store connection.old).now.trees) ≡ false }
+    ensures survives { Survives (state S.Store connection.old) (state S.Store connection.new)
+        (λ _. IsOurs (state S.Store connection.old).now → ⊥) }
 {
     let rows = commands::next_number(connection, panel, from)?;
     told_number(panel, from, rows)
@@ -88,10 +100,14 @@ pub fn next_row<S: Alter>(
     requires { from ≤ 1_000_000_000_000 }
     ensures greatest { IfOk result (λ it. IfSome it (λ found. found.number ≤ 1_000_000_000_000)) }
     ensures mode { connection.old.in_transaction ≡ false → connection.new.in_transaction ≡ false }
-    ensures asks { HasCleanDisk (state S.Store connection.new) → IsOurs (state S.Store connection.old).now → Asks (result_err result) (state S.Store connection.old) (state S.Store connection.new) }
-    ensures value { HasCleanDisk (state S.Store connection.new) → IsOurs (state S.Store connection.old).now → IfOk result (IsNextRow ((tables_in (kept_in (state S.Store connection.old).now.trees)).row panel.now) from) }
-    ensures bad { HasCleanDisk (state S.Store connection.new) → IsOurs (state S.Store connection.old).now → result ≡ Err BadRow → is_sound_in (kept_in (state S.Store connection.old).now.trees) ≡ false }
-    ensures survives { Survives (state S.Store connection.old) (state S.Store connection.new) (λ _. IsOurs (state S.Store connection.old).now → ⊥) }
+    ensures asks { HasCleanDisk (state S.Store connection.new) → IsOurs (state S.Store connection.old).now
+        → Asks (result_err result) (state S.Store connection.old) (state S.Store connection.new) }
+    ensures value { HasCleanDisk (state S.Store connection.new) → IsOurs (state S.Store connection.old).now
+        → IfOk result (IsNextRow ((tables_in (kept_in (state S.Store connection.old).now.trees)).row panel.now) from) }
+    ensures bad { HasCleanDisk (state S.Store connection.new) → IsOurs (state S.Store connection.old).now → result ≡ Err BadRow
+        → is_sound_in (kept_in (state S.Store connection.old).now.trees) ≡ false }
+    ensures survives { Survives (state S.Store connection.old) (state S.Store connection.new)
+        (λ _. IsOurs (state S.Store connection.old).now → ⊥) }
 {
     match next_number(connection, panel, from)? {
         None => Ok(None),
@@ -111,10 +127,14 @@ fn next_in_run<S: Alter>(
 ) -> Result<Option<NumberedRow>, ReadFault>
     ensures greatest { IfOk result (λ it. IfSome it (λ found. found.number ≤ 1_000_000_000_000)) }
     ensures mode { connection.old.in_transaction ≡ false → connection.new.in_transaction ≡ false }
-    ensures asks { HasCleanDisk (state S.Store connection.new) → IsOurs (state S.Store connection.old).now → Asks (result_err result) (state S.Store connection.old) (state S.Store connection.new) }
-    ensures value { HasCleanDisk (state S.Store connection.new) → IsOurs (state S.Store connection.old).now → IfOk result (GoesOn ((tables_in (kept_in (state S.Store connection.old).now.trees)).row panel.now) from upto) }
-    ensures bad { HasCleanDisk (state S.Store connection.new) → IsOurs (state S.Store connection.old).now → result ≡ Err BadRow → is_sound_in (kept_in (state S.Store connection.old).now.trees) ≡ false }
-    ensures survives { Survives (state S.Store connection.old) (state S.Store connection.new) (λ _. IsOurs (state S.Store connection.old).now → ⊥) }
+    ensures asks { HasCleanDisk (state S.Store connection.new) → IsOurs (state S.Store connection.old).now
+        → Asks (result_err result) (state S.Store connection.old) (state S.Store connection.new) }
+    ensures value { HasCleanDisk (state S.Store connection.new) → IsOurs (state S.Store connection.old).now
+        → IfOk result (GoesOn ((tables_in (kept_in (state S.Store connection.old).now.trees)).row panel.now) from upto) }
+    ensures bad { HasCleanDisk (state S.Store connection.new) → IsOurs (state S.Store connection.old).now → result ≡ Err BadRow
+        → is_sound_in (kept_in (state S.Store connection.old).now.trees) ≡ false }
+    ensures survives { Survives (state S.Store connection.old) (state S.Store connection.new)
+        (λ _. IsOurs (state S.Store connection.old).now → ⊥) }
 {
     // Past the greatest number no row can stand.
     if GREATEST_NUMBER < from {
@@ -146,10 +166,15 @@ pub fn commands_run<S: Alter>(
 ) -> Result<Vec<NumberedRow>, ReadFault>
     requires { from ≤ upto }
     ensures mode { connection.old.in_transaction ≡ false → connection.new.in_transaction ≡ false }
-    ensures asks { HasCleanDisk (state S.Store connection.new) → IsOurs (state S.Store connection.old).now → Asks (result_err result) (state S.Store connection.old) (state S.Store connection.new) }
-    ensures value { HasCleanDisk (state S.Store connection.new) → IsOurs (state S.Store connection.old).now → IfOk result (λ it. IsRun ((tables_in (kept_in (state S.Store connection.old).now.trees)).row panel.now) from upto it.items) }
-    ensures bad { HasCleanDisk (state S.Store connection.new) → IsOurs (state S.Store connection.old).now → result ≡ Err BadRow → is_sound_in (kept_in (state S.Store connection.old).now.trees) ≡ false }
-    ensures survives { Survives (state S.Store connection.old) (state S.Store connection.new) (λ _. IsOurs (state S.Store connection.old).now → ⊥) }
+    ensures asks { HasCleanDisk (state S.Store connection.new) → IsOurs (state S.Store connection.old).now
+        → Asks (result_err result) (state S.Store connection.old) (state S.Store connection.new) }
+    ensures value { HasCleanDisk (state S.Store connection.new) → IsOurs (state S.Store connection.old).now
+        → IfOk result
+        (λ it. IsRun ((tables_in (kept_in (state S.Store connection.old).now.trees)).row panel.now) from upto it.items) }
+    ensures bad { HasCleanDisk (state S.Store connection.new) → IsOurs (state S.Store connection.old).now → result ≡ Err BadRow
+        → is_sound_in (kept_in (state S.Store connection.old).now.trees) ≡ false }
+    ensures survives { Survives (state S.Store connection.old) (state S.Store connection.new)
+        (λ _. IsOurs (state S.Store connection.old).now → ⊥) }
 {
     let mut rows = Vec::new(alloc);
     let mut number = from;

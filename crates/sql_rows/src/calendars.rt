@@ -23,8 +23,11 @@ pub fn clear<S: Alter>(
     entry: &str,
 ) -> Result<usize, Error>
     ensures same_reference { transaction.new.conn.ghost_name ≡ transaction.old.conn.ghost_name }
-    ensures done { HasCleanDisk (state S.Store transaction.new.conn.now) → IsInside (state S.Store transaction.old.conn.now) → OnOk result (Changes (On imported_slot (Loses (of_entry calendar.now entry.now))) (state S.Store transaction.old.conn.now) (state S.Store transaction.new.conn.now)) }
-    ensures kept { HasCleanDisk (state S.Store transaction.new.conn.now) → KeepsCommit (state S.Store transaction.old.conn.now) (state S.Store transaction.new.conn.now) }
+    ensures done { HasCleanDisk (state S.Store transaction.new.conn.now) → IsInside (state S.Store transaction.old.conn.now)
+        → OnOk result (Changes (On imported_slot (Loses (of_entry calendar.now entry.now)))
+        (state S.Store transaction.old.conn.now) (state S.Store transaction.new.conn.now)) }
+    ensures kept { HasCleanDisk (state S.Store transaction.new.conn.now)
+        → KeepsCommit (state S.Store transaction.old.conn.now) (state S.Store transaction.new.conn.now) }
     ensures survives { Survives (state S.Store transaction.old.conn.now) (state S.Store transaction.new.conn.now) (λ _. ⊥) }
 {
     run(
@@ -41,8 +44,11 @@ pub fn add<S: Alter>(
     entry: &str,
 ) -> Result<usize, Error>
     ensures same_reference { transaction.new.conn.ghost_name ≡ transaction.old.conn.ghost_name }
-    ensures done { HasCleanDisk (state S.Store transaction.new.conn.now) → IsInside (state S.Store transaction.old.conn.now) → OnOk result (Changes (On imported_slot (Gains (Text calendar.now ∷ Text entry.now ∷ []))) (state S.Store transaction.old.conn.now) (state S.Store transaction.new.conn.now)) }
-    ensures kept { HasCleanDisk (state S.Store transaction.new.conn.now) → KeepsCommit (state S.Store transaction.old.conn.now) (state S.Store transaction.new.conn.now) }
+    ensures done { HasCleanDisk (state S.Store transaction.new.conn.now) → IsInside (state S.Store transaction.old.conn.now)
+        → OnOk result (Changes (On imported_slot (Gains (Text calendar.now ∷ Text entry.now ∷ [])))
+        (state S.Store transaction.old.conn.now) (state S.Store transaction.new.conn.now)) }
+    ensures kept { HasCleanDisk (state S.Store transaction.new.conn.now)
+        → KeepsCommit (state S.Store transaction.old.conn.now) (state S.Store transaction.new.conn.now) }
     ensures survives { Survives (state S.Store transaction.old.conn.now) (state S.Store transaction.new.conn.now) (λ _. ⊥) }
 {
     run(
@@ -57,10 +63,15 @@ pub fn add<S: Alter>(
 /// The least name after a text, if there is one.
 pub fn next_name<S: Alter>(connection: &mut Connection<S>, after: &str) -> Result<Vec<Row>, Error>
     ensures mode { connection.old.in_transaction ≡ false → connection.new.in_transaction ≡ false }
-    ensures same { HasCleanDisk (state S.Store connection.new) → IsOurs (state S.Store connection.old).now → OnOk result (IsUnchanged (state S.Store connection.old) (state S.Store connection.new)) }
-    ensures rests { HasCleanDisk (state S.Store connection.new) → IsOurs (state S.Store connection.old).now → Rests (state S.Store connection.old) (state S.Store connection.new) }
-    ensures found { HasCleanDisk (state S.Store connection.new) → IsOurs (state S.Store connection.old).now → IfOk result (λ rows. FindsLeast (λ row. is_after after.now (column row 1)) 1 (kept_in (state S.Store connection.old).now.trees).imported rows.items) }
-    ensures survives { Survives (state S.Store connection.old) (state S.Store connection.new) (λ _. IsOurs (state S.Store connection.old).now → ⊥) }
+    ensures same { HasCleanDisk (state S.Store connection.new) → IsOurs (state S.Store connection.old).now
+        → OnOk result (IsUnchanged (state S.Store connection.old) (state S.Store connection.new)) }
+    ensures rests { HasCleanDisk (state S.Store connection.new) → IsOurs (state S.Store connection.old).now
+        → Rests (state S.Store connection.old) (state S.Store connection.new) }
+    ensures found { HasCleanDisk (state S.Store connection.new) → IsOurs (state S.Store connection.old).now
+        → IfOk result (λ rows. FindsLeast (λ row. is_after after.now (column row 1)) 1
+        (kept_in (state S.Store connection.old).now.trees).imported rows.items) }
+    ensures survives { Survives (state S.Store connection.old) (state S.Store connection.new)
+        (λ _. IsOurs (state S.Store connection.old).now → ⊥) }
 {
     look(
         connection,
@@ -76,10 +87,15 @@ pub fn next_entry<S: Alter>(
     after: &str,
 ) -> Result<Vec<Row>, Error>
     ensures mode { connection.old.in_transaction ≡ false → connection.new.in_transaction ≡ false }
-    ensures same { HasCleanDisk (state S.Store connection.new) → IsOurs (state S.Store connection.old).now → OnOk result (IsUnchanged (state S.Store connection.old) (state S.Store connection.new)) }
-    ensures rests { HasCleanDisk (state S.Store connection.new) → IsOurs (state S.Store connection.old).now → Rests (state S.Store connection.old) (state S.Store connection.new) }
-    ensures found { HasCleanDisk (state S.Store connection.new) → IsOurs (state S.Store connection.old).now → IfOk result (λ rows. FindsLeast (λ row. is_text calendar.now (column row 1) && is_after after.now (column row 2)) 2 (kept_in (state S.Store connection.old).now.trees).imported rows.items) }
-    ensures survives { Survives (state S.Store connection.old) (state S.Store connection.new) (λ _. IsOurs (state S.Store connection.old).now → ⊥) }
+    ensures same { HasCleanDisk (state S.Store connection.new) → IsOurs (state S.Store connection.old).now
+        → OnOk result (IsUnchanged (state S.Store connection.old) (state S.Store connection.new)) }
+    ensures rests { HasCleanDisk (state S.Store connection.new) → IsOurs (state S.Store connection.old).now
+        → Rests (state S.Store connection.old) (state S.Store connection.new) }
+    ensures found { HasCleanDisk (state S.Store connection.new) → IsOurs (state S.Store connection.old).now
+        → IfOk result (λ rows. FindsLeast (λ row. is_text calendar.now (column row 1) && is_after after.now (column row 2)) 2
+        (kept_in (state S.Store connection.old).now.trees).imported rows.items) }
+    ensures survives { Survives (state S.Store connection.old) (state S.Store connection.new)
+        (λ _. IsOurs (state S.Store connection.old).now → ⊥) }
 {
     look(
         connection,

@@ -86,7 +86,8 @@ fn state_of(state: ValueRef<'_>, a: ValueRef<'_>, b: ValueRef<'_>) -> Option<Com
 // The three cells of a content, from a column on.
 fn content_at(row: &Row, at: usize) -> Result<Content, ReadFault>
     requires { at ≤ 100 }
-    ensures value { IfOk result (λ content. content_in (column row.now at) (column row.now (at + 1)) (column row.now (at + 2)) ≡ Some content) }
+    ensures value { IfOk result
+        (λ content. content_in (column row.now at) (column row.now (at + 1)) (column row.now (at + 2)) ≡ Some content) }
     ensures bad { IfErr result (λ fault. content_in (column row.now at) (column row.now (at + 1)) (column row.now (at + 2)) ≡ None) }
     ensures fault { IfErr result (λ fault. fault ≡ BadRow) }
 {
@@ -104,8 +105,10 @@ fn content_at(row: &Row, at: usize) -> Result<Content, ReadFault>
 /// three.
 pub fn command_at(row: &Row, at: usize) -> Result<CommandRow, ReadFault>
     requires { at ≤ 100 }
-    ensures value { IfOk result (λ kept. command_in (column row.now at) (column row.now (at + 1)) (column row.now (at + 2)) (column row.now (at + 3)) (column row.now (at + 4)) (column row.now (at + 5)) ≡ Some kept) }
-    ensures bad { IfErr result (λ fault. command_in (column row.now at) (column row.now (at + 1)) (column row.now (at + 2)) (column row.now (at + 3)) (column row.now (at + 4)) (column row.now (at + 5)) ≡ None) }
+    ensures value { IfOk result (λ kept. command_in (column row.now at) (column row.now (at + 1)) (column row.now (at + 2))
+        (column row.now (at + 3)) (column row.now (at + 4)) (column row.now (at + 5)) ≡ Some kept) }
+    ensures bad { IfErr result (λ fault. command_in (column row.now at) (column row.now (at + 1)) (column row.now (at + 2))
+        (column row.now (at + 3)) (column row.now (at + 4)) (column row.now (at + 5)) ≡ None) }
     ensures fault { IfErr result (λ fault. fault ≡ BadRow) }
 {
     let content = content_at(row, at)?;

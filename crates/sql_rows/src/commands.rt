@@ -28,8 +28,11 @@ pub fn clear<S: Alter>(
 ) -> Result<usize, Error>
     requires { number < 2 ^ 63 }
     ensures same_reference { transaction.new.conn.ghost_name ≡ transaction.old.conn.ghost_name }
-    ensures done { HasCleanDisk (state S.Store transaction.new.conn.now) → IsInside (state S.Store transaction.old.conn.now) → OnOk result (Changes (On command_slot (Loses (of_command panel.now number))) (state S.Store transaction.old.conn.now) (state S.Store transaction.new.conn.now)) }
-    ensures kept { HasCleanDisk (state S.Store transaction.new.conn.now) → KeepsCommit (state S.Store transaction.old.conn.now) (state S.Store transaction.new.conn.now) }
+    ensures done { HasCleanDisk (state S.Store transaction.new.conn.now) → IsInside (state S.Store transaction.old.conn.now)
+        → OnOk result (Changes (On command_slot (Loses (of_command panel.now number))) (state S.Store transaction.old.conn.now)
+        (state S.Store transaction.new.conn.now)) }
+    ensures kept { HasCleanDisk (state S.Store transaction.new.conn.now)
+        → KeepsCommit (state S.Store transaction.old.conn.now) (state S.Store transaction.new.conn.now) }
     ensures survives { Survives (state S.Store transaction.old.conn.now) (state S.Store transaction.new.conn.now) (λ _. ⊥) }
 {
     run(
@@ -49,9 +52,17 @@ pub fn add<S: Alter>(
 ) -> Result<usize, Error>
     requires { number < 2 ^ 63 }
     ensures same_reference { transaction.new.conn.ghost_name ≡ transaction.old.conn.ghost_name }
-    ensures refused { HasCleanDisk (state S.Store transaction.new.conn.now) → IsInside (state S.Store transaction.old.conn.now) → result ≡ Err (SqliteFailure (ConstraintViolation Unique)) → Shows (state S.Store transaction.old.conn.now) (state S.Store transaction.new.conn.now) (state S.Store transaction.old.conn.now).now (state S.Store transaction.old.conn.now).committed true }
-    ensures done { HasCleanDisk (state S.Store transaction.new.conn.now) → IsInside (state S.Store transaction.old.conn.now) → OnOk result (Changes (On command_slot (Adds (of_command panel.now number) (Text panel.now ∷ Int (pos number) ∷ Text content.now.point ∷ Int content.now.priority ∷ cell_of content.now.value ∷ Int cells.now.code ∷ cell_of cells.now.a ∷ cell_of cells.now.b ∷ []))) (state S.Store transaction.old.conn.now) (state S.Store transaction.new.conn.now)) }
-    ensures kept { HasCleanDisk (state S.Store transaction.new.conn.now) → KeepsCommit (state S.Store transaction.old.conn.now) (state S.Store transaction.new.conn.now) }
+    ensures refused { HasCleanDisk (state S.Store transaction.new.conn.now) → IsInside (state S.Store transaction.old.conn.now)
+        → result ≡ Err (SqliteFailure (ConstraintViolation Unique))
+        → Shows (state S.Store transaction.old.conn.now) (state S.Store transaction.new.conn.now)
+        (state S.Store transaction.old.conn.now).now (state S.Store transaction.old.conn.now).committed true }
+    ensures done { HasCleanDisk (state S.Store transaction.new.conn.now) → IsInside (state S.Store transaction.old.conn.now)
+        → OnOk result (Changes (On command_slot (Adds (of_command panel.now number)
+        (Text panel.now ∷ Int (pos number) ∷ Text content.now.point ∷ Int content.now.priority ∷ cell_of content.now.value
+        ∷ Int cells.now.code ∷ cell_of cells.now.a ∷ cell_of cells.now.b ∷ [])))
+        (state S.Store transaction.old.conn.now) (state S.Store transaction.new.conn.now)) }
+    ensures kept { HasCleanDisk (state S.Store transaction.new.conn.now)
+        → KeepsCommit (state S.Store transaction.old.conn.now) (state S.Store transaction.new.conn.now) }
     ensures survives { Survives (state S.Store transaction.old.conn.now) (state S.Store transaction.new.conn.now) (λ _. ⊥) }
 {
     run(
@@ -78,8 +89,11 @@ pub fn drop_below<S: Alter>(
 ) -> Result<usize, Error>
     requires { number < 2 ^ 63 }
     ensures same_reference { transaction.new.conn.ghost_name ≡ transaction.old.conn.ghost_name }
-    ensures done { HasCleanDisk (state S.Store transaction.new.conn.now) → IsInside (state S.Store transaction.old.conn.now) → OnOk result (Changes (On command_slot (Loses (of_lower_command panel.now number))) (state S.Store transaction.old.conn.now) (state S.Store transaction.new.conn.now)) }
-    ensures kept { HasCleanDisk (state S.Store transaction.new.conn.now) → KeepsCommit (state S.Store transaction.old.conn.now) (state S.Store transaction.new.conn.now) }
+    ensures done { HasCleanDisk (state S.Store transaction.new.conn.now) → IsInside (state S.Store transaction.old.conn.now)
+        → OnOk result (Changes (On command_slot (Loses (of_lower_command panel.now number)))
+        (state S.Store transaction.old.conn.now) (state S.Store transaction.new.conn.now)) }
+    ensures kept { HasCleanDisk (state S.Store transaction.new.conn.now)
+        → KeepsCommit (state S.Store transaction.old.conn.now) (state S.Store transaction.new.conn.now) }
     ensures survives { Survives (state S.Store transaction.old.conn.now) (state S.Store transaction.new.conn.now) (λ _. ⊥) }
 {
     run(
@@ -99,10 +113,16 @@ pub fn find<S: Alter>(
 ) -> Result<Vec<Row>, Error>
     requires { number < 2 ^ 63 }
     ensures mode { connection.old.in_transaction ≡ false → connection.new.in_transaction ≡ false }
-    ensures same { HasCleanDisk (state S.Store connection.new) → IsOurs (state S.Store connection.old).now → OnOk result (IsUnchanged (state S.Store connection.old) (state S.Store connection.new)) }
-    ensures rests { HasCleanDisk (state S.Store connection.new) → IsOurs (state S.Store connection.old).now → Rests (state S.Store connection.old) (state S.Store connection.new) }
-    ensures found { HasCleanDisk (state S.Store connection.new) → IsOurs (state S.Store connection.old).now → IfOk result (λ rows. Finds (of_command panel.now number) (λ row. column row 3 ∷ column row 4 ∷ column row 5 ∷ column row 6 ∷ column row 7 ∷ column row 8 ∷ []) (kept_in (state S.Store connection.old).now.trees).command rows.items) }
-    ensures survives { Survives (state S.Store connection.old) (state S.Store connection.new) (λ _. IsOurs (state S.Store connection.old).now → ⊥) }
+    ensures same { HasCleanDisk (state S.Store connection.new) → IsOurs (state S.Store connection.old).now
+        → OnOk result (IsUnchanged (state S.Store connection.old) (state S.Store connection.new)) }
+    ensures rests { HasCleanDisk (state S.Store connection.new) → IsOurs (state S.Store connection.old).now
+        → Rests (state S.Store connection.old) (state S.Store connection.new) }
+    ensures found { HasCleanDisk (state S.Store connection.new) → IsOurs (state S.Store connection.old).now
+        → IfOk result (λ rows. Finds (of_command panel.now number)
+        (λ row. column row 3 ∷ column row 4 ∷ column row 5 ∷ column row 6 ∷ column row 7 ∷ column row 8 ∷ [])
+        (kept_in (state S.Store connection.old).now.trees).command rows.items) }
+    ensures survives { Survives (state S.Store connection.old) (state S.Store connection.new)
+        (λ _. IsOurs (state S.Store connection.old).now → ⊥) }
 {
     look(
         connection,
@@ -114,10 +134,15 @@ pub fn find<S: Alter>(
 /// The least name of a panel after a text, if there is one.
 pub fn next_panel<S: Alter>(connection: &mut Connection<S>, after: &str) -> Result<Vec<Row>, Error>
     ensures mode { connection.old.in_transaction ≡ false → connection.new.in_transaction ≡ false }
-    ensures same { HasCleanDisk (state S.Store connection.new) → IsOurs (state S.Store connection.old).now → OnOk result (IsUnchanged (state S.Store connection.old) (state S.Store connection.new)) }
-    ensures rests { HasCleanDisk (state S.Store connection.new) → IsOurs (state S.Store connection.old).now → Rests (state S.Store connection.old) (state S.Store connection.new) }
-    ensures found { HasCleanDisk (state S.Store connection.new) → IsOurs (state S.Store connection.old).now → IfOk result (λ rows. FindsLeast (λ row. is_after after.now (column row 1)) 1 (kept_in (state S.Store connection.old).now.trees).command rows.items) }
-    ensures survives { Survives (state S.Store connection.old) (state S.Store connection.new) (λ _. IsOurs (state S.Store connection.old).now → ⊥) }
+    ensures same { HasCleanDisk (state S.Store connection.new) → IsOurs (state S.Store connection.old).now
+        → OnOk result (IsUnchanged (state S.Store connection.old) (state S.Store connection.new)) }
+    ensures rests { HasCleanDisk (state S.Store connection.new) → IsOurs (state S.Store connection.old).now
+        → Rests (state S.Store connection.old) (state S.Store connection.new) }
+    ensures found { HasCleanDisk (state S.Store connection.new) → IsOurs (state S.Store connection.old).now
+        → IfOk result (λ rows. FindsLeast (λ row. is_after after.now (column row 1)) 1
+        (kept_in (state S.Store connection.old).now.trees).command rows.items) }
+    ensures survives { Survives (state S.Store connection.old) (state S.Store connection.new)
+        (λ _. IsOurs (state S.Store connection.old).now → ⊥) }
 {
     look(
         connection,
@@ -134,10 +159,15 @@ pub fn next_number<S: Alter>(
 ) -> Result<Vec<Row>, Error>
     requires { from < 2 ^ 63 }
     ensures mode { connection.old.in_transaction ≡ false → connection.new.in_transaction ≡ false }
-    ensures same { HasCleanDisk (state S.Store connection.new) → IsOurs (state S.Store connection.old).now → OnOk result (IsUnchanged (state S.Store connection.old) (state S.Store connection.new)) }
-    ensures rests { HasCleanDisk (state S.Store connection.new) → IsOurs (state S.Store connection.old).now → Rests (state S.Store connection.old) (state S.Store connection.new) }
-    ensures found { HasCleanDisk (state S.Store connection.new) → IsOurs (state S.Store connection.old).now → IfOk result (λ rows. FindsLeast (λ row. is_text panel.now (column row 1) && is_from from (column row 2)) 2 (kept_in (state S.Store connection.old).now.trees).command rows.items) }
-    ensures survives { Survives (state S.Store connection.old) (state S.Store connection.new) (λ _. IsOurs (state S.Store connection.old).now → ⊥) }
+    ensures same { HasCleanDisk (state S.Store connection.new) → IsOurs (state S.Store connection.old).now
+        → OnOk result (IsUnchanged (state S.Store connection.old) (state S.Store connection.new)) }
+    ensures rests { HasCleanDisk (state S.Store connection.new) → IsOurs (state S.Store connection.old).now
+        → Rests (state S.Store connection.old) (state S.Store connection.new) }
+    ensures found { HasCleanDisk (state S.Store connection.new) → IsOurs (state S.Store connection.old).now
+        → IfOk result (λ rows. FindsLeast (λ row. is_text panel.now (column row 1) && is_from from (column row 2)) 2
+        (kept_in (state S.Store connection.old).now.trees).command rows.items) }
+    ensures survives { Survives (state S.Store connection.old) (state S.Store connection.new)
+        (λ _. IsOurs (state S.Store connection.old).now → ⊥) }
 {
     look(
         connection,

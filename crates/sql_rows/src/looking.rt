@@ -17,10 +17,18 @@ pub fn look<S: Alter>(
     params: &[ValueRef<'_>],
 ) -> Result<Vec<Row>, Error>
     ensures mode { connection.old.in_transaction ≡ false → connection.new.in_transaction ≡ false }
-    ensures shown { HasCleanDisk (state S.Store connection.new) → IfOk result (λ rows. Shown sql.now (bound params.now) (state S.Store connection.old) (state S.Store connection.new) rows.items) }
-    ensures same { HasCleanDisk (state S.Store connection.new) → IsPlain (understood (state S.Store connection.old).now.schema sql.now) → OnOk result (IsUnchanged (state S.Store connection.old) (state S.Store connection.new)) }
-    ensures rests { HasCleanDisk (state S.Store connection.new) → IsPlain (understood (state S.Store connection.old).now.schema sql.now) → Rests (state S.Store connection.old) (state S.Store connection.new) }
-    ensures survives { Survives (state S.Store connection.old) (state S.Store connection.new) (λ _. IsPlain (understood (state S.Store connection.old).now.schema sql.now) → ⊥) }
+    ensures shown { HasCleanDisk (state S.Store connection.new)
+        → IfOk result
+        (λ rows. Shown sql.now (bound params.now) (state S.Store connection.old) (state S.Store connection.new) rows.items) }
+    ensures same { HasCleanDisk (state S.Store connection.new)
+        → IsPlain (understood (state S.Store connection.old).now.schema sql.now)
+        → OnOk result (IsUnchanged (state S.Store connection.old) (state S.Store connection.new)) }
+    ensures rests { HasCleanDisk (state S.Store connection.new)
+        → IsPlain (understood (state S.Store connection.old).now.schema sql.now)
+        → Rests (state S.Store connection.old) (state S.Store connection.new) }
+    ensures survives { Survives (state S.Store connection.old) (state S.Store connection.new) (λ _. IsPlain
+        (understood (state S.Store connection.old).now.schema sql.now)
+        → ⊥) }
 {
     connection.query_all(sql, params)
 }

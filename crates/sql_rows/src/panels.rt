@@ -24,8 +24,11 @@ pub fn add<S: Alter>(
 ) -> Result<usize, Error>
     requires { next < 2 ^ 63 }
     ensures same_reference { transaction.new.conn.ghost_name ≡ transaction.old.conn.ghost_name }
-    ensures done { HasCleanDisk (state S.Store transaction.new.conn.now) → IsInside (state S.Store transaction.old.conn.now) → OnOk result (Changes (On panel_slot (Gains (Text panel.now ∷ Int (pos next) ∷ []))) (state S.Store transaction.old.conn.now) (state S.Store transaction.new.conn.now)) }
-    ensures kept { HasCleanDisk (state S.Store transaction.new.conn.now) → KeepsCommit (state S.Store transaction.old.conn.now) (state S.Store transaction.new.conn.now) }
+    ensures done { HasCleanDisk (state S.Store transaction.new.conn.now) → IsInside (state S.Store transaction.old.conn.now)
+        → OnOk result (Changes (On panel_slot (Gains (Text panel.now ∷ Int (pos next) ∷ [])))
+        (state S.Store transaction.old.conn.now) (state S.Store transaction.new.conn.now)) }
+    ensures kept { HasCleanDisk (state S.Store transaction.new.conn.now)
+        → KeepsCommit (state S.Store transaction.old.conn.now) (state S.Store transaction.new.conn.now) }
     ensures survives { Survives (state S.Store transaction.old.conn.now) (state S.Store transaction.new.conn.now) (λ _. ⊥) }
 {
     run(
@@ -43,8 +46,12 @@ pub fn set<S: Alter>(
 ) -> Result<usize, Error>
     requires { next < 2 ^ 63 }
     ensures same_reference { transaction.new.conn.ghost_name ≡ transaction.old.conn.ghost_name }
-    ensures done { HasCleanDisk (state S.Store transaction.new.conn.now) → IsInside (state S.Store transaction.old.conn.now) → IfOk result (λ count. Changes (On panel_slot (Rewrites (of_panel panel.now) (Text panel.now ∷ Int (pos next) ∷ []) count)) (state S.Store transaction.old.conn.now) (state S.Store transaction.new.conn.now)) }
-    ensures kept { HasCleanDisk (state S.Store transaction.new.conn.now) → KeepsCommit (state S.Store transaction.old.conn.now) (state S.Store transaction.new.conn.now) }
+    ensures done { HasCleanDisk (state S.Store transaction.new.conn.now) → IsInside (state S.Store transaction.old.conn.now)
+        → IfOk result (λ count. Changes
+        (On panel_slot (Rewrites (of_panel panel.now) (Text panel.now ∷ Int (pos next) ∷ []) count))
+        (state S.Store transaction.old.conn.now) (state S.Store transaction.new.conn.now)) }
+    ensures kept { HasCleanDisk (state S.Store transaction.new.conn.now)
+        → KeepsCommit (state S.Store transaction.old.conn.now) (state S.Store transaction.new.conn.now) }
     ensures survives { Survives (state S.Store transaction.old.conn.now) (state S.Store transaction.new.conn.now) (λ _. ⊥) }
 {
     run(
@@ -59,10 +66,15 @@ pub fn set<S: Alter>(
 /// The cell `next` of a panel.
 pub fn find<S: Alter>(connection: &mut Connection<S>, panel: &Name) -> Result<Vec<Row>, Error>
     ensures mode { connection.old.in_transaction ≡ false → connection.new.in_transaction ≡ false }
-    ensures same { HasCleanDisk (state S.Store connection.new) → IsOurs (state S.Store connection.old).now → OnOk result (IsUnchanged (state S.Store connection.old) (state S.Store connection.new)) }
-    ensures rests { HasCleanDisk (state S.Store connection.new) → IsOurs (state S.Store connection.old).now → Rests (state S.Store connection.old) (state S.Store connection.new) }
-    ensures found { HasCleanDisk (state S.Store connection.new) → IsOurs (state S.Store connection.old).now → IfOk result (λ rows. Finds (of_panel panel.now) (λ row. column row 2 ∷ []) (kept_in (state S.Store connection.old).now.trees).panel rows.items) }
-    ensures survives { Survives (state S.Store connection.old) (state S.Store connection.new) (λ _. IsOurs (state S.Store connection.old).now → ⊥) }
+    ensures same { HasCleanDisk (state S.Store connection.new) → IsOurs (state S.Store connection.old).now
+        → OnOk result (IsUnchanged (state S.Store connection.old) (state S.Store connection.new)) }
+    ensures rests { HasCleanDisk (state S.Store connection.new) → IsOurs (state S.Store connection.old).now
+        → Rests (state S.Store connection.old) (state S.Store connection.new) }
+    ensures found { HasCleanDisk (state S.Store connection.new) → IsOurs (state S.Store connection.old).now
+        → IfOk result (λ rows. Finds (of_panel panel.now) (λ row. column row 2 ∷ [])
+        (kept_in (state S.Store connection.old).now.trees).panel rows.items) }
+    ensures survives { Survives (state S.Store connection.old) (state S.Store connection.new)
+        (λ _. IsOurs (state S.Store connection.old).now → ⊥) }
 {
     look(
         connection,
@@ -74,10 +86,15 @@ pub fn find<S: Alter>(connection: &mut Connection<S>, panel: &Name) -> Result<Ve
 /// The least name after a text, if there is one.
 pub fn next_name<S: Alter>(connection: &mut Connection<S>, after: &str) -> Result<Vec<Row>, Error>
     ensures mode { connection.old.in_transaction ≡ false → connection.new.in_transaction ≡ false }
-    ensures same { HasCleanDisk (state S.Store connection.new) → IsOurs (state S.Store connection.old).now → OnOk result (IsUnchanged (state S.Store connection.old) (state S.Store connection.new)) }
-    ensures rests { HasCleanDisk (state S.Store connection.new) → IsOurs (state S.Store connection.old).now → Rests (state S.Store connection.old) (state S.Store connection.new) }
-    ensures found { HasCleanDisk (state S.Store connection.new) → IsOurs (state S.Store connection.old).now → IfOk result (λ rows. FindsLeast (λ row. is_after after.now (column row 1)) 1 (kept_in (state S.Store connection.old).now.trees).panel rows.items) }
-    ensures survives { Survives (state S.Store connection.old) (state S.Store connection.new) (λ _. IsOurs (state S.Store connection.old).now → ⊥) }
+    ensures same { HasCleanDisk (state S.Store connection.new) → IsOurs (state S.Store connection.old).now
+        → OnOk result (IsUnchanged (state S.Store connection.old) (state S.Store connection.new)) }
+    ensures rests { HasCleanDisk (state S.Store connection.new) → IsOurs (state S.Store connection.old).now
+        → Rests (state S.Store connection.old) (state S.Store connection.new) }
+    ensures found { HasCleanDisk (state S.Store connection.new) → IsOurs (state S.Store connection.old).now
+        → IfOk result (λ rows. FindsLeast (λ row. is_after after.now (column row 1)) 1
+        (kept_in (state S.Store connection.old).now.trees).panel rows.items) }
+    ensures survives { Survives (state S.Store connection.old) (state S.Store connection.new)
+        (λ _. IsOurs (state S.Store connection.old).now → ⊥) }
 {
     look(
         connection,

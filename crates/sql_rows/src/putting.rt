@@ -20,7 +20,8 @@ pub fn put_next<S: Alter>(
 ) -> Result<(), Error>
     requires { IsNext item.now }
     ensures same_reference { transaction.new.conn.ghost_name ≡ transaction.old.conn.ghost_name }
-    ensures steps { Steps (Turns (next_put item.now)) (state S.Store transaction.old.conn.now) (state S.Store transaction.new.conn.now) result }
+    ensures steps { Steps (Turns (next_put item.now)) (state S.Store transaction.old.conn.now)
+        (state S.Store transaction.new.conn.now) result }
 {
     let _name = item.panel.as_str();
     if panels::set(transaction, &item.panel, item.next)? == 0 {
@@ -33,7 +34,8 @@ pub fn put_next<S: Alter>(
 fn replace_row<S: Alter>(transaction: &mut Transaction<'_, S>, item: &KeptRow) -> Result<(), Error>
     requires { IsKeptRow item.now }
     ensures same_reference { transaction.new.conn.ghost_name ≡ transaction.old.conn.ghost_name }
-    ensures steps { Steps (Turns (row_put item.now)) (state S.Store transaction.old.conn.now) (state S.Store transaction.new.conn.now) result }
+    ensures steps { Steps (Turns (row_put item.now)) (state S.Store transaction.old.conn.now)
+        (state S.Store transaction.new.conn.now) result }
 {
     let _name = item.panel.as_str();
     let _point = item.row.content.point.as_str();
@@ -54,7 +56,8 @@ fn replace_row<S: Alter>(transaction: &mut Transaction<'_, S>, item: &KeptRow) -
 pub fn put_row<S: Alter>(transaction: &mut Transaction<'_, S>, item: &KeptRow) -> Result<(), Error>
     requires { IsKeptRow item.now }
     ensures same_reference { transaction.new.conn.ghost_name ≡ transaction.old.conn.ghost_name }
-    ensures steps { Steps (Turns (row_put item.now)) (state S.Store transaction.old.conn.now) (state S.Store transaction.new.conn.now) result }
+    ensures steps { Steps (Turns (row_put item.now)) (state S.Store transaction.old.conn.now)
+        (state S.Store transaction.new.conn.now) result }
 {
     let _name = item.panel.as_str();
     let _point = item.row.content.point.as_str();
@@ -79,7 +82,8 @@ pub fn drop_rows<S: Alter>(
     item: &RowsBelow,
 ) -> Result<(), Error>
     ensures same_reference { transaction.new.conn.ghost_name ≡ transaction.old.conn.ghost_name }
-    ensures steps { Steps (Turns (rows_dropped item.now)) (state S.Store transaction.old.conn.now) (state S.Store transaction.new.conn.now) result }
+    ensures steps { Steps (Turns (rows_dropped item.now)) (state S.Store transaction.old.conn.now)
+        (state S.Store transaction.new.conn.now) result }
 {
     if item.number == 0 {
         return Ok(());
@@ -100,7 +104,8 @@ pub fn put_place<S: Alter>(
 ) -> Result<(), Error>
     requires { IsPlace item.now }
     ensures same_reference { transaction.new.conn.ghost_name ≡ transaction.old.conn.ghost_name }
-    ensures steps { Steps (Turns (place_put item.now)) (state S.Store transaction.old.conn.now) (state S.Store transaction.new.conn.now) result }
+    ensures steps { Steps (Turns (place_put item.now)) (state S.Store transaction.old.conn.now)
+        (state S.Store transaction.new.conn.now) result }
 {
     let _name = item.point.as_str();
     let Some(value) = item.value else {
@@ -119,7 +124,8 @@ pub fn put_shown<S: Alter>(
     item: &ShownValue,
 ) -> Result<(), Error>
     ensures same_reference { transaction.new.conn.ghost_name ≡ transaction.old.conn.ghost_name }
-    ensures steps { Steps (Turns (shown_put item.now)) (state S.Store transaction.old.conn.now) (state S.Store transaction.new.conn.now) result }
+    ensures steps { Steps (Turns (shown_put item.now)) (state S.Store transaction.old.conn.now)
+        (state S.Store transaction.new.conn.now) result }
 {
     let _name = item.schedule.as_str();
     schedules::clear(transaction, &item.schedule)?;
@@ -136,7 +142,8 @@ pub fn put_imported<S: Alter>(
     item: &ImportedEntry,
 ) -> Result<(), Error>
     ensures same_reference { transaction.new.conn.ghost_name ≡ transaction.old.conn.ghost_name }
-    ensures steps { Steps (Turns (imported_put item.now)) (state S.Store transaction.old.conn.now) (state S.Store transaction.new.conn.now) result }
+    ensures steps { Steps (Turns (imported_put item.now)) (state S.Store transaction.old.conn.now)
+        (state S.Store transaction.new.conn.now) result }
 {
     let _name = item.calendar.as_str();
     let entry = item.entry.write(alloc)?;

@@ -15,8 +15,12 @@ pub fn run<S: Alter>(
     params: &[ValueRef<'_>],
 ) -> Result<usize, Error>
     ensures same_reference { transaction.new.conn.ghost_name ≡ transaction.old.conn.ghost_name }
-    ensures runs { HasCleanDisk (state S.Store transaction.new.conn.now) → IsTrue (state S.Store transaction.old.conn.now).in_transaction → ExecutesInside 0 sql.now (bound params.now) (state S.Store transaction.old.conn.now) (state S.Store transaction.new.conn.now) result }
-    ensures kept { HasCleanDisk (state S.Store transaction.new.conn.now) → KeepsCommit (state S.Store transaction.old.conn.now) (state S.Store transaction.new.conn.now) }
+    ensures runs { HasCleanDisk (state S.Store transaction.new.conn.now)
+        → IsTrue (state S.Store transaction.old.conn.now).in_transaction
+        → ExecutesInside 0 sql.now (bound params.now) (state S.Store transaction.old.conn.now)
+        (state S.Store transaction.new.conn.now) result }
+    ensures kept { HasCleanDisk (state S.Store transaction.new.conn.now)
+        → KeepsCommit (state S.Store transaction.old.conn.now) (state S.Store transaction.new.conn.now) }
     ensures survives { Survives (state S.Store transaction.old.conn.now) (state S.Store transaction.new.conn.now) (λ _. ⊥) }
 {
     transaction.execute(sql, params)

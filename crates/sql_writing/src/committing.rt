@@ -20,10 +20,16 @@ pub fn commit_change<S: Alter>(
     requires can_stand { CanStand change.now }
     requires mode { (state S.Store connection.old).in_transaction ≡ false }
     ensures mode { (state S.Store connection.new).in_transaction ≡ false }
-    ensures made { HasCleanDisk (state S.Store connection.new) → IsOurs (state S.Store connection.old).now → OnOk result (IsCommitted change.now (state S.Store connection.old) (state S.Store connection.new)) }
-    ensures undone { HasCleanDisk (state S.Store connection.new) → IsTrue (state S.Store connection.new).is_open → OnErr result (((state S.Store connection.new).now ≡ (state S.Store connection.old).committed) × ((state S.Store connection.new).committed ≡ (state S.Store connection.old).committed)) }
-    ensures was_open { HasCleanDisk (state S.Store connection.new) → IsTrue (state S.Store connection.new).is_open → IsTrue (state S.Store connection.old).is_open }
-    ensures survives { Survives (state S.Store connection.old) (state S.Store connection.new) (λ trees. IsOurs (state S.Store connection.old).now → Makes (with_change change.now) (kept_in (state S.Store connection.old).now.trees) (kept_in trees)) }
+    ensures made { HasCleanDisk (state S.Store connection.new) → IsOurs (state S.Store connection.old).now
+        → OnOk result (IsCommitted change.now (state S.Store connection.old) (state S.Store connection.new)) }
+    ensures undone { HasCleanDisk (state S.Store connection.new) → IsTrue (state S.Store connection.new).is_open
+        → OnErr result (((state S.Store connection.new).now ≡ (state S.Store connection.old).committed) ×
+        ((state S.Store connection.new).committed ≡ (state S.Store connection.old).committed)) }
+    ensures was_open { HasCleanDisk (state S.Store connection.new) → IsTrue (state S.Store connection.new).is_open
+        → IsTrue (state S.Store connection.old).is_open }
+    ensures survives { Survives (state S.Store connection.old) (state S.Store connection.new) (λ trees. IsOurs
+        (state S.Store connection.old).now
+        → Makes (with_change change.now) (kept_in (state S.Store connection.old).now.trees) (kept_in trees)) }
 {
     let mut transaction = connection.transaction();
     write(alloc, &mut transaction, change)?;

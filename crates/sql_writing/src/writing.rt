@@ -19,7 +19,8 @@ fn put_nexts<S: Alter>(
 ) -> Result<(), Error>
     requires { All IsNext items.now }
     ensures same_reference { transaction.new.conn.ghost_name ≡ transaction.old.conn.ghost_name }
-    ensures steps { Steps (Turns (with_each next_put items.now)) (state S.Store transaction.old.conn.now) (state S.Store transaction.new.conn.now) result }
+    ensures steps { Steps (Turns (with_each next_put items.now)) (state S.Store transaction.old.conn.now)
+        (state S.Store transaction.new.conn.now) result }
 {
     for item in items {
         put_next(transaction, item)?;
@@ -31,7 +32,8 @@ fn put_nexts<S: Alter>(
 fn put_rows<S: Alter>(transaction: &mut Transaction<'_, S>, items: &[KeptRow]) -> Result<(), Error>
     requires { All IsKeptRow items.now }
     ensures same_reference { transaction.new.conn.ghost_name ≡ transaction.old.conn.ghost_name }
-    ensures steps { Steps (Turns (with_each row_put items.now)) (state S.Store transaction.old.conn.now) (state S.Store transaction.new.conn.now) result }
+    ensures steps { Steps (Turns (with_each row_put items.now)) (state S.Store transaction.old.conn.now)
+        (state S.Store transaction.new.conn.now) result }
 {
     for item in items {
         put_row(transaction, item)?;
@@ -45,7 +47,8 @@ fn drop_all<S: Alter>(
     items: &[RowsBelow],
 ) -> Result<(), Error>
     ensures same_reference { transaction.new.conn.ghost_name ≡ transaction.old.conn.ghost_name }
-    ensures steps { Steps (Turns (with_each rows_dropped items.now)) (state S.Store transaction.old.conn.now) (state S.Store transaction.new.conn.now) result }
+    ensures steps { Steps (Turns (with_each rows_dropped items.now)) (state S.Store transaction.old.conn.now)
+        (state S.Store transaction.new.conn.now) result }
 {
     for item in items {
         drop_rows(transaction, item)?;
@@ -60,7 +63,8 @@ fn put_places<S: Alter>(
 ) -> Result<(), Error>
     requires { All IsPlace items.now }
     ensures same_reference { transaction.new.conn.ghost_name ≡ transaction.old.conn.ghost_name }
-    ensures steps { Steps (Turns (with_each place_put items.now)) (state S.Store transaction.old.conn.now) (state S.Store transaction.new.conn.now) result }
+    ensures steps { Steps (Turns (with_each place_put items.now)) (state S.Store transaction.old.conn.now)
+        (state S.Store transaction.new.conn.now) result }
 {
     for item in items {
         put_place(transaction, item)?;
@@ -74,7 +78,8 @@ fn put_all_shown<S: Alter>(
     items: &[ShownValue],
 ) -> Result<(), Error>
     ensures same_reference { transaction.new.conn.ghost_name ≡ transaction.old.conn.ghost_name }
-    ensures steps { Steps (Turns (with_each shown_put items.now)) (state S.Store transaction.old.conn.now) (state S.Store transaction.new.conn.now) result }
+    ensures steps { Steps (Turns (with_each shown_put items.now)) (state S.Store transaction.old.conn.now)
+        (state S.Store transaction.new.conn.now) result }
 {
     for item in items {
         put_shown(transaction, item)?;
@@ -89,7 +94,8 @@ fn put_all_imported<S: Alter>(
     items: &[ImportedEntry],
 ) -> Result<(), Error>
     ensures same_reference { transaction.new.conn.ghost_name ≡ transaction.old.conn.ghost_name }
-    ensures steps { Steps (Turns (with_each imported_put items.now)) (state S.Store transaction.old.conn.now) (state S.Store transaction.new.conn.now) result }
+    ensures steps { Steps (Turns (with_each imported_put items.now)) (state S.Store transaction.old.conn.now)
+        (state S.Store transaction.new.conn.now) result }
 {
     for item in items {
         put_imported(alloc, transaction, item)?;
@@ -104,7 +110,8 @@ fn write_commands<S: Alter>(
 ) -> Result<(), Error>
     requires { CanStand change.now }
     ensures same_reference { transaction.new.conn.ghost_name ≡ transaction.old.conn.ghost_name }
-    ensures steps { Steps (Turns (with_commands change.now)) (state S.Store transaction.old.conn.now) (state S.Store transaction.new.conn.now) result }
+    ensures steps { Steps (Turns (with_commands change.now)) (state S.Store transaction.old.conn.now)
+        (state S.Store transaction.new.conn.now) result }
 {
     put_nexts(transaction, &change.nexts)?;
     put_rows(transaction, &change.rows)?;
@@ -119,7 +126,8 @@ fn write_values<S: Alter>(
 ) -> Result<(), Error>
     requires { CanStand change.now }
     ensures same_reference { transaction.new.conn.ghost_name ≡ transaction.old.conn.ghost_name }
-    ensures steps { Steps (Turns (with_values change.now)) (state S.Store transaction.old.conn.now) (state S.Store transaction.new.conn.now) result }
+    ensures steps { Steps (Turns (with_values change.now)) (state S.Store transaction.old.conn.now)
+        (state S.Store transaction.new.conn.now) result }
 {
     put_places(transaction, &change.places)?;
     put_all_shown(transaction, &change.shown)?;
@@ -135,7 +143,8 @@ pub fn write<S: Alter>(
 ) -> Result<(), Error>
     requires { CanStand change.now }
     ensures same_reference { transaction.new.conn.ghost_name ≡ transaction.old.conn.ghost_name }
-    ensures steps { Steps (Turns (with_change change.now)) (state S.Store transaction.old.conn.now) (state S.Store transaction.new.conn.now) result }
+    ensures steps { Steps (Turns (with_change change.now)) (state S.Store transaction.old.conn.now)
+        (state S.Store transaction.new.conn.now) result }
 {
     write_commands(transaction, change)?;
     write_values(alloc, transaction, change)

@@ -24,7 +24,8 @@ pub fn neither_finds<S: Alter>(
     requires first { IsAskable first.now }
     requires second { IsAskable second.now }
     ensures mode { connection.old.in_transaction ≡ false → connection.new.in_transaction ≡ false }
-    ensures asks { Asks (Joins (FindsNone first.now) (FindsNone second.now)) (state S.Store connection.old) (state S.Store connection.new) result }
+    ensures asks { Asks (Joins (FindsNone first.now) (FindsNone second.now)) (state S.Store connection.old)
+        (state S.Store connection.new) result }
 {
     if finds_none(connection, first)? {
         finds_none(connection, second)

@@ -38,10 +38,15 @@ fn early_of<S: Alter>(
     panels: &[Name],
 ) -> Result<Vec<RowsBelow>, ReadFault>
     ensures mode { connection.old.in_transaction ≡ false → connection.new.in_transaction ≡ false }
-    ensures asks { HasCleanDisk (state S.Store connection.new) → IsOurs (state S.Store connection.old).now → Asks (result_err result) (state S.Store connection.old) (state S.Store connection.new) }
-    ensures value { HasCleanDisk (state S.Store connection.new) → IsOurs (state S.Store connection.old).now → IfOk result (λ it. it.items ≡ map (early_rows (tables_in (kept_in (state S.Store connection.old).now.trees)).next) panels.now) }
-    ensures bad { HasCleanDisk (state S.Store connection.new) → IsOurs (state S.Store connection.old).now → result ≡ Err BadRow → is_sound_in (kept_in (state S.Store connection.old).now.trees) ≡ false }
-    ensures survives { Survives (state S.Store connection.old) (state S.Store connection.new) (λ _. IsOurs (state S.Store connection.old).now → ⊥) }
+    ensures asks { HasCleanDisk (state S.Store connection.new) → IsOurs (state S.Store connection.old).now
+        → Asks (result_err result) (state S.Store connection.old) (state S.Store connection.new) }
+    ensures value { HasCleanDisk (state S.Store connection.new) → IsOurs (state S.Store connection.old).now
+        → IfOk result
+        (λ it. it.items ≡ map (early_rows (tables_in (kept_in (state S.Store connection.old).now.trees)).next) panels.now) }
+    ensures bad { HasCleanDisk (state S.Store connection.new) → IsOurs (state S.Store connection.old).now → result ≡ Err BadRow
+        → is_sound_in (kept_in (state S.Store connection.old).now.trees) ≡ false }
+    ensures survives { Survives (state S.Store connection.old) (state S.Store connection.new)
+        (λ _. IsOurs (state S.Store connection.old).now → ⊥) }
 {
     let mut dropped = Vec::new(alloc);
     for panel in panels {
@@ -63,11 +68,15 @@ pub fn dropping<S: Alter>(
     connection: &mut Connection<S>,
 ) -> Result<Change, ReadFault>
     ensures mode { connection.old.in_transaction ≡ false → connection.new.in_transaction ≡ false }
-    ensures asks { HasCleanDisk (state S.Store connection.new) → IsOurs (state S.Store connection.old).now → Asks (result_err result) (state S.Store connection.old) (state S.Store connection.new) }
+    ensures asks { HasCleanDisk (state S.Store connection.new) → IsOurs (state S.Store connection.old).now
+        → Asks (result_err result) (state S.Store connection.old) (state S.Store connection.new) }
     ensures stands { IfOk result (λ it. CanStand it) }
-    ensures value { HasCleanDisk (state S.Store connection.new) → IsOurs (state S.Store connection.old).now → IfOk result (DropsEarly (tables_in (kept_in (state S.Store connection.old).now.trees))) }
-    ensures bad { HasCleanDisk (state S.Store connection.new) → IsOurs (state S.Store connection.old).now → result ≡ Err BadRow → is_sound_in (kept_in (state S.Store connection.old).now.trees) ≡ false }
-    ensures survives { Survives (state S.Store connection.old) (state S.Store connection.new) (λ _. IsOurs (state S.Store connection.old).now → ⊥) }
+    ensures value { HasCleanDisk (state S.Store connection.new) → IsOurs (state S.Store connection.old).now
+        → IfOk result (DropsEarly (tables_in (kept_in (state S.Store connection.old).now.trees))) }
+    ensures bad { HasCleanDisk (state S.Store connection.new) → IsOurs (state S.Store connection.old).now → result ≡ Err BadRow
+        → is_sound_in (kept_in (state S.Store connection.old).now.trees) ≡ false }
+    ensures survives { Survives (state S.Store connection.old) (state S.Store connection.new)
+        (λ _. IsOurs (state S.Store connection.old).now → ⊥) }
 {
     let names = names_of(alloc, connection)?;
     let mut change = Change::new(alloc);

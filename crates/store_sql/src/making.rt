@@ -23,7 +23,8 @@ fn make_all<S: Alter>(connection: &mut Connection<S>) -> Result<(), Error>
     requires { IsBare (state S.Store connection.old) }
     ensures mode { connection.new.in_transaction ≡ false }
     ensures made { HasCleanDisk (state S.Store connection.new) → OnOk result (IsBegun (state S.Store connection.new)) }
-    ensures kept { HasCleanDisk (state S.Store connection.new) → IsTrue (state S.Store connection.new).is_open → OnErr result (IsAsBefore (state S.Store connection.old) (state S.Store connection.new)) }
+    ensures kept { HasCleanDisk (state S.Store connection.new) → IsTrue (state S.Store connection.new).is_open
+        → OnErr result (IsAsBefore (state S.Store connection.old) (state S.Store connection.new)) }
     ensures survives { Survives (state S.Store connection.old) (state S.Store connection.new) (λ trees. AreFirst trees) }
 {
     make_tables(connection)?;
@@ -38,7 +39,8 @@ pub fn make<S: Alter>(connection: &mut Connection<S>) -> Result<(), Refusal>
     ensures mode { OnOk result (connection.new.in_transaction ≡ false) }
     ensures made { HasCleanDisk (state S.Store connection.new) → OnOk result (IsBegun (state S.Store connection.new)) }
     ensures not_ours { (result ≡ Err NotOurs) ↔ (IsBare (state S.Store connection.old) → ⊥) }
-    ensures kept { HasCleanDisk (state S.Store connection.new) → IsTrue (state S.Store connection.new).is_open → OnErr result (IsAsBefore (state S.Store connection.old) (state S.Store connection.new)) }
+    ensures kept { HasCleanDisk (state S.Store connection.new) → IsTrue (state S.Store connection.new).is_open
+        → OnErr result (IsAsBefore (state S.Store connection.old) (state S.Store connection.new)) }
     ensures survives { Survives (state S.Store connection.old) (state S.Store connection.new) (λ trees. AreFirst trees) }
 {
     if !is_bare(connection) {

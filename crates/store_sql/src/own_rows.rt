@@ -17,7 +17,8 @@ use sqlite::{Alter, Connection, Error};
 
 fn first_are_own<S: Alter>(connection: &mut Connection<S>) -> Result<bool, Error>
     ensures mode { connection.old.in_transaction ≡ false → connection.new.in_transaction ≡ false }
-    ensures asks { Asks (Joins (TellsOf desk_tree IsOne) (TellsOf panel_tree (AreOwn (1 ∷ [])))) (state S.Store connection.old) (state S.Store connection.new) result }
+    ensures asks { Asks (Joins (TellsOf desk_tree IsOne) (TellsOf panel_tree (AreOwn (1 ∷ [])))) (state S.Store connection.old)
+        (state S.Store connection.new) result }
 {
     if desk_is_own(connection)? {
         panel_is_own(connection)
@@ -28,7 +29,8 @@ fn first_are_own<S: Alter>(connection: &mut Connection<S>) -> Result<bool, Error
 
 fn next_are_own<S: Alter>(connection: &mut Connection<S>) -> Result<bool, Error>
     ensures mode { connection.old.in_transaction ≡ false → connection.new.in_transaction ≡ false }
-    ensures asks { Asks (Joins (TellsOf command_tree (AreOwn (1 ∷ 2 ∷ []))) (TellsOf place_tree (AreOwn (1 ∷ 2 ∷ [])))) (state S.Store connection.old) (state S.Store connection.new) result }
+    ensures asks { Asks (Joins (TellsOf command_tree (AreOwn (1 ∷ 2 ∷ []))) (TellsOf place_tree (AreOwn (1 ∷ 2 ∷ []))))
+        (state S.Store connection.old) (state S.Store connection.new) result }
 {
     if command_is_own(connection)? {
         place_is_own(connection)
@@ -39,7 +41,8 @@ fn next_are_own<S: Alter>(connection: &mut Connection<S>) -> Result<bool, Error>
 
 fn last_are_own<S: Alter>(connection: &mut Connection<S>) -> Result<bool, Error>
     ensures mode { connection.old.in_transaction ≡ false → connection.new.in_transaction ≡ false }
-    ensures asks { Asks (Joins (TellsOf shown_tree (AreOwn (1 ∷ []))) (TellsOf imported_tree (AreOwn (1 ∷ 2 ∷ [])))) (state S.Store connection.old) (state S.Store connection.new) result }
+    ensures asks { Asks (Joins (TellsOf shown_tree (AreOwn (1 ∷ []))) (TellsOf imported_tree (AreOwn (1 ∷ 2 ∷ []))))
+        (state S.Store connection.old) (state S.Store connection.new) result }
 {
     if shown_is_own(connection)? {
         imported_is_own(connection)
@@ -50,7 +53,9 @@ fn last_are_own<S: Alter>(connection: &mut Connection<S>) -> Result<bool, Error>
 
 fn others_are_own<S: Alter>(connection: &mut Connection<S>) -> Result<bool, Error>
     ensures mode { connection.old.in_transaction ≡ false → connection.new.in_transaction ≡ false }
-    ensures asks { Asks (Joins (Joins (TellsOf command_tree (AreOwn (1 ∷ 2 ∷ []))) (TellsOf place_tree (AreOwn (1 ∷ 2 ∷ [])))) (Joins (TellsOf shown_tree (AreOwn (1 ∷ []))) (TellsOf imported_tree (AreOwn (1 ∷ 2 ∷ []))))) (state S.Store connection.old) (state S.Store connection.new) result }
+    ensures asks { Asks (Joins (Joins (TellsOf command_tree (AreOwn (1 ∷ 2 ∷ []))) (TellsOf place_tree (AreOwn (1 ∷ 2 ∷ []))))
+        (Joins (TellsOf shown_tree (AreOwn (1 ∷ []))) (TellsOf imported_tree (AreOwn (1 ∷ 2 ∷ []))))) (state S.Store
+        connection.old) (state S.Store connection.new) result }
 {
     if next_are_own(connection)? {
         last_are_own(connection)
@@ -61,7 +66,10 @@ fn others_are_own<S: Alter>(connection: &mut Connection<S>) -> Result<bool, Erro
 
 fn all_are_own<S: Alter>(connection: &mut Connection<S>) -> Result<bool, Error>
     ensures mode { connection.old.in_transaction ≡ false → connection.new.in_transaction ≡ false }
-    ensures asks { Asks (Joins (Joins (TellsOf desk_tree IsOne) (TellsOf panel_tree (AreOwn (1 ∷ [])))) (Joins (Joins (TellsOf command_tree (AreOwn (1 ∷ 2 ∷ []))) (TellsOf place_tree (AreOwn (1 ∷ 2 ∷ [])))) (Joins (TellsOf shown_tree (AreOwn (1 ∷ []))) (TellsOf imported_tree (AreOwn (1 ∷ 2 ∷ [])))))) (state S.Store connection.old) (state S.Store connection.new) result }
+    ensures asks { Asks (Joins (Joins (TellsOf desk_tree IsOne) (TellsOf panel_tree (AreOwn (1 ∷ [])))) (Joins (Joins
+        (TellsOf command_tree (AreOwn (1 ∷ 2 ∷ []))) (TellsOf place_tree (AreOwn (1 ∷ 2 ∷ [])))) (Joins
+        (TellsOf shown_tree (AreOwn (1 ∷ [])))
+        (TellsOf imported_tree (AreOwn (1 ∷ 2 ∷ [])))))) (state S.Store connection.old) (state S.Store connection.new) result }
 {
     if first_are_own(connection)? {
         others_are_own(connection)
@@ -73,10 +81,15 @@ fn all_are_own<S: Alter>(connection: &mut Connection<S>) -> Result<bool, Error>
 /// Whether each row of the tables is numbered, and rows that share a number share the key; and whether `desk` has its one row.
 pub fn are_own<S: Alter>(connection: &mut Connection<S>) -> Result<bool, Error>
     ensures mode { connection.old.in_transaction ≡ false → connection.new.in_transaction ≡ false }
-    ensures same { HasCleanDisk (state S.Store connection.new) → IsFitting (state S.Store connection.old).now → OnOk result (IsUnchanged (state S.Store connection.old) (state S.Store connection.new)) }
-    ensures rests { HasCleanDisk (state S.Store connection.new) → IsFitting (state S.Store connection.old).now → Rests (state S.Store connection.old) (state S.Store connection.new) }
-    ensures own { HasCleanDisk (state S.Store connection.new) → IsFitting (state S.Store connection.old).now → IfOk result (λ own. IsTrue own ↔ AreOurs (kept_in (state S.Store connection.old).now.trees)) }
-    ensures survives { Survives (state S.Store connection.old) (state S.Store connection.new) (λ _. IsFitting (state S.Store connection.old).now → ⊥) }
+    ensures same { HasCleanDisk (state S.Store connection.new) → IsFitting (state S.Store connection.old).now
+        → OnOk result (IsUnchanged (state S.Store connection.old) (state S.Store connection.new)) }
+    ensures rests { HasCleanDisk (state S.Store connection.new) → IsFitting (state S.Store connection.old).now
+        → Rests (state S.Store connection.old) (state S.Store connection.new) }
+    ensures own { HasCleanDisk (state S.Store connection.new) → IsFitting (state S.Store connection.old).now
+        → IfOk result (λ own. IsTrue own ↔ AreOurs (kept_in (state S.Store connection.old).now.trees)) }
+    ensures survives { Survives (state S.Store connection.old) (state S.Store connection.new) (λ _. IsFitting
+        (state S.Store connection.old).now
+        → ⊥) }
 {
     all_are_own(connection)
 }

@@ -44,9 +44,13 @@ pub fn commit_raised<S: Alter>(
     requires can_stand { CanStand change.now }
     requires mode { (state S.Store connection.old).in_transaction ≡ false }
     ensures mode { (state S.Store connection.new).in_transaction ≡ false }
-    ensures made { HasCleanDisk (state S.Store connection.new) → IsOurs (state S.Store connection.old).now → OnOk result (IsWritten change.now (state S.Store connection.old) (state S.Store connection.new)) }
-    ensures undone { HasCleanDisk (state S.Store connection.new) → IsTrue (state S.Store connection.new).is_open → OnErr result (ShowsCommitted (state S.Store connection.old) (state S.Store connection.new)) }
-    ensures survives { Survives (state S.Store connection.old) (state S.Store connection.new) (λ trees. IsOurs (state S.Store connection.old).now → IsChangedBy change.now (state S.Store connection.old).now.trees trees) }
+    ensures made { HasCleanDisk (state S.Store connection.new) → IsOurs (state S.Store connection.old).now
+        → OnOk result (IsWritten change.now (state S.Store connection.old) (state S.Store connection.new)) }
+    ensures undone { HasCleanDisk (state S.Store connection.new) → IsTrue (state S.Store connection.new).is_open
+        → OnErr result (ShowsCommitted (state S.Store connection.old) (state S.Store connection.new)) }
+    ensures survives { Survives (state S.Store connection.old) (state S.Store connection.new) (λ trees. IsOurs
+        (state S.Store connection.old).now
+        → IsChangedBy change.now (state S.Store connection.old).now.trees trees) }
 {
     let mut transaction = connection.transaction();
     raise(alloc, &mut transaction, change)?;

@@ -22,7 +22,8 @@ pub struct Session<S: Alter + Drop> {
 // Whether a connection answers, so that a want of memory has left it open.
 fn answers<S: Alter>(connection: &mut Connection<S>) -> bool
     ensures mode { connection.old.in_transaction ≡ false → connection.new.in_transaction ≡ false }
-    ensures unchanged { HasCleanDisk (state S.Store connection.new) → IsTrue result → IsUnchanged (state S.Store connection.old) (state S.Store connection.new) }
+    ensures unchanged { HasCleanDisk (state S.Store connection.new) → IsTrue result
+        → IsUnchanged (state S.Store connection.old) (state S.Store connection.new) }
     ensures survives { Survives (state S.Store connection.old) (state S.Store connection.new) (λ _. ⊥) }
 {
     connection.prepare("").is_ok()

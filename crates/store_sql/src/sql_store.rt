@@ -68,10 +68,12 @@ impl<S: Alter + Drop> SqlStore<S> {
         alloc: Global,
         connection: Connection<S>,
     ) -> Result<SqlStore<S>, (OpenFault, Connection<S>)>
-        ensures empty { IfOk result (λ store. (standing_of S.Store store).is_honest → (standing_of S.Store store).content ≡ sound no_tables) }
+        ensures empty { IfOk result (λ store. (standing_of S.Store store).is_honest
+            → (standing_of S.Store store).content ≡ sound no_tables) }
         ensures open { IfOk result (λ store. ((standing_of S.Store store).is_shut ≡ false) × ((standing_of S.Store store).failures ≡ 0)) }
         ensures unknown { IfErr result (λ refused. (refused.0 ≡ UnknownTables) ↔ (IsBare (state S.Store connection) → ⊥)) }
-        ensures unchanged { IfErr result (λ refused. HasCleanDisk (state S.Store refused.1) → IsTrue (state S.Store refused.1).is_open → IsAsBefore (state S.Store connection) (state S.Store refused.1)) }
+        ensures unchanged { IfErr result (λ refused. HasCleanDisk (state S.Store refused.1)
+            → IsTrue (state S.Store refused.1).is_open → IsAsBefore (state S.Store connection) (state S.Store refused.1)) }
         ensures survives { SurvivesMaking (state S.Store connection) (state S.Store (left_by result)) }
     {
         let mut connection = connection;
@@ -89,10 +91,13 @@ impl<S: Alter + Drop> SqlStore<S> {
         alloc: Global,
         connection: Connection<S>,
     ) -> Result<SqlStore<S>, (OpenFault, Connection<S>)>
-        ensures opened { IfOk result (λ store. (standing_of S.Store store).is_honest → IsOpened (state S.Store connection) (state S.Store store.connection)) }
+        ensures opened { IfOk result (λ store. (standing_of S.Store store).is_honest
+            → IsOpened (state S.Store connection) (state S.Store store.connection)) }
         ensures open { IfOk result (λ store. ((standing_of S.Store store).is_shut ≡ false) × ((standing_of S.Store store).failures ≡ 0)) }
-        ensures unchanged { IfErr result (λ refused. HasCleanDisk (state S.Store refused.1) → IsTrue (state S.Store refused.1).is_open → IsAsBefore (state S.Store connection) (state S.Store refused.1)) }
-        ensures known { IsKnown (state S.Store connection) → IfErr result (λ refused. HasCleanDisk (state S.Store refused.1) → IsFaultOver (state S.Store connection) refused.0) }
+        ensures unchanged { IfErr result (λ refused. HasCleanDisk (state S.Store refused.1)
+            → IsTrue (state S.Store refused.1).is_open → IsAsBefore (state S.Store connection) (state S.Store refused.1)) }
+        ensures known { IsKnown (state S.Store connection)
+            → IfErr result (λ refused. HasCleanDisk (state S.Store refused.1) → IsFaultOver (state S.Store connection) refused.0) }
         ensures survives { SurvivesTaking (state S.Store connection) (state S.Store (left_by result)) }
     {
         let mut connection = connection;
@@ -107,12 +112,18 @@ impl<S: Alter + Drop> SqlStore<S> {
         alloc: Global,
         connection: Connection<S>,
     ) -> Result<SqlStore<S>, (OpenFault, Connection<S>)>
-        ensures empty { IsBare (state S.Store connection) → IfOk result (λ store. (standing_of S.Store store).is_honest → (standing_of S.Store store).content ≡ sound no_tables) }
-        ensures opened { (IsBare (state S.Store connection) → ⊥) → IfOk result (λ store. (standing_of S.Store store).is_honest → IsOpened (state S.Store connection) (state S.Store store.connection)) }
+        ensures empty { IsBare (state S.Store connection)
+            → IfOk result (λ store. (standing_of S.Store store).is_honest → (standing_of S.Store store).content ≡ sound no_tables) }
+        ensures opened { (IsBare (state S.Store connection) → ⊥)
+            → IfOk result
+            (λ store. (standing_of S.Store store).is_honest → IsOpened (state S.Store connection) (state S.Store store.connection)) }
         ensures open { IfOk result (λ store. ((standing_of S.Store store).is_shut ≡ false) × ((standing_of S.Store store).failures ≡ 0)) }
-        ensures unchanged { IfErr result (λ refused. HasCleanDisk (state S.Store refused.1) → IsTrue (state S.Store refused.1).is_open → IsAsBefore (state S.Store connection) (state S.Store refused.1)) }
-        ensures survives_making { IsBare (state S.Store connection) → SurvivesMaking (state S.Store connection) (state S.Store (left_by result)) }
-        ensures survives_taking { (IsBare (state S.Store connection) → ⊥) → SurvivesTaking (state S.Store connection) (state S.Store (left_by result)) }
+        ensures unchanged { IfErr result (λ refused. HasCleanDisk (state S.Store refused.1)
+            → IsTrue (state S.Store refused.1).is_open → IsAsBefore (state S.Store connection) (state S.Store refused.1)) }
+        ensures survives_making { IsBare (state S.Store connection)
+            → SurvivesMaking (state S.Store connection) (state S.Store (left_by result)) }
+        ensures survives_taking { (IsBare (state S.Store connection) → ⊥)
+            → SurvivesTaking (state S.Store connection) (state S.Store (left_by result)) }
     {
         if is_bare(&connection) {
             SqlStore::create(alloc, connection)

@@ -30,7 +30,8 @@ fn desk_is_numbered<S: Alter>(connection: &mut Connection<S>) -> Result<bool, Er
 
 fn desk_is_one<S: Alter>(connection: &mut Connection<S>) -> Result<bool, Error>
     ensures mode { connection.old.in_transaction ≡ false → connection.new.in_transaction ≡ false }
-    ensures asks { Asks (Joins (TellsOf desk_tree IsAlone) (TellsOf desk_tree AreNumbered)) (state S.Store connection.old) (state S.Store connection.new) result }
+    ensures asks { Asks (Joins (TellsOf desk_tree IsAlone) (TellsOf desk_tree AreNumbered)) (state S.Store connection.old)
+        (state S.Store connection.new) result }
 {
     if desk_is_alone(connection)? {
         desk_is_numbered(connection)

@@ -31,7 +31,8 @@ fn has_shape<S: Alter>(connection: &Connection<S>) -> bool
 // Whether the connection answers, so that it was open and is.
 fn answers<S: Alter>(connection: &mut Connection<S>) -> Result<(), Error>
     ensures mode { connection.old.in_transaction ≡ false → connection.new.in_transaction ≡ false }
-    ensures same { HasCleanDisk (state S.Store connection.new) → OnOk result (IsUnchanged (state S.Store connection.old) (state S.Store connection.new)) }
+    ensures same { HasCleanDisk (state S.Store connection.new)
+        → OnOk result (IsUnchanged (state S.Store connection.old) (state S.Store connection.new)) }
     ensures rests { HasCleanDisk (state S.Store connection.new) → Rests (state S.Store connection.old) (state S.Store connection.new) }
     ensures survives { Survives (state S.Store connection.old) (state S.Store connection.new) (λ _. ⊥) }
 {
@@ -44,8 +45,10 @@ fn rows_are_own<S: Alter>(connection: &mut Connection<S>) -> Result<bool, Error>
     requires shaped { IsShaped (state S.Store connection.old) }
     requires settled { IsSettled (state S.Store connection.old) }
     ensures mode { connection.new.in_transaction ≡ false }
-    ensures judged { HasCleanDisk (state S.Store connection.new) → IfOk result (λ own. IsJudged own (state S.Store connection.old) (state S.Store connection.new)) }
-    ensures kept { HasCleanDisk (state S.Store connection.new) → IsTrue (state S.Store connection.new).is_open → IsAsBefore (state S.Store connection.old) (state S.Store connection.new) }
+    ensures judged { HasCleanDisk (state S.Store connection.new)
+        → IfOk result (λ own. IsJudged own (state S.Store connection.old) (state S.Store connection.new)) }
+    ensures kept { HasCleanDisk (state S.Store connection.new) → IsTrue (state S.Store connection.new).is_open
+        → IsAsBefore (state S.Store connection.old) (state S.Store connection.new) }
     ensures survives { Survives (state S.Store connection.old) (state S.Store connection.new) (λ _. ⊥) }
 {
     answers(connection)?;
@@ -54,10 +57,13 @@ fn rows_are_own<S: Alter>(connection: &mut Connection<S>) -> Result<bool, Error>
 
 // The version of a database that has the six tables, with rows as a store writes them.
 fn find_version<S: Alter>(connection: &mut Connection<S>) -> Result<i64, Refusal>
-    ensures known { HasCleanDisk (state S.Store connection.new) → IsKnown (state S.Store connection.old) → IfErr result (λ fault. IsTrue (is_sql fault)) }
+    ensures known { HasCleanDisk (state S.Store connection.new) → IsKnown (state S.Store connection.old)
+        → IfErr result (λ fault. IsTrue (is_sql fault)) }
     ensures mode { OnOk result (connection.new.in_transaction ≡ false) }
-    ensures found { HasCleanDisk (state S.Store connection.new) → IfOk result (λ version. IsFound version (state S.Store connection.old) (state S.Store connection.new)) }
-    ensures kept { HasCleanDisk (state S.Store connection.new) → IsTrue (state S.Store connection.new).is_open → IsAsBefore (state S.Store connection.old) (state S.Store connection.new) }
+    ensures found { HasCleanDisk (state S.Store connection.new)
+        → IfOk result (λ version. IsFound version (state S.Store connection.old) (state S.Store connection.new)) }
+    ensures kept { HasCleanDisk (state S.Store connection.new) → IsTrue (state S.Store connection.new).is_open
+        → IsAsBefore (state S.Store connection.old) (state S.Store connection.new) }
     ensures survives { Survives (state S.Store connection.old) (state S.Store connection.new) (λ _. ⊥) }
 {
     if !has_shape(connection) {
@@ -73,10 +79,16 @@ fn find_version<S: Alter>(connection: &mut Connection<S>) -> Result<i64, Refusal
 fn migrate<S: Alter>(alloc: Global, connection: &mut Connection<S>) -> Result<(), Refusal>
     requires { (state S.Store connection.old).in_transaction ≡ false }
     ensures mode { connection.new.in_transaction ≡ false }
-    ensures fault { HasCleanDisk (state S.Store connection.new) → IsFirst (state S.Store connection.old) → IfErr result (IsFaultOf (state S.Store connection.old)) }
-    ensures made { HasCleanDisk (state S.Store connection.new) → IsFirst (state S.Store connection.old) → OnOk result (IsMigrated (state S.Store connection.old) (state S.Store connection.new)) }
-    ensures kept { HasCleanDisk (state S.Store connection.new) → IsFirst (state S.Store connection.old) → IsTrue (state S.Store connection.new).is_open → OnErr result (IsAsBefore (state S.Store connection.old) (state S.Store connection.new)) }
-    ensures survives { Survives (state S.Store connection.old) (state S.Store connection.new) (λ trees. IsFirst (state S.Store connection.old) → IsRaised (state S.Store connection.old).committed.trees trees) }
+    ensures fault { HasCleanDisk (state S.Store connection.new) → IsFirst (state S.Store connection.old)
+        → IfErr result (IsFaultOf (state S.Store connection.old)) }
+    ensures made { HasCleanDisk (state S.Store connection.new) → IsFirst (state S.Store connection.old)
+        → OnOk result (IsMigrated (state S.Store connection.old) (state S.Store connection.new)) }
+    ensures kept { HasCleanDisk (state S.Store connection.new) → IsFirst (state S.Store connection.old)
+        → IsTrue (state S.Store connection.new).is_open
+        → OnErr result (IsAsBefore (state S.Store connection.old) (state S.Store connection.new)) }
+    ensures survives { Survives (state S.Store connection.old) (state S.Store connection.new) (λ trees. IsFirst
+        (state S.Store connection.old)
+        → IsRaised (state S.Store connection.old).committed.trees trees) }
 {
     let change = dropping(alloc, connection)?;
     commit_raised(alloc, connection, &change)?;
@@ -88,10 +100,15 @@ fn migrate<S: Alter>(alloc: Global, connection: &mut Connection<S>) -> Result<()
 /// `NotOurs` for another version or schema, for rows that share a number, and in a transaction.
 pub fn take<S: Alter>(alloc: Global, connection: &mut Connection<S>) -> Result<(), Refusal>
     ensures mode { OnOk result (connection.new.in_transaction ≡ false) }
-    ensures known { HasCleanDisk (state S.Store connection.new) → IsKnown (state S.Store connection.old) → IfErr result (IsFaultOf (state S.Store connection.old)) }
-    ensures taken { HasCleanDisk (state S.Store connection.new) → OnOk result (IsTaken (state S.Store connection.old) (state S.Store connection.new) ⊎ IsMigrated (state S.Store connection.old) (state S.Store connection.new)) }
-    ensures kept { HasCleanDisk (state S.Store connection.new) → IsTrue (state S.Store connection.new).is_open → OnErr result (IsAsBefore (state S.Store connection.old) (state S.Store connection.new)) }
-    ensures survives { Survives (state S.Store connection.old) (state S.Store connection.new) (λ trees. IsRaised (state S.Store connection.old).committed.trees trees) }
+    ensures known { HasCleanDisk (state S.Store connection.new) → IsKnown (state S.Store connection.old)
+        → IfErr result (IsFaultOf (state S.Store connection.old)) }
+    ensures taken { HasCleanDisk (state S.Store connection.new)
+        → OnOk result (IsTaken (state S.Store connection.old) (state S.Store connection.new) ⊎ IsMigrated
+        (state S.Store connection.old) (state S.Store connection.new)) }
+    ensures kept { HasCleanDisk (state S.Store connection.new) → IsTrue (state S.Store connection.new).is_open
+        → OnErr result (IsAsBefore (state S.Store connection.old) (state S.Store connection.new)) }
+    ensures survives { Survives (state S.Store connection.old) (state S.Store connection.new)
+        (λ trees. IsRaised (state S.Store connection.old).committed.trees trees) }
 {
     match find_version(connection)? {
         VERSION => Ok(()),

@@ -15,8 +15,10 @@ use sqlite::{Alter, Connection, Row};
 
 // What the answer of the query on `desk` tells.
 fn told_version(rows: &[Row]) -> Result<i64, ReadFault>
-    ensures value { (kept : List Cells) → IsOne kept → Finds (λ row. true) (λ row. column row 2 ∷ column row 3 ∷ []) kept rows.now → IfOk result (λ version. version_in kept ≡ Some version) }
-    ensures bad { (kept : List Cells) → IsOne kept → Finds (λ row. true) (λ row. column row 2 ∷ column row 3 ∷ []) kept rows.now → IfErr result (λ _. version_in kept ≡ None) }
+    ensures value { (kept : List Cells) → IsOne kept → Finds (λ row. true) (λ row. column row 2 ∷ column row 3 ∷ []) kept rows.now
+        → IfOk result (λ version. version_in kept ≡ Some version) }
+    ensures bad { (kept : List Cells) → IsOne kept → Finds (λ row. true) (λ row. column row 2 ∷ column row 3 ∷ []) kept rows.now
+        → IfErr result (λ _. version_in kept ≡ None) }
     ensures fault { IfErr result (λ fault. fault ≡ BadRow) }
 {
     match rows.first() {
@@ -29,10 +31,14 @@ fn told_version(rows: &[Row]) -> Result<i64, ReadFault>
 #[tactic(auto, using(crate::proofs::OpenLemmas::sees_unchanged))]
 pub fn version_of<S: Alter>(connection: &mut Connection<S>) -> Result<i64, ReadFault>
     ensures mode { connection.old.in_transaction ≡ false → connection.new.in_transaction ≡ false }
-    ensures asks { HasCleanDisk (state S.Store connection.new) → IsOurs (state S.Store connection.old).now → Asks (result_err result) (state S.Store connection.old) (state S.Store connection.new) }
-    ensures value { HasCleanDisk (state S.Store connection.new) → IsOurs (state S.Store connection.old).now → IfOk result (λ version. version_of (state S.Store connection.old).now.trees ≡ Some version) }
-    ensures bad { HasCleanDisk (state S.Store connection.new) → IsOurs (state S.Store connection.old).now → result ≡ Err BadRow → version_of (state S.Store connection.old).now.trees ≡ None }
-    ensures survives { Survives (state S.Store connection.old) (state S.Store connection.new) (λ _. IsOurs (state S.Store connection.old).now → ⊥) }
+    ensures asks { HasCleanDisk (state S.Store connection.new) → IsOurs (state S.Store connection.old).now
+        → Asks (result_err result) (state S.Store connection.old) (state S.Store connection.new) }
+    ensures value { HasCleanDisk (state S.Store connection.new) → IsOurs (state S.Store connection.old).now
+        → IfOk result (λ version. version_of (state S.Store connection.old).now.trees ≡ Some version) }
+    ensures bad { HasCleanDisk (state S.Store connection.new) → IsOurs (state S.Store connection.old).now → result ≡ Err BadRow
+        → version_of (state S.Store connection.old).now.trees ≡ None }
+    ensures survives { Survives (state S.Store connection.old) (state S.Store connection.new)
+        (λ _. IsOurs (state S.Store connection.old).now → ⊥) }
 {
     let rows = desk_row::find(connection)?;
     told_version(&rows)
