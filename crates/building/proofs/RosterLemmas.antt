@@ -69,7 +69,8 @@ among-pushed : (m n : List ℕ) (names : List (List ℕ)) → bytes_eq n m ≡ f
 among-pushed m n [] other = ap (λ b. b || false) other
 among-pushed m n (first ∷ names) other = ap (λ b. bytes_eq first m || b) (among-pushed m n names other)
 
-pub distinct_pushed : (n : List ℕ) (names : List (List ℕ)) → are_distinct names ≡ true → is_among n names ≡ false → are_distinct (names ++ n ∷ []) ≡ true
+pub distinct_pushed : (n : List ℕ) (names : List (List ℕ)) → are_distinct names ≡ true → is_among n names ≡ false
+    → are_distinct (names ++ n ∷ []) ≡ true
 distinct_pushed n [] distinct new = refl
 distinct_pushed n (first ∷ names) distinct new =
     let other : bytes_eq n first ≡ false = nat_list_eq_equiv.symm n first ∙ fails-left (bytes_eq first n) (is_among n names) new in

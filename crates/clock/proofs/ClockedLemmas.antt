@@ -87,7 +87,8 @@ Settled-over b old items local last change = (imported : Text → List Text) →
     → Settles b (with_items imported items) old.content.tables.shown local items last change
 
 module _ (b : Building) (E : List Delivery) (old : Standing) (held : Holds b E old) where
-  settles-held : (items : List ImportedEntry) (local : Option LocalTime) (last : Option ℤ) (change : Change) → Settled-over b old items local last change
+  settles-held : (items : List ImportedEntry) (local : Option LocalTime) (last : Option ℤ) (change : Change)
+      → Settled-over b old items local last change
       → Settles b (with_items (machine b E).imported items) (machine b E).shown local items last change
   settles-held items local last change settles = subst (λ (shown : Shown). Settles b (with_items (machine b E).imported items) shown local items last change)
       (shown-held b E old held) (settles (machine b E).imported (Tells-held b E old held))

@@ -45,7 +45,8 @@ spelled text day spells =
     ap (λ read. option_and_then start_alone (result_ok read))
     (ap (λ t. reading (t ++ codes "..*")) spells.0 ∙ reading-text e (spells.1, tt))
 
-pub asked : (text range : Text) (told : Option Date) → range ≡ text ++ codes "..*" → told ≡ day_at range → (day : Date) → (told ≡ Some day) ↔ SpellsDay text day
+pub asked : (text range : Text) (told : Option Date) → range ≡ text ++ codes "..*" → told ≡ day_at range → (day : Date)
+    → (told ≡ Some day) ↔ SpellsDay text day
 asked text range told whole is day =
     let tells = is ∙ ap day_at whole in (
       (λ some. of_reading text (reading (text ++ codes "..*")) day refl (sym tells ∙ some)),

@@ -12,7 +12,8 @@ use Rattle.std.proofs.lemmas.List.{append-nil}
 use Rattle.store.specs.Tables.{Text}
 use Rattle.day_reports.specs.ReportLines.{schedule_line, schedule_lines, segment_line}
 
-schedule_lines-same : (day : Date) (cs ds : List Calendar) (s : NamedSchedule) → hold_on day cs ≡ hold_on day ds → schedule_lines cs day s ≡ schedule_lines ds day s
+schedule_lines-same : (day : Date) (cs ds : List Calendar) (s : NamedSchedule) → hold_on day cs ≡ hold_on day ds
+    → schedule_lines cs day s ≡ schedule_lines ds day s
 unfolding schedule_lines
 schedule_lines-same day cs ds s same =
     ap (λ (value : ℕ → Option ℤ). schedule_line day s ++ flat_map segment_line (segments_of value))
@@ -28,6 +29,7 @@ pub with_items-none : (imported : Text → List Text) → with_items imported []
 with_items-none imported = fun_ext (λ calendar. append-nil (imported calendar))
 
 -- three parts, one written after the other
-pub joined-parts : (first second third old mid new : List ℕ) → old ≡ first → mid ≡ old ++ second → new ≡ mid ++ third → new ≡ first ++ (second ++ third)
+pub joined-parts : (first second third old mid new : List ℕ) → old ≡ first → mid ≡ old ++ second → new ≡ mid ++ third
+    → new ≡ first ++ (second ++ third)
 joined-parts first second third old mid new a b c =
     c ∙ (ap (λ text. text ++ third) (b ∙ ap (λ text. text ++ second) a) ∙ append_assoc first second third)

@@ -32,7 +32,8 @@ Rise-weaker : (from least : ℕ) (entries : List NumberedContent) → from ≤ l
 Rise-weaker from least [] below rise = tt
 Rise-weaker from least (entry ∷ entries) below rise = let first = rise.0 in (omega (arith, below, first), rise.1)
 
-Rise-and_at : (from : ℕ) (content : Option Content) (entries : List NumberedContent) → Rise (from + 1) entries → Rise from (and_at from content entries)
+Rise-and_at : (from : ℕ) (content : Option Content) (entries : List NumberedContent) → Rise (from + 1) entries
+    → Rise from (and_at from content entries)
 Rise-and_at from None entries rise = Rise-weaker from (from + 1) entries (omega arith) rise
 Rise-and_at from (Some content) entries rise = (omega arith, rise)
 

@@ -145,7 +145,8 @@ taken-here b E d ask asking = taken_by-push b (panel_of d) E d ∙ ap (asks.take
 asks-apart : (b : Building) (q : Text) (d : Delivery) → bytes_eq (panel_of d) q ≡ false → asks_of b q d ≡ []
 asks-apart b q d apart = rw apart refl
 
-pub taken-apart : (b : Building) (E : List Delivery) (d : Delivery) (q : Text) → bytes_eq (panel_of d) q ≡ false → taken_by b q (E ++ d ∷ []) ≡ taken_by b q E
+pub taken-apart : (b : Building) (E : List Delivery) (d : Delivery) (q : Text) → bytes_eq (panel_of d) q ≡ false
+    → taken_by b q (E ++ d ∷ []) ≡ taken_by b q E
 taken-apart b E d q apart = taken_by-push b q E d ∙ ap (asks.taken (taken_by b q E)) (asks-apart b q d apart)
 
 pub machine-asked : (b : Building) (E : List Delivery) (d : Delivery) (ask : asks.Ask) → Asks b d ask → let t = taken_by b (panel_of d) E in

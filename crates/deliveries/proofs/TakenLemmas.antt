@@ -87,7 +87,8 @@ front-moved t m content accepted low =
       | inr apart ↦ omega (arith, low, apart, rises)
     ]
 
-parked_by-accepted : (t : Taken) (m : ℕ) (content : Content) → accepts t m ≡ true → front t < m → parked_by t (Command m content) ≡ Some (entry_of m content)
+parked_by-accepted : (t : Taken) (m : ℕ) (content : Content) → accepts t m ≡ true → front t < m
+    → parked_by t (Command m content) ≡ Some (entry_of m content)
 parked_by-accepted t m content accepted past = let above : nat_lt (front t) m ≡ true = grind (arith, nat_tests) in rw (accepted, above) refl
 
 -- from the front that an ask leaves, a number under which nothing is parked keeps what stands under it

@@ -30,21 +30,24 @@ with_first k j d old e None = refl
 with_first k j d old e (Some p) = rw e
 
 -- a member more
-pub member_taken : (depth n : ℕ) (k : List ℕ) (ts s r : List Token) (t : Token) (d : Data) (old : Members) → 0 < n → read_key ts ≡ Some (Some k, s) → s ≡ t ∷ r → scalar_of t ≡ Some d
+pub member_taken : (depth n : ℕ) (k : List ℕ) (ts s r : List Token) (t : Token) (d : Data) (old : Members) → 0 < n
+    → read_key ts ≡ Some (Some k, s) → s ≡ t ∷ r → scalar_of t ≡ Some d
     → converted (λ ms. of_members ms old) (json.members (value depth) n ts) ≡ converted (λ ms. of_members ms (put k d old)) (json.members (value depth) (n - 1) r)
 member_taken depth n k ts s r t d old some named one scalar =
     let found = scalar_json depth t r d scalar in
     ap (converted (λ ms. of_members ms old)) (members_more (value depth) n k ts s r found.0 some named (ap (value depth) one ∙ found.1)) ∙ with_first k found.0 d old found.2 _
 
 -- no member more
-pub members_over : (depth n : ℕ) (ts r : List Token) (old : Members) → length ts ≤ n → read_key ts ≡ Some (None, r) → converted (λ ms. of_members ms old) (json.members (value depth) n ts) ≡ Some (old, r)
+pub members_over : (depth n : ℕ) (ts r : List Token) (old : Members) → length ts ≤ n → read_key ts ≡ Some (None, r)
+    → converted (λ ms. of_members ms old) (json.members (value depth) n ts) ≡ Some (old, r)
 members_over depth n ts r old enough ended = ap (converted (λ ms. of_members ms old)) (members_end (value depth) n ts r enough ended)
 
 abbrev rest_of : Option (Members × List Token) → List Token
 rest_of None = []
 rest_of (Some p) = p.1
 
-alone : (x : Option Members) (r : List Token) (ms : Members) → option_map {U = Members × List Token} (λ b. (b, r)) x ≡ Some (ms, []) → (x ≡ Some ms) × (r ≡ [])
+alone : (x : Option Members) (r : List Token) (ms : Members) → option_map {U = Members × List Token} (λ b. (b, r)) x ≡ Some (ms, [])
+    → (x ≡ Some ms) × (r ≡ [])
 alone None r ms e = absurd (cc)
 alone (Some y) r ms e = (ap (option_map (λ p. p.0)) e, ap rest_of e)
 

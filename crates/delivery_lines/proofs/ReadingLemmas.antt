@@ -14,19 +14,23 @@ use Rattle.delivery_lines.specs.declared.command_members.CommandMembers.{Command
 use Rattle.delivery_lines.specs.Scalars.{scalar_of, told_by}
 
 -- the value of a token that tells something
-told-scalar : {A : Type 0} (o : Option Data) (tells : Data → Option A) (a : A) → (o >>= tells) ≡ Some a → (d : Data) × (o ≡ Some d) × (tells d ≡ Some a)
+told-scalar : {A : Type 0} (o : Option Data) (tells : Data → Option A) (a : A) → (o >>= tells) ≡ Some a
+    → (d : Data) × (o ≡ Some d) × (tells d ≡ Some a)
 told-scalar None tells a e = absurd (cc)
 told-scalar (Some d) tells a e = (d, refl, e)
 
-pub told_by-scalar : {A : Type 0} (t : Token) (tells : Data → Option A) (a : A) → told_by tells t ≡ Some a → (d : Data) × (scalar_of t ≡ Some d) × (tells d ≡ Some a)
+pub told_by-scalar : {A : Type 0} (t : Token) (tells : Data → Option A) (a : A) → told_by tells t ≡ Some a
+    → (d : Data) × (scalar_of t ≡ Some d) × (tells d ≡ Some a)
 told_by-scalar t tells a e = told-scalar (scalar_of t) tells a e
 
 -- ---- a member that is put
 
-reads-put : {A : Type 0} (tells : Data → Option A) (key : List ℕ) (d : Data) (ms : Members) (a : A) → tells d ≡ Some a → Reads tells key (put key d ms) (Some a)
+reads-put : {A : Type 0} (tells : Data → Option A) (key : List ℕ) (d : Data) (ms : Members) (a : A) → tells d ≡ Some a
+    → Reads tells key (put key d ms) (Some a)
 reads-put tells key d ms a e = ap (option_map tells) (get_member-put key d ms) ∙ ap Some e
 
-reads-other : {A : Type 0} (tells : Data → Option A) (key k : List ℕ) (d : Data) (ms : Members) (told : Option A) → (key ≡ k → ⊥) → Reads tells key ms told → Reads tells key (put k d ms) told
+reads-other : {A : Type 0} (tells : Data → Option A) (key k : List ℕ) (d : Data) (ms : Members) (told : Option A) → (key ≡ k → ⊥)
+    → Reads tells key ms told → Reads tells key (put k d ms) told
 reads-other tells key k d ms told differ before = ap (option_map tells) (get_member-put_other key k d ms differ) ∙ before
 
 both : (a b : Bool) → a && b ≡ true → (a ≡ true) × (b ≡ true)
@@ -38,7 +42,8 @@ and_true : (a b : Bool) → a ≡ true → b ≡ true → a && b ≡ true
 and_true a b e f = ap₂ (λ x y. x && y) e f
 
 module _ (known : List (List ℕ)) (k : List ℕ) (d : Data) where
-  one_of : (o : Ordering) (a b c : Members) → has_only known a ≡ true → has_only known b ≡ true → has_only known c ≡ true → has_only known (match_ordering o a b c) ≡ true
+  one_of : (o : Ordering) (a b c : Members) → has_only known a ≡ true → has_only known b ≡ true → has_only known c ≡ true
+      → has_only known (match_ordering o a b c) ≡ true
   one_of Less a b c e f g = e
   one_of Equal a b c e f g = f
   one_of Greater a b c e f g = g
@@ -53,7 +58,8 @@ apart : (xs ys : List ℕ) → bytes_eq xs ys ≡ false → xs ≡ ys → ⊥
 apart xs ys e same = absurd (true≢false (sym ((bytes_eq-Decides xs ys).1 same) ∙ e))
 
 module _ (told : CommandMembers) (d : Data) (ms : Members) (so_far : IsReadAs told ms) where
-  with_others : {A : Type 0} (tells : Data → Option A) (key k : List ℕ) (was : Option A) → bytes_eq key k ≡ false → Reads tells key ms was → Reads tells key (put k d ms) was
+  with_others : {A : Type 0} (tells : Data → Option A) (key k : List ℕ) (was : Option A) → bytes_eq key k ≡ false → Reads tells key ms was
+      → Reads tells key (put k d ms) was
   with_others tells key k was e before = reads-other tells key k d ms was (apart key k e) before
 
   pub number-taken : (z : ℤ) → integer_in d ≡ Some z → IsReadAs (record told { number = Some z }) (put (codes "number") d ms)

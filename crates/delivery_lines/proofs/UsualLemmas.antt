@@ -31,7 +31,8 @@ inside (Some o) = o
 
 -- ---- a key that has a value
 
-found : {A : Type 0} (tells : Data → Option A) (o : Option Data) (a : A) → option_map tells o ≡ Some (Some a) → (d : Data) × (o ≡ Some d) × (tells d ≡ Some a)
+found : {A : Type 0} (tells : Data → Option A) (o : Option Data) (a : A) → option_map tells o ≡ Some (Some a)
+    → (d : Data) × (o ≡ Some d) × (tells d ≡ Some a)
 found tells None a e = absurd (cc)
 found tells (Some d) a e = (d, refl, ap inside e)
 
@@ -39,7 +40,8 @@ read_found : {A : Type 0} (tells : Data → Option A) (key : List ℕ) (ms : Mem
     → (d : Data) × (get_member key ms ≡ Some d) × (tells d ≡ Some a)
 read_found tells key ms was a reads is = found tells (get_member key ms) a (reads ∙ ap (option_map Some) is)
 
-priority_found : (o : Option Data) (p : Option ℤ) → option_map (λ d. priority_in (Some d)) o ≡ option_map Some p → priority_in o ≡ Some (unwrap_or p (pos 16))
+priority_found : (o : Option Data) (p : Option ℤ) → option_map (λ d. priority_in (Some d)) o ≡ option_map Some p
+    → priority_in o ≡ Some (unwrap_or p (pos 16))
 priority_found None None e = refl
 priority_found None (Some z) e = absurd (cc)
 priority_found (Some d) None e = absurd (cc)
@@ -57,7 +59,8 @@ both true true e = (refl, refl)
 both true false e = absurd (cc)
 both false b e = absurd (cc)
 
-absent : (known : List (List ℕ)) (q : List ℕ) (ms : Members) → list_any (λ k. bytes_eq k q) known ≡ false → has_only known ms ≡ true → get_member q ms ≡ None
+absent : (known : List (List ℕ)) (q : List ℕ) (ms : Members) → list_any (λ k. bytes_eq k q) known ≡ false → has_only known ms ≡ true
+    → get_member q ms ≡ None
 absent known q no_members unknown e = refl
 absent known q (member l v ms) unknown e =
     let split = both (list_any (λ k. bytes_eq k l) known) (has_only known ms) e in
@@ -80,7 +83,8 @@ told_where : {A B C : Type 0} (p : Option A) (t : Option B) (test : Bool) (f : A
     → option_and_then (λ x. option_and_then (λ y. where_holds test (f x y)) t) p ≡ Some (f a b)
 told_where p t test f a b e g h = rw (e, g, h)
 
-told_under : {A : Type 0} (tells : Data → Option A) (key : List ℕ) (ms : Members) (was : Option A) (a : A) → Reads tells key ms was → was ≡ Some a → option_and_then tells (get_member key ms) ≡ Some a
+told_under : {A : Type 0} (tells : Data → Option A) (key : List ℕ) (ms : Members) (was : Option A) (a : A) → Reads tells key ms was
+    → was ≡ Some a → option_and_then tells (get_member key ms) ≡ Some a
 told_under tells key ms was a reads is = let d = read_found tells key ms was a reads is in ap (option_and_then tells) d.1 ∙ d.2
 
 module _ (told : CommandMembers) (ms : Members) (is : IsReadAs told ms) where
@@ -96,7 +100,8 @@ module _ (told : CommandMembers) (ms : Members) (is : IsReadAs told ms) where
       (priority_found (get_member (codes "priority") ms) told.priority is.priority)
       (told_under value_in (codes "value") ms told.value value is.value value_is)
 
-  pub command_told : (panel point : List ℕ) (number : ℤ) (value : Option ℤ) → told.panel ≡ Some panel → told.number ≡ Some number → told.point ≡ Some point → told.value ≡ Some value
+  pub command_told : (panel point : List ℕ) (number : ℤ) (value : Option ℤ) → told.panel ≡ Some panel → told.number ≡ Some number
+      → told.point ≡ Some point → told.value ≡ Some value
       → delivery_in (object ms) ≡ Some (Command panel number (record { point = point; priority = unwrap_or told.priority (pos 16); value = value }))
   unfolding delivery_in panel_delivery_in command_in
   command_told panel point number value panel_is number_is point_is value_is =
@@ -110,15 +115,18 @@ module _ (told : CommandMembers) (ms : Members) (is : IsReadAs told ms) where
 
 -- ---- the line
 
-pub read_delivery : (line text : List ℕ) (d : Data) (command : Delivery) → text_of line ≡ Some text → read text ≡ Some d → delivery_in d ≡ Some command
+pub read_delivery : (line text : List ℕ) (d : Data) (command : Delivery) → text_of line ≡ Some text → read text ≡ Some d
+    → delivery_in d ≡ Some command
     → option_and_then delivery_in (json_of line) ≡ Some command
 read_delivery line text d command e f g = ap (λ o. option_and_then delivery_in (option_and_then read o)) e ∙ ap (option_and_then delivery_in) f ∙ g
 
-told_by : (b : Building) (o : Option Data) (command : Delivery) → option_and_then delivery_in o ≡ Some command → option_and_then (told_in b) o ≡ Some (told.Delivery command)
+told_by : (b : Building) (o : Option Data) (command : Delivery) → option_and_then delivery_in o ≡ Some command
+    → option_and_then (told_in b) o ≡ Some (told.Delivery command)
 unfolding told_in
 told_by b None command e = absurd (cc)
 told_by b (Some d) command e = ap (told_with b d) e
 
-pub told_command : (b : Building) (line : List ℕ) (command : Delivery) → option_and_then delivery_in (json_of line) ≡ Some command → told_of b line ≡ Some (told.Delivery command)
+pub told_command : (b : Building) (line : List ℕ) (command : Delivery) → option_and_then delivery_in (json_of line) ≡ Some command
+    → told_of b line ≡ Some (told.Delivery command)
 unfolding told_of
 told_command b line command e = told_by b (json_of line) command e

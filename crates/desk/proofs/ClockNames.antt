@@ -89,7 +89,8 @@ module _ (b : Building) (q : Text) (missing : has_point b q ≡ false) where
       let put = each-outside (put_by now shown) (put-outside now shown) schedules sound in
       list_any-append (names_point q) (flat_map (cleared_by now shown) schedules) (flat_map (put_by now shown) schedules) ∙ rw (cleared, put) refl
 
-  writes-outside : (imported : Text → List Text) (shown : Shown) (local : Option LocalTime) → list_all (is_sound_schedule b.points b.calendars) b.schedules ≡ true
+  writes-outside : (imported : Text → List Text) (shown : Shown) (local : Option LocalTime)
+      → list_all (is_sound_schedule b.points b.calendars) b.schedules ≡ true
       → list_any (names_point q) (writes_at b imported shown local) ≡ false
   writes-outside imported shown None sound = refl
   writes-outside imported shown (Some local) sound = written-outside (now_of b imported local) shown b.schedules sound
@@ -102,7 +103,8 @@ module _ (b : Building) (q : Text) (missing : has_point b q ≡ false) where
 
 -- ---- schedules
 
-told-outside : (b : Building) (q : Text) → has_schedule b q ≡ false → (now : Now) (shown : Shown) → with_each with_shown (told now shown b.schedules) shown q ≡ shown q
+told-outside : (b : Building) (q : Text) → has_schedule b q ≡ false → (now : Now) (shown : Shown)
+    → with_each with_shown (told now shown b.schedules) shown q ≡ shown q
 unfolding told
 told-outside b q missing now shown =
     shown-outside now shown shown b.schedules q (among-map (λ (schedule : NamedSchedule). schedule.name) q b.schedules ∙ missing)
@@ -148,6 +150,7 @@ module _ (b : Building) (q : Text) (missing : has_calendar b q ≡ false) where
       ∙ ((λ i. added_by-outside imported row i ++ texts_for q (added b (with_items imported items) rows))
       ∙ added-outside (with_items imported items) rows)
 
-  pub imported-no_calendar : (imported : Text → List Text) (rows : List CalendarEntry) → imported q ≡ [] → with_items imported (added b imported rows) q ≡ []
+  pub imported-no_calendar : (imported : Text → List Text) (rows : List CalendarEntry) → imported q ≡ []
+      → with_items imported (added b imported rows) q ≡ []
   imported-no_calendar imported rows none =
       (λ i. none i ++ texts_for q (added b imported rows)) ∙ added-outside imported rows

@@ -100,7 +100,8 @@ point_of-permitted : (points : List Point) (panel : Panel) (content : Content) �
 unfolding rule_of breaks
 point_of-permitted points panel content e = is_there _ (first_rule _ _ e)
 
-names_a_point : (b : Building) (panel : Text) (content : Content) → rule_for b panel content ≡ None → is_some (point_named b.points content.point) ≡ true
+names_a_point : (b : Building) (panel : Text) (content : Content) → rule_for b panel content ≡ None
+    → is_some (point_named b.points content.point) ≡ true
 names_a_point b panel content e = under (panel_named b panel) e
   where
     under : (named : Option Panel) → option_map_or (λ p. rule_of b.points p content) named (Some NoSuchPoint) ≡ None
@@ -192,7 +193,8 @@ known-tables b sound E = record {
 
 -- ---- the last tick
 
-later-ticked : (b : Building) (last : Option ℤ) (moment : Option ℤ) → IsTrue (is_ticked b last) → IsTrue (is_ticked b moment) → IsTrue (is_ticked b (later_of last moment))
+later-ticked : (b : Building) (last : Option ℤ) (moment : Option ℤ) → IsTrue (is_ticked b last) → IsTrue (is_ticked b moment)
+    → IsTrue (is_ticked b (later_of last moment))
 later-ticked b last None was now = was
 later-ticked b None (Some moment) was now = now
 later-ticked b (Some last) (Some moment) was now = elim (cases_Bool (int_lt last moment)) [
@@ -209,7 +211,8 @@ moment-ticked b (delivery_of.Tick moment) = elim (cases_Bool (is_moment b moment
 ]
 moment-ticked b (delivery_of.Import rows) = refl
 
-fold-ticked : (b : Building) (last : Option ℤ) (E : List Delivery) → IsTrue (is_ticked b last) → IsTrue (is_ticked b (fold (λ last delivery. later_of last (moment_of b delivery)) last E))
+fold-ticked : (b : Building) (last : Option ℤ) (E : List Delivery) → IsTrue (is_ticked b last)
+    → IsTrue (is_ticked b (fold (λ last delivery. later_of last (moment_of b delivery)) last E))
 fold-ticked b last [] was = was
 fold-ticked b last (d ∷ E) was = fold-ticked b (later_of last (moment_of b d)) E (later-ticked b last (moment_of b d) was (moment-ticked b d))
 
@@ -220,7 +223,8 @@ suited-tables b sound E = record {
 }
 
 -- a store of such tables is not refused for what it holds
-pub Opens-own : (b : Building) → HasSoundSchedules b → (E : List Delivery) (fault : StoreFault) (old new : Standing) → Opens b (Some fault) old new → new.is_honest → Holds b E old
+pub Opens-own : (b : Building) → HasSoundSchedules b → (E : List Delivery) (fault : StoreFault) (old new : Standing)
+    → Opens b (Some fault) old new → new.is_honest → Holds b E old
     → fault ≡ BadRow → ⊥
 Opens-own b sound E fault old new opens honest held is = elim (opens.bad_row honest (ap Some is)) [
   | inl unknown ↦ unknown (subst (λ (c : a_holding). Suits b c.tables) (sym held) (suited-tables b sound E))

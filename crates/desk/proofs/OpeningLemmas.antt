@@ -24,7 +24,8 @@ is_some-find test (x ∷ xs) = elim (cases_Bool (test x)) [
   | inr fails ↦ rw fails (is_some-find test xs)
 ]
 
-pub found-any : {A : Type 0} (found : Option (Bor A)) (test : A → Bool) (xs : List A) → option_copied found ≡ find test xs → is_some found ≡ list_any test xs
+pub found-any : {A : Type 0} (found : Option (Bor A)) (test : A → Bool) (xs : List A) → option_copied found ≡ find test xs
+    → is_some found ≡ list_any test xs
 found-any found test xs is = copied found ∙ (ap is_some is ∙ is_some-find test xs)
   where
     copied : {A : Type 0} (found : Option (Bor A)) → is_some found ≡ is_some (option_copied found)
@@ -113,7 +114,8 @@ not_failed : Some BadRow ≡ Some Failed → ⊥
 not_failed e = cc
 
 -- tables that do not suit the building
-Opens-unsuited : (b : Building) (old new : Standing) → Reads None old new → (new.is_honest → Suits b old.content.tables → ⊥) → Opens b (Some BadRow) old new
+Opens-unsuited : (b : Building) (old new : Standing) → Reads None old new → (new.is_honest → Suits b old.content.tables → ⊥)
+    → Opens b (Some BadRow) old new
 Opens-unsuited b old new reads unsuited = record {
   goes = Goes-told BadRow old new reads.goes not_shut not_failed;
   kept = λ honest told. reads.kept honest (λ e. cc);
@@ -141,7 +143,8 @@ module _ (b : Building) (first second third : Standing) (last : Option ℤ) (bef
       (λ honest suits. false≢true (sym unticked ∙ (ap (is_ticked b) (last-first honest) ∙ suits.last)))
 
   -- what is read behind it
-  pub Opens-read : (fault : Option StoreFault) (fourth : Standing) (names : Names) → (second.is_honest → AreNames first.content.tables names) → are_known b names ≡ true
+  pub Opens-read : (fault : Option StoreFault) (fourth : Standing) (names : Names)
+      → (second.is_honest → AreNames first.content.tables names) → are_known b names ≡ true
       → is_ticked b last ≡ true → Reads fault third fourth → Opens b fault first fourth
   Opens-read fault fourth names are known ticked after =
       let whole = Reads-then fault first third fourth (Reads-then None first second third before reads) after in
@@ -159,5 +162,6 @@ module _ (b : Building) (first second third : Standing) (last : Option ℤ) (bef
       }
 
 -- the last tick is not read
-pub Opens-unread : (b : Building) (fault : StoreFault) (first second third : Standing) → Reads None first second → Reads (Some fault) second third → Opens b (Some fault) first third
+pub Opens-unread : (b : Building) (fault : StoreFault) (first second third : Standing) → Reads None first second
+    → Reads (Some fault) second third → Opens b (Some fault) first third
 Opens-unread b fault first second third before after = Opens-failed b fault first third (Reads-then (Some fault) first second third before after)

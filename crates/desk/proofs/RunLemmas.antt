@@ -29,7 +29,8 @@ run-more b E ds more d told now one is said delivered = (
   delivered.1 ∙ ap (λ list. sound (tables b list)) (append_assoc E ds (d ∷ []) ∙ ap (λ rest. E ++ rest) (sym is)),
 )
 
-pub Stands-after : (fault : Option StoreFault) (first second third : Standing) → Stands None first second → Goes fault second third → Stands fault first third
+pub Stands-after : (fault : Option StoreFault) (first second third : Standing) → Stands None first second → Goes fault second third
+    → Stands fault first third
 Stands-after fault first second third before after = record {
   honest = λ honest. before.honest (after.honest honest);
   shut = λ told. sym (before.goes_on (λ e. cc)) ∙ after.shut.0 told;

@@ -179,7 +179,8 @@ Replays-Keeps file list old mid new r kept = record {
 }
 
 -- the replies and then the points
-pub Replays-done : (file list : List ℕ) (b b' b'' : Building) (old mid new : Option (List ℕ)) (now : Content) → building_of file ≡ Ok (contents_of b) → b' ≡ b
+pub Replays-done : (file list : List ℕ) (b b' b'' : Building) (old mid new : Option (List ℕ)) (now : Content)
+    → building_of file ≡ Ok (contents_of b) → b' ≡ b
     → Prints b' [] (lines_of list) old mid now → b'' ≡ b' → Appends mid new (point_lines b'' now.tables) → Replays file list old new
 Replays-done file list b b' b'' old mid new now file_is same prints still points = record {
   building = b';

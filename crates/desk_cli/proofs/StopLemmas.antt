@@ -125,7 +125,8 @@ first-replied b E line text answered old new now some answers is start = replied
 -- ---- where the reading stops
 
 -- before the next line
-pub Progress-stops : (b : Building) (E : List Delivery) (bytes : List ℕ) (left old new : Option (List ℕ)) (now : Content) → Progress b E bytes left old new now
+pub Progress-stops : (b : Building) (E : List Delivery) (bytes : List ℕ) (left old new : Option (List ℕ)) (now : Content)
+    → Progress b E bytes left old new now
     → PrintsStart b E (lines_of bytes) old new
 Progress-stops b E bytes left old new now p =
     subst (λ ls. PrintsStart b E ls old new) (sym p.lines_are)
@@ -162,7 +163,8 @@ no_more-lines file list b b' old mid new file_is same part kept = inr (
   }),
 )
 
-pub no_more-points : (file list : List ℕ) (b b' b'' : Building) (old mid new last : Option (List ℕ)) (now : Content) → building_of file ≡ Ok (contents_of b) → b' ≡ b
+pub no_more-points : (file list : List ℕ) (b b' b'' : Building) (old mid new last : Option (List ℕ)) (now : Content)
+    → building_of file ≡ Ok (contents_of b) → b' ≡ b
     → Prints b' [] (lines_of list) old mid now → b'' ≡ b' → AppendsStart mid new (point_lines b'' now.tables) → Keeps new last → PrintsNoMore file list old last
 no_more-points file list b b' b'' old mid new last now file_is same prints still points kept = inr (
   b',
@@ -183,7 +185,8 @@ Keeps-Keeps (Some xs) (Some ys) None h k = absurd k
 Keeps-Keeps (Some xs) (Some ys) (Some zs) h k = k ∙ h
 
 -- what is printed stays printed
-pub no_more-Keeps : (file list : List ℕ) (old mid new : Option (List ℕ)) → PrintsNoMore file list old mid → Keeps mid new → PrintsNoMore file list old new
+pub no_more-Keeps : (file list : List ℕ) (old mid new : Option (List ℕ)) → PrintsNoMore file list old mid → Keeps mid new
+    → PrintsNoMore file list old new
 no_more-Keeps file list old mid new said kept = ⊎_elim
     (λ nothing. inl (Keeps-Keeps old mid new nothing kept))
     (λ some. ⊎_elim

@@ -147,7 +147,8 @@ module _ {D : Type 0} {g : disk.Ghosts D} (old new : Files D) (log : OnlyReads g
     pub still_blank : IsBlank (image_of g old) → IsBlankFile (state_of fresh).page_size (unopened.image fresh)
     still_blank blank = subst₂ IsBlankFile (sym size) (sym (ap (λ f. seen_image g f.0 f.1) files ∙ seen)) blank
 
-    pub begins_then : IsPageSize (stored_size 1024) → IsBlank (image_of g old) → (rest : Leftover D g) → LeavesMade fresh rest → LeavesBeginning old rest
+    pub begins_then : IsPageSize (stored_size 1024) → IsBlank (image_of g old) → (rest : Leftover D g) → LeavesMade fresh rest
+        → LeavesBeginning old rest
     begins_then valid blank (left.Files now) h = h
     begins_then valid blank (left.Unopened now) h = λ image may. elim (h.blank (still_blank blank) image may) [
       | inl was ↦ inl (before image (subst (λ f. outcomes g f.0 f.1 image) files ((pool_files fresh.pool).2 image was)))

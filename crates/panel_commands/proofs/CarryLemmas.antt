@@ -75,7 +75,8 @@ Carries-committed b p plan change result first second third answer reads commits
       bad_row = λ honest bad. absurd (whole.never_bad bad);
     }
   where
-    becomes : third.is_honest → (content : Content) → Makes change first.content content → Becomes (moved b p plan first.content.tables) first.content content
+    becomes : third.is_honest → (content : Content) → Makes change first.content content
+        → Becomes (moved b p plan first.content.tables) first.content content
     becomes honest content made = record { tables_are = made.tables ∙ makes honest; is_sound = made.is_sound }
 
     made_or_not : third.is_honest → (content : Content) → (content ≡ first.content) ⊎ Makes change first.content content

@@ -24,13 +24,15 @@ use Rattle.deliveries.specs.Machine.{answer_to, places_after, places_under, rule
 not_none : (r : Rule) → Some r ≡ None → ⊥
 not_none r e = cc
 
-first_three : (a b d : Bool) (rest : Option Rule) → cond a (Some NoSuchPoint) (cond b (Some NotGranted) (cond d (Some NoSuchPriority) rest)) ≡ None → d ≡ false
+first_three : (a b d : Bool) (rest : Option Rule)
+    → cond a (Some NoSuchPoint) (cond b (Some NotGranted) (cond d (Some NoSuchPriority) rest)) ≡ None → d ≡ false
 first_three true b d rest e = absurd (not_none NoSuchPoint e)
 first_three false true d rest e = absurd (not_none NotGranted e)
 first_three false false true rest e = absurd (not_none NoSuchPriority e)
 first_three false false false rest e = refl
 
-place_of-permitted : (points : List Point) (panel : Panel) (content : Content) → rule_of points panel content ≡ None → names_no_place content.priority ≡ false
+place_of-permitted : (points : List Point) (panel : Panel) (content : Content) → rule_of points panel content ≡ None
+    → names_no_place content.priority ≡ false
 unfolding rule_of breaks
 place_of-permitted points panel content e = first_three _ _ _ _ e
 
@@ -47,7 +49,8 @@ pub rule_for-known : (b : Building) (panel : Text) (content : Content) (p : Pane
     → rule_for b panel content ≡ rule_of b.points p content
 rule_for-known b panel content p known = rw known refl
 
-pub answer_to-refused : (b : Building) (places : Text → Places) (panel : Text) (content : Content) (rule : Rule) → rule_for b panel content ≡ Some rule
+pub answer_to-refused : (b : Building) (places : Text → Places) (panel : Text) (content : Content) (rule : Rule)
+    → rule_for b panel content ≡ Some rule
     → answer_to b places panel content ≡ Refused rule
 unfolding answer_to
 answer_to-refused b places panel content rule e = rw e refl
@@ -57,7 +60,8 @@ pub answer_to-permitted : (b : Building) (places : Text → Places) (panel : Tex
 unfolding answer_to
 answer_to-permitted b places panel content e = rw e refl
 
-pub places_after-refused : (b : Building) (places : Text → Places) (panel : Text) (content : Content) (rule : Rule) → rule_for b panel content ≡ Some rule
+pub places_after-refused : (b : Building) (places : Text → Places) (panel : Text) (content : Content) (rule : Rule)
+    → rule_for b panel content ≡ Some rule
     → places_after b places panel content ≡ places
 unfolding places_after
 places_after-refused b places panel content rule e = rw e refl

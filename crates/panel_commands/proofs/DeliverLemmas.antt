@@ -117,7 +117,8 @@ module _ (b : Building) (E : List Delivery) (d : Delivery) (ask : asks.Ask) (pan
       )
 
   -- or is not
-  pub Delivers-failed : (fault : StoreFault) (old new : Standing) → IsOpen old → Carries b panel.name plan (Err fault) old new → new.is_honest → Holds b E old
+  pub Delivers-failed : (fault : StoreFault) (old new : Standing) → IsOpen old → Carries b panel.name plan (Err fault) old new
+      → new.is_honest → Holds b E old
       → Delivers b E d (Err fault) new
   Delivers-failed NoMemory old new is_open carries honest held =
       let going = carries.goes.goes_on (λ e. cc) ∙ stays_open old old is_open.goes in

@@ -73,7 +73,8 @@ module _ (b : Building) (E : List Delivery) (p : Text) (next : ℕ) (held : Tabl
   }
 
 -- the next number that is read is the front
-pub next-held : (b : Building) (E : List Delivery) (p q : Text) (next : ℕ) (held : Content) → q ≡ p → held ≡ sound (tables b E) → next ≡ held.tables.next q
+pub next-held : (b : Building) (E : List Delivery) (p q : Text) (next : ℕ) (held : Content) → q ≡ p → held ≡ sound (tables b E)
+    → next ≡ held.tables.next q
     → next ≡ asks.front (taken_by b p E)
 next-held b E p q next held same is read =
     read ∙ (ap (λ (c : Content). c.tables.next q) is ∙ (ap (tables b E).next same ∙ next-tables b E p))

@@ -22,23 +22,27 @@ rest_in [] = []
 rest_in (row ∷ rows) = rows
 
 -- the first of the rows from a number on stands there or past it
-first_past : (count : ℕ) (all : Rows) (from : ℕ) (first : NumberedRow) (rest : List NumberedRow) → first ∷ rest ≡ rows_from count all from → from ≤ first.number
+first_past : (count : ℕ) (all : Rows) (from : ℕ) (first : NumberedRow) (rest : List NumberedRow) → first ∷ rest ≡ rows_from count all from
+    → from ≤ first.number
 first_past zero all from first rest is = absurd cc
 first_past (suc count) all from first rest is = at (all from) (λ later. let past = first_past count all (from + 1) first rest later in omega (arith, past)) is
   where
-    at : (row : Option CommandRow) → (first ∷ rest ≡ rows_from count all (from + 1) → from ≤ first.number) → first ∷ rest ≡ row_before from row (rows_from count all (from + 1)) → from ≤ first.number
+    at : (row : Option CommandRow) → (first ∷ rest ≡ rows_from count all (from + 1) → from ≤ first.number)
+        → first ∷ rest ≡ row_before from row (rows_from count all (from + 1)) → from ≤ first.number
     at None further later = further later
     at (Some row) further here = let same : first.number ≡ from = ap number_in here in omega (arith, same)
 
 module _ (all : Rows) (number : ℕ) where
   -- the rows are those behind, after the one at the number
-  cut : (rows : List NumberedRow) (run : IsRun all number (number + 1) rows) → rows ≡ row_before number (all number) (rows_between all (number + 1) run.end)
+  cut : (rows : List NumberedRow) (run : IsRun all number (number + 1) rows)
+      → rows ≡ row_before number (all number) (rows_between all (number + 1) run.end)
   cut rows run =
       let reaches = run.reaches in
       let one_more : run.end - number ≡ suc (run.end - (number + 1)) = omega (arith, reaches) in
       run.is_between ∙ ap (λ count. rows_from count all number) one_more
 
-  behind : (rows : List NumberedRow) (run : IsRun all number (number + 1) rows) → IsRun all (number + 1) (number + 1) (rows_between all (number + 1) run.end)
+  behind : (rows : List NumberedRow) (run : IsRun all number (number + 1) rows)
+      → IsRun all (number + 1) (number + 1) (rows_between all (number + 1) run.end)
   behind rows run = record { end = run.end; reaches = run.reaches; unbroken = run.unbroken; gap = run.gap; is_between = refl }
 
   pub one_stands : (first : NumberedRow) (rest : List NumberedRow) → first.number ≡ number → IsRun all number (number + 1) (first ∷ rest)

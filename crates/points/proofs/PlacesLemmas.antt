@@ -78,7 +78,8 @@ get-numbered row k = get-from_sorted nat_cmp (numbered 1 row) (suc k) (is_sorted
 pub get-numbered_0 : (row : List (Option ℤ)) → get (from_sorted {R = nat_cmp} (numbered 1 row)) 0 ≡ None
 get-numbered_0 row = get-from_sorted nat_cmp (numbered 1 row) 0 (is_sorted-numbered row 1) ∙ find-numbered_below row 1 0 (omega arith)
 
-get-put : (places : Places) (priority q : ℕ) (value : Option ℤ) → get (put places priority value) q ≡ cond (eq_by_cmp nat_cmp q priority) value (get places q)
+get-put : (places : Places) (priority q : ℕ) (value : Option ℤ)
+    → get (put places priority value) q ≡ cond (eq_by_cmp nat_cmp q priority) value (get places q)
 get-put places priority q None = get-remove nat_cmp_total places priority q
 get-put places priority q (Some value) = get-insert nat_cmp_total places priority value q
 
@@ -99,7 +100,8 @@ pub numbered-set : (row : List (Option ℤ)) (i : ℕ) (value : Option ℤ) → 
     → from_sorted {R = nat_cmp} (numbered 1 (set row i value)) ≡ put (from_sorted {R = nat_cmp} (numbered 1 row)) (i + 1) value
 numbered-set row i value h = same_map nat_cmp_total nat_cmp-IsAntisymmetric _ _ agree
   where
-    agree : (q : ℕ) → get (from_sorted {R = nat_cmp} (numbered 1 (set row i value))) q ≡ get (put (from_sorted {R = nat_cmp} (numbered 1 row)) (i + 1) value) q
+    agree : (q : ℕ)
+        → get (from_sorted {R = nat_cmp} (numbered 1 (set row i value))) q ≡ get (put (from_sorted {R = nat_cmp} (numbered 1 row)) (i + 1) value) q
     agree zero = let apart : zero ≢ i + 1 = omega arith in
         get-numbered_0 (set row i value) ∙ sym (get-put _ (i + 1) zero value ∙ passed _ _ _ (tied_apart zero (i + 1) apart) ∙ get-numbered_0 row)
     agree (suc k) = get-numbered (set row i value) k ∙ same_at row i value k h
@@ -171,7 +173,8 @@ first_of-least (e ∷ es) q v d sorted found none =
     ]
 
 -- the present value is the value at the least priority that has one
-pub present_of-least : (places : Places) (q : ℕ) (v d : ℤ) → get places q ≡ Some v → ((j : ℕ) → j < q → get places j ≡ None) → (v, q) ≡ present_of places d
+pub present_of-least : (places : Places) (q : ℕ) (v d : ℤ) → get places q ≡ Some v → ((j : ℕ) → j < q → get places j ≡ None)
+    → (v, q) ≡ present_of places d
 unfolding present_of
 present_of-least places q v d found none =
     sym (first_of-least (entries places) q v d (entries_sorted places) (sym (get-entries places q) ∙ found) (λ j h. sym (get-entries places j) ∙ none j h))

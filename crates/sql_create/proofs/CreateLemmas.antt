@@ -68,7 +68,8 @@ module _ (before after : Schema) (sql : List ℕ) (table : Table) (text : MakesT
         subst (λ (d : Database). KeepsRows before.tables old.now.trees d.trees) (sym now) (subst (λ (s : Schema). KeepsRows s.tables old.now.trees first.0.trees) has made.others),
       )
 
-  pub makes : (old new : State) (r : Result ℕ Error) → IsInside before old → (IsTrue old.in_transaction → ExecutesInside 0 sql [] old new r) → OnOk r (MakesTableIn before after old new)
+  pub makes : (old new : State) (r : Result ℕ Error) → IsInside before old → (IsTrue old.in_transaction → ExecutesInside 0 sql [] old new r)
+      → OnOk r (MakesTableIn before after old new)
   makes old new (Err e) at h = tt
   makes old new (Ok count) at h =
       let ran = h at.mode in
@@ -94,22 +95,28 @@ grows_imported : Grows schema_5 desk_schema imported_table
 grows_imported = record { is = refl; plain = refl }
 
 module _ (old new : State) (r : Result ℕ Error) where
-  pub desk_is_made : IsInside schema_0 old → (IsTrue old.in_transaction → ExecutesInside 0 create_desk [] old new r) → OnOk r (MakesTableIn schema_0 schema_1 old new)
+  pub desk_is_made : IsInside schema_0 old → (IsTrue old.in_transaction → ExecutesInside 0 create_desk [] old new r)
+      → OnOk r (MakesTableIn schema_0 schema_1 old new)
   desk_is_made = makes schema_0 schema_1 create_desk desk_table makes_desk grows_desk old new r
 
-  pub panel_is_made : IsInside schema_1 old → (IsTrue old.in_transaction → ExecutesInside 0 create_panel [] old new r) → OnOk r (MakesTableIn schema_1 schema_2 old new)
+  pub panel_is_made : IsInside schema_1 old → (IsTrue old.in_transaction → ExecutesInside 0 create_panel [] old new r)
+      → OnOk r (MakesTableIn schema_1 schema_2 old new)
   panel_is_made = makes schema_1 schema_2 create_panel panel_table makes_panel grows_panel old new r
 
-  pub command_is_made : IsInside schema_2 old → (IsTrue old.in_transaction → ExecutesInside 0 create_command [] old new r) → OnOk r (MakesTableIn schema_2 schema_3 old new)
+  pub command_is_made : IsInside schema_2 old → (IsTrue old.in_transaction → ExecutesInside 0 create_command [] old new r)
+      → OnOk r (MakesTableIn schema_2 schema_3 old new)
   command_is_made = makes schema_2 schema_3 create_command command_table makes_command grows_command old new r
 
-  pub place_is_made : IsInside schema_3 old → (IsTrue old.in_transaction → ExecutesInside 0 create_place [] old new r) → OnOk r (MakesTableIn schema_3 schema_4 old new)
+  pub place_is_made : IsInside schema_3 old → (IsTrue old.in_transaction → ExecutesInside 0 create_place [] old new r)
+      → OnOk r (MakesTableIn schema_3 schema_4 old new)
   place_is_made = makes schema_3 schema_4 create_place place_table makes_place grows_place old new r
 
-  pub shown_is_made : IsInside schema_4 old → (IsTrue old.in_transaction → ExecutesInside 0 create_shown [] old new r) → OnOk r (MakesTableIn schema_4 schema_5 old new)
+  pub shown_is_made : IsInside schema_4 old → (IsTrue old.in_transaction → ExecutesInside 0 create_shown [] old new r)
+      → OnOk r (MakesTableIn schema_4 schema_5 old new)
   shown_is_made = makes schema_4 schema_5 create_shown shown_table makes_shown grows_shown old new r
 
-  pub imported_is_made : IsInside schema_5 old → (IsTrue old.in_transaction → ExecutesInside 0 create_imported [] old new r) → OnOk r (MakesTableIn schema_5 desk_schema old new)
+  pub imported_is_made : IsInside schema_5 old → (IsTrue old.in_transaction → ExecutesInside 0 create_imported [] old new r)
+      → OnOk r (MakesTableIn schema_5 desk_schema old new)
   imported_is_made = makes schema_5 desk_schema create_imported imported_table makes_imported grows_imported old new r
 
 -- ---- nothing is committed
@@ -133,15 +140,18 @@ clean_before a b P one clean = omega (arith, one.clean)
 
 -- ---- the tables in turn
 
-empty_kept : (tables : List Table) (old new : Trees) → AllByRecursion (λ t. old t.tree ≡ []) tables → KeepsRows tables old new → AllByRecursion (λ t. new t.tree ≡ []) tables
+empty_kept : (tables : List Table) (old new : Trees) → AllByRecursion (λ t. old t.tree ≡ []) tables → KeepsRows tables old new
+    → AllByRecursion (λ t. new t.tree ≡ []) tables
 empty_kept [] old new none kept = tt
 empty_kept (t ∷ ts) old new none kept = (kept.0 ∙ none.0, empty_kept ts old new none.1 kept.1)
 
-empty_more : (tables : List Table) (table : Table) (trees : Trees) → AllByRecursion (λ t. trees t.tree ≡ []) tables → trees table.tree ≡ [] → AllByRecursion (λ t. trees t.tree ≡ []) (tables ++ table ∷ [])
+empty_more : (tables : List Table) (table : Table) (trees : Trees) → AllByRecursion (λ t. trees t.tree ≡ []) tables → trees table.tree ≡ []
+    → AllByRecursion (λ t. trees t.tree ≡ []) (tables ++ table ∷ [])
 empty_more [] table trees none last = (last, tt)
 empty_more (t ∷ ts) table trees none last = (none.0, empty_more ts table trees none.1 last)
 
-next_is_empty : (before after : Schema) (table : Table) → after.tables ≡ before.tables ++ table ∷ [] → table.tree ≡ next_tree before → (old new : State) → IsEmptyAs before old → MakesTableIn before after old new → IsEmptyAs after new
+next_is_empty : (before after : Schema) (table : Table) → after.tables ≡ before.tables ++ table ∷ [] → table.tree ≡ next_tree before
+    → (old new : State) → IsEmptyAs before old → MakesTableIn before after old new → IsEmptyAs after new
 next_is_empty before after table is at old new none made = record {
   inside = record { mode = made.shown.mode; schema_is = made.schema_is };
   empty = subst (AllByRecursion (λ t. new.now.trees t.tree ≡ [])) (sym is)
@@ -202,7 +212,8 @@ record Adds (old new : State) : Type 0 where
   rows : new.now.trees 0 ≡ first_desk_row ∷ []
   others : AllByRecursion (λ t. t.tree ≢ 0 → new.now.trees t.tree ≡ old.now.trees t.tree) desk_schema.tables
 
-adds : (old new : State) (count : ℕ) → old.now.schema ≡ desk_schema → old.now.trees 0 ≡ [] → Executes first_row_text [] old new (Ok count) → Adds old new
+adds : (old new : State) (count : ℕ) → old.now.schema ≡ desk_schema → old.now.trees 0 ≡ [] → Executes first_row_text [] old new (Ok count)
+    → Adds old new
 adds old new count has none h =
     let db = old.now.trees in
     let command = Insert 0 (Values (lit (Int (pos 1)) ∷ lit Null ∷ lit (Int (pos 2)) ∷ lit Null ∷ []) 4) in
@@ -223,7 +234,8 @@ adds old new count has none h =
       others = subst (λ (t : Trees). AllByRecursion (λ table. table.tree ≢ 0 → t table.tree ≡ db table.tree) desk_schema.tables) (sym all) step.tables;
     }
 
-pub first_row_is_made : (old new : State) (r : Result ℕ Error) → IsEmptyAs desk_schema old → (IsTrue old.in_transaction → ExecutesInside 0 first_row_text [] old new r) → OnOk r (IsFilled new)
+pub first_row_is_made : (old new : State) (r : Result ℕ Error) → IsEmptyAs desk_schema old
+    → (IsTrue old.in_transaction → ExecutesInside 0 first_row_text [] old new r) → OnOk r (IsFilled new)
 first_row_is_made old new (Err e) at h = tt
 first_row_is_made old new (Ok count) at h =
     let ran = h at.inside.mode in
@@ -244,19 +256,22 @@ first_row_is_made old new (Ok count) at h =
 
 -- ---- the transaction ends
 
-pub execution_stays : (sql : List ℕ) (old new : State) (r : Result ℕ Error) → (IsTrue old.in_transaction → ExecutesInside 0 sql [] old new r) → IsTrue old.in_transaction → OnOk r (IsTrue new.in_transaction)
+pub execution_stays : (sql : List ℕ) (old new : State) (r : Result ℕ Error)
+    → (IsTrue old.in_transaction → ExecutesInside 0 sql [] old new r) → IsTrue old.in_transaction → OnOk r (IsTrue new.in_transaction)
 execution_stays sql old new (Err e) h inside = tt
 execution_stays sql old new (Ok count) h inside = (h inside).1.mode
 
 module _ {S : Type 0} (g : Ghosts S) (old mid new : Held S) where
-  pub gone_back : (IsTrue (state g old).is_open → (state g old).now ≡ (state g old).committed) → KeepsCommit (state g (record old { in_transaction = true })) (state g mid) → IsRolledBack (state g mid) (state g new)
+  pub gone_back : (IsTrue (state g old).is_open → (state g old).now ≡ (state g old).committed)
+      → KeepsCommit (state g (record old { in_transaction = true })) (state g mid) → IsRolledBack (state g mid) (state g new)
       → IsTrue (state g new).is_open → IsAsBefore (state g old) (state g new)
   gone_back settled kept undone is_open =
       let same : (state g mid).committed ≡ (state g old).committed = kept.committed (undone.was_open is_open) in
       let was = settled (kept.was_open (undone.was_open is_open)) in
       record { now = (undone.undone is_open).0 ∙ same ∙ sym was; committed = (undone.undone is_open).1 ∙ same }
 
-  pub not_committed : (e : Error) → (IsTrue (state g old).is_open → (state g old).now ≡ (state g old).committed) → KeepsCommit (state g (record old { in_transaction = true })) (state g mid) → IsTrue (state g mid).in_transaction
+  pub not_committed : (e : Error) → (IsTrue (state g old).is_open → (state g old).now ≡ (state g old).committed)
+      → KeepsCommit (state g (record old { in_transaction = true })) (state g mid) → IsTrue (state g mid).in_transaction
       → FailsToCommit (state g mid) (state g new) e → IsTrue (state g new).is_open → IsAsBefore (state g old) (state g new)
   not_committed e settled kept inside (inl failed) is_open = gone_back settled kept failed.3 is_open
   not_committed e settled kept inside (inr late) is_open = absurd (both_ways _ late.1 inside)

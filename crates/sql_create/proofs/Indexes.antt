@@ -8,7 +8,8 @@ use Rattle.sql_create.specs.Recognised.{key_index}
 one : decimal 1 ≡ codes "1"
 one = decimal_digit 1 (omega arith)
 
-named : (name : List ℕ) (tree table : ℕ) (columns : List ℕ) → key_index (codes "sqlite_autoindex_" ++ (name ++ (codes "_" ++ decimal 1))) tree table columns ≡ key_index (codes "sqlite_autoindex_" ++ (name ++ codes "_1")) tree table columns
+named : (name : List ℕ) (tree table : ℕ) (columns : List ℕ)
+    → key_index (codes "sqlite_autoindex_" ++ (name ++ (codes "_" ++ decimal 1))) tree table columns ≡ key_index (codes "sqlite_autoindex_" ++ (name ++ codes "_1")) tree table columns
 named name tree table columns = ap (λ digits. key_index (codes "sqlite_autoindex_" ++ (name ++ (codes "_" ++ digits))) tree table columns) one
 
 pub desk_indexes : desk_schema.indexes

@@ -49,7 +49,8 @@ imported_row kept calendar text is = elim (some_passes (of_entry calendar text) 
 abbrev pub is_next : Text → Text → Row → Bool
 is_next calendar after row = is_text calendar (column row 1) && is_after after (column row 2)
 
-picked_next : (calendar after text : Text) (row : Row) → is_text calendar (column row 1) ≡ true → column row 2 ≡ TextCell text → IsBefore after text → is_next calendar after row ≡ true
+picked_next : (calendar after text : Text) (row : Row) → is_text calendar (column row 1) ≡ true → column row 2 ≡ TextCell text
+    → IsBefore after text → is_next calendar after row ≡ true
 picked_next calendar after text row name cell past = and_from _ _ name (ap (is_after after) cell ∙ before_after after text past)
 
 module _ (calendar after : Text) (kept : Kept) (answer : List Row) (named : IsName calendar) (found : FindsLeast (is_next calendar after) 2 kept.imported answer) where
@@ -58,7 +59,8 @@ module _ (calendar after : Text) (kept : Kept) (answer : List Row) (named : IsNa
       let row = imported_row kept calendar text is in
       passes_nothing (is_next calendar after) kept.imported row.0 (found.none none) row.1 (picked_next calendar after text row.0 row.2 row.3 past)
 
-  pub entry_some : (shown : Row) (more : List Row) (entry : Entry) → answer ≡ shown ∷ more → entry_in (column shown 0) ≡ Some entry → IsEntryAt (tables_in kept) calendar after entry
+  pub entry_some : (shown : Row) (more : List Row) (entry : Entry) → answer ≡ shown ∷ more → entry_in (column shown 0) ≡ Some entry
+      → IsEntryAt (tables_in kept) calendar after entry
   entry_some shown more entry is reads =
       let it = found.some shown more is in
       let both = and_parts (is_text calendar (column it.0 1)) (is_after after (column it.0 2)) it.2 in

@@ -15,22 +15,26 @@ module _ (pick : Row → Bool) (show : Row → Row) where
   pub found_none : (rows answer : List Row) → Finds pick show rows answer → answer ≡ [] → filter pick rows ≡ []
   found_none rows answer found none = none_from (filter pick rows) answer found.shown none
 
-  one_from : (picked answer : List Row) (shown : Row) → IsPermutation (map show picked) answer → answer ≡ shown ∷ [] → (row : Row) × (picked ≡ row ∷ []) × (shown ≡ show row)
+  one_from : (picked answer : List Row) (shown : Row) → IsPermutation (map show picked) answer → answer ≡ shown ∷ []
+      → (row : Row) × (picked ≡ row ∷ []) × (shown ≡ show row)
   one_from [] answer shown same one = absurd (omega (arith, length_permutation (map show []) answer same, ap length one))
   one_from (x ∷ []) answer shown same one =
       let whole : answer ≡ show x ∷ [] = one_permutation (show x) answer same in
       (x, refl, (let both : shown ∷ [] ≡ show x ∷ [] = sym one ∙ whole in cc))
   one_from (x ∷ y ∷ xs) answer shown same one = absurd (omega (arith, length_permutation (map show (x ∷ y ∷ xs)) answer same, ap length one))
 
-  pub found_one : (rows answer : List Row) (shown : Row) → Finds pick show rows answer → answer ≡ shown ∷ [] → (row : Row) × (filter pick rows ≡ row ∷ []) × (shown ≡ show row)
+  pub found_one : (rows answer : List Row) (shown : Row) → Finds pick show rows answer → answer ≡ shown ∷ []
+      → (row : Row) × (filter pick rows ≡ row ∷ []) × (shown ≡ show row)
   found_one rows answer shown found one = one_from (filter pick rows) answer shown found.shown one
 
-  two_from : (picked answer : List Row) (a b : Row) (more : List Row) → IsPermutation (map show picked) answer → answer ≡ a ∷ b ∷ more → (x : Row) × (y : Row) × (others : List Row) × (picked ≡ x ∷ y ∷ others)
+  two_from : (picked answer : List Row) (a b : Row) (more : List Row) → IsPermutation (map show picked) answer → answer ≡ a ∷ b ∷ more
+      → (x : Row) × (y : Row) × (others : List Row) × (picked ≡ x ∷ y ∷ others)
   two_from [] answer a b more same two = absurd (omega (arith, length_permutation (map show []) answer same, ap length two))
   two_from (x ∷ []) answer a b more same two = absurd (omega (arith, length_permutation (map show (x ∷ [])) answer same, ap length two))
   two_from (x ∷ y ∷ xs) answer a b more same two = (x, y, xs, refl)
 
-  pub found_two : (rows answer : List Row) (a b : Row) (more : List Row) → Finds pick show rows answer → answer ≡ a ∷ b ∷ more → (x : Row) × (y : Row) × (others : List Row) × (filter pick rows ≡ x ∷ y ∷ others)
+  pub found_two : (rows answer : List Row) (a b : Row) (more : List Row) → Finds pick show rows answer → answer ≡ a ∷ b ∷ more
+      → (x : Row) × (y : Row) × (others : List Row) × (filter pick rows ≡ x ∷ y ∷ others)
   found_two rows answer a b more found two = two_from (filter pick rows) answer a b more found.shown two
 
 pub several_of : (rows : List Row) → 2 ≤ length rows → AreSeveral rows

@@ -41,7 +41,8 @@ module _ (after : Text) (table answer : List Row) (found : FindsLeast (λ row. i
   name_none none text has past =
       passes_nothing (λ row. is_after after (column row 1)) table has.0 (found.none none) has.1 (ap (is_after after) has.2 ∙ before_after after text past)
 
-  pub name_some : (shown : Row) (more : List Row) (name : Text) → answer ≡ shown ∷ more → name_in (column shown 0) ≡ Some name → IsTextAt (HasName table) after name
+  pub name_some : (shown : Row) (more : List Row) (name : Text) → answer ≡ shown ∷ more → name_in (column shown 0) ≡ Some name
+      → IsTextAt (HasName table) after name
   name_some shown more name is reads =
       let it = found.some shown more is in
       let cell : column shown 0 ≡ column it.0 1 = ap (λ r. column r 0) it.3 in
@@ -76,7 +77,8 @@ bad_calendar kept has = bad_imported kept has.0 (contains_had kept.imported has.
 
 -- ---- the next of fewer names, and of two lists
 
-pub next_fewer : (Many Few : Text → Type 0) (after : Text) (o : Option Text) → ((text : Text) → Few text → Many text) → IsNextText Many after o → IsNextText Few after o
+pub next_fewer : (Many Few : Text → Type 0) (after : Text) (o : Option Text) → ((text : Text) → Few text → Many text)
+    → IsNextText Many after o → IsNextText Few after o
 next_fewer Many Few after None fewer none = λ text is past. none text (fewer text is) past
 next_fewer Many Few after (Some text) fewer at = record { past = at.past; least = λ other is past before. at.least other (fewer other is) past before }
 
@@ -134,7 +136,8 @@ module _ (One Other : Text → Type 0) (after : Text) where
     ];
   }
 
-  pub next_either : (first second result : Option Text) → IsLesser first second result → IsNextText One after first → IsNextText Other after second → IsNextText Either after result
+  pub next_either : (first second result : Option Text) → IsLesser first second result → IsNextText One after first
+      → IsNextText Other after second → IsNextText Either after result
   next_either None second result is one other = subst (IsNextText Either after) (sym is) (only_other second one other)
   next_either (Some a) None result is one other = subst (IsNextText Either after) (sym is) (only_one (Some a) one other)
   next_either (Some a) (Some b) result is one other = elim is [
@@ -177,13 +180,15 @@ panel_named kept name (inr row) = elim (some_passes (of_command name row.0) kept
 
 -- ---- whether a name stands
 
-pub schedule_tells : (tables : Tables) (name : Text) (told : Option (Option ℤ)) → told ≡ tables.shown name → Tells (HasSchedule tables name) (is_some told)
+pub schedule_tells : (tables : Tables) (name : Text) (told : Option (Option ℤ)) → told ≡ tables.shown name
+    → Tells (HasSchedule tables name) (is_some told)
 schedule_tells tables name told is = record {
   held = λ some. ap is_some (sym is) ∙ some;
   gone = λ none has. both_ways (is_some told) none (ap is_some is ∙ has);
 }
 
-pub calendar_tells : (kept : Kept) (name : Text) (o : Option Entry) → IsNextEntry (tables_in kept) name [] o → Tells (HasCalendar (tables_in kept) name) (is_some o)
+pub calendar_tells : (kept : Kept) (name : Text) (o : Option Entry) → IsNextEntry (tables_in kept) name [] o
+    → Tells (HasCalendar (tables_in kept) name) (is_some o)
 calendar_tells kept name None none = record {
   held = λ some. absurd (true≢false (sym some));
   gone = λ _ has. no_empty_entry kept name (subst (IsImported (tables_in kept) name) (empty_or_after has.0 (λ past. none has.0 has.1 past)) has.1);
@@ -196,7 +201,8 @@ calendar_tells kept name (Some entry) at = record {
 pub panel_numbered : (tables : Tables) (name : Text) → (tables.next name ≡ 1 → ⊥) → Tells (HasPanel tables name) true
 panel_numbered tables name other = record { held = λ _. inl other; gone = λ none. absurd (true≢false none) }
 
-pub panel_tells : (tables : Tables) (name : Text) (o : Option NumberedRow) → tables.next name ≡ 1 → IsNextRow (tables.row name) 0 o → Tells (HasPanel tables name) (is_some o)
+pub panel_tells : (tables : Tables) (name : Text) (o : Option NumberedRow) → tables.next name ≡ 1 → IsNextRow (tables.row name) 0 o
+    → Tells (HasPanel tables name) (is_some o)
 panel_tells tables name None one none = record {
   held = λ some. absurd (true≢false (sym some));
   gone = λ _ has. elim has [
@@ -215,7 +221,8 @@ point_held tables name q some = record {
   gone = λ none. absurd (true≢false none);
 }
 
-pub point_gone : (kept : Kept) (name : Text) → ((q : ℕ) → 1 ≤ q → q < 17 → get ((tables_in kept).places name) q ≡ None) → Tells (HasPoint (tables_in kept) name) false
+pub point_gone : (kept : Kept) (name : Text) → ((q : ℕ) → 1 ≤ q → q < 17 → get ((tables_in kept).places name) q ≡ None)
+    → Tells (HasPoint (tables_in kept) name) false
 point_gone kept name none = record {
   held = λ some. absurd (true≢false (sym some));
   gone = λ _ has. has (no_places kept name all);
@@ -238,7 +245,8 @@ point_gone kept name none = record {
 
 -- ---- nothing stands under an empty name
 
-unsaid : {Item : Type 0} (said : Row → Option Item) (of_key : Row → Bool) (has_key : Item → Bool) → Agrees said of_key has_key → ((row : Row) → of_key row ≡ true → said row ≡ None)
+unsaid : {Item : Type 0} (said : Row → Option Item) (of_key : Row → Bool) (has_key : Item → Bool) → Agrees said of_key has_key
+    → ((row : Row) → of_key row ≡ true → said row ≡ None)
     → Agrees said (λ row. false) has_key
 unsaid {Item} said of_key has_key agrees none row item says = sym (sym (agrees row item says) ∙ of (of_key row) refl)
   where
@@ -301,7 +309,8 @@ no_value None is = refl
 no_value (Some v) is = absurd (true≢false is)
 
 -- a place more without a value
-pub point_more : (places : Places) (priority : ℕ) → ((q : ℕ) → 1 ≤ q → q < priority → get places q ≡ None) → get places priority ≡ None → (q : ℕ) → 1 ≤ q → q < priority + 1 → get places q ≡ None
+pub point_more : (places : Places) (priority : ℕ) → ((q : ℕ) → 1 ≤ q → q < priority → get places q ≡ None) → get places priority ≡ None
+    → (q : ℕ) → 1 ≤ q → q < priority + 1 → get places q ≡ None
 point_more places priority none here q low high = elim (cases_order q priority) [
   | inl same ↦ ap (get places) same ∙ here
   | inr apart ↦ elim apart [
@@ -310,7 +319,8 @@ point_more places priority none here q low high = elim (cases_order q priority) 
   ]
 ]
 
-pub all_stand : (tables : Tables) (names : Names) → AreTexts (StandsIn Panels tables) names.panels.items → AreTexts (StandsIn Points tables) names.points.items
+pub all_stand : (tables : Tables) (names : Names) → AreTexts (StandsIn Panels tables) names.panels.items
+    → AreTexts (StandsIn Points tables) names.points.items
     → AreTexts (StandsIn Schedules tables) names.schedules.items → AreTexts (StandsIn Calendars tables) names.calendars.items → AreNames tables names
 unfolding StandsIn
 all_stand tables names panels points schedules calendars = record { panels = panels; points = points; schedules = schedules; calendars = calendars }

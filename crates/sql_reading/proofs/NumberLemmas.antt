@@ -75,7 +75,8 @@ not_less m n is less =
 -- ---- rows
 
 -- a row under a number is one of the rows
-pub count_of_row : (panel : List ℕ) (kept : Kept) (from n : ℕ) (row : Row) → of_command panel n row ≡ true → from ≤ n → (is_text panel (column row 1) && is_from from (column row 2)) ≡ true
+pub count_of_row : (panel : List ℕ) (kept : Kept) (from n : ℕ) (row : Row) → of_command panel n row ≡ true → from ≤ n
+    → (is_text panel (column row 1) && is_from from (column row 2)) ≡ true
 count_of_row panel kept from n row is more =
     let both = and_parts (is_text panel (column row 1)) (is_count n (column row 2)) is in
     and_from _ _ both.0 (is_from-count from n (column row 2) (count_here n (column row 2) both.1) more)
@@ -83,11 +84,13 @@ count_of_row panel kept from n row is more =
 abbrev pub is_picked : List ℕ → ℕ → Row → Bool
 is_picked panel from row = is_text panel (column row 1) && is_from from (column row 2)
 
-pub number_none : (panel : List ℕ) (kept : Kept) (from : ℕ) → filter (is_picked panel from) kept.command ≡ [] → (n : ℕ) → from ≤ n → (tables_in kept).row panel n ≡ None
+pub number_none : (panel : List ℕ) (kept : Kept) (from : ℕ) → filter (is_picked panel from) kept.command ≡ [] → (n : ℕ) → from ≤ n
+    → (tables_in kept).row panel n ≡ None
 number_none panel kept from none n more =
     no_command panel n kept (nothing_passes (of_command panel n) kept.command (λ row h is. passes_nothing (is_picked panel from) kept.command row none h (count_of_row panel kept from n row is more)))
 
-row_stays : (panel : List ℕ) (number : ℕ) (y : KeptRow) (t : List ℕ → Rows) → is_some (t panel number) ≡ true → is_some (with_row y t panel number) ≡ true
+row_stays : (panel : List ℕ) (number : ℕ) (y : KeptRow) (t : List ℕ → Rows) → is_some (t panel number) ≡ true
+    → is_some (with_row y t panel number) ≡ true
 row_stays panel number y t is = elim (cases_Bool (bytes_eq y.panel panel && y.number == number)) [
   | inl at ↦ rw at refl
   | inr off ↦ rw off is
@@ -96,14 +99,16 @@ row_stays panel number y t is = elim (cases_Bool (bytes_eq y.panel panel && y.nu
 row_shows : (y : KeptRow) (t : List ℕ → Rows) → is_some (with_row y t y.panel y.number) ≡ true
 row_shows y t = rw (text-same y.panel y.panel refl, eq-eqb y.number y.number refl) refl
 
-pub here_command : (kept : Kept) (row : Row) (item : KeptRow) → Contains kept.command row → command_said row ≡ Some item → is_some ((tables_in kept).row item.panel item.number) ≡ true
+pub here_command : (kept : Kept) (row : Row) (item : KeptRow) → Contains kept.command row → command_said row ≡ Some item
+    → is_some ((tables_in kept).row item.panel item.number) ≡ true
 here_command kept row item here says =
     here-row command_said with_row (λ t. is_some (t item.panel item.number))
     (λ y t is. row_stays item.panel item.number y t is)
     item (λ t. row_shows item t) kept.command row says here.0 here.1 here.2 (λ panel number. None)
 
 -- a row that is there tells a command, or it is none that can stand
-said_or_bad : (kept : Kept) (row : Row) (number : ℕ) (panel : List ℕ) (o : Option KeptRow) → command_said row ≡ o → Contains kept.command row → column row 1 ≡ Text panel → column row 2 ≡ Int (pos number)
+said_or_bad : (kept : Kept) (row : Row) (number : ℕ) (panel : List ℕ) (o : Option KeptRow) → command_said row ≡ o
+    → Contains kept.command row → column row 1 ≡ Text panel → column row 2 ≡ Int (pos number)
     → (tables_in kept).row panel number ≡ None → is_sound_in kept ≡ false
 said_or_bad kept row number panel None says here name count none = bad_command kept row here says
 said_or_bad kept row number panel (Some item) says here name count none =
@@ -121,7 +126,8 @@ module _ (panel : List ℕ) (from : ℕ) (kept : Kept) (answer : List Row) (name
   pub told_none : answer ≡ [] → IsNextNumber kept panel from None
   told_none none = number_none panel kept from (found.none none)
 
-  pub told_some : (shown : Row) (more : List Row) (number : ℕ) → answer ≡ shown ∷ more → count_in 1 1_000_000_000_000 (column shown 0) ≡ Some number → IsNumberAt kept panel from number
+  pub told_some : (shown : Row) (more : List Row) (number : ℕ) → answer ≡ shown ∷ more
+      → count_in 1 1_000_000_000_000 (column shown 0) ≡ Some number → IsNumberAt kept panel from number
   told_some shown more number is reads =
       let it = found.some shown more is in
       let both = and_parts (is_text panel (column it.0 1)) (is_from from (column it.0 2)) it.2 in
@@ -145,7 +151,8 @@ module _ (panel : List ℕ) (from : ℕ) (kept : Kept) (answer : List Row) (name
         | inr is ↦ ltb-false number from is
       ]
 
-  pub told_bad : (shown : Row) (more : List Row) → answer ≡ shown ∷ more → count_in 1 1_000_000_000_000 (column shown 0) ≡ None → is_sound_in kept ≡ false
+  pub told_bad : (shown : Row) (more : List Row) → answer ≡ shown ∷ more → count_in 1 1_000_000_000_000 (column shown 0) ≡ None
+      → is_sound_in kept ≡ false
   told_bad shown more is reads =
       let it = found.some shown more is in
       let both = and_parts (is_text panel (column it.0 1)) (is_from from (column it.0 2)) it.2 in
@@ -182,7 +189,8 @@ pub none_picked : (rows : List Row) → filter (λ row. false) rows ≡ []
 none_picked [] = refl
 none_picked (row ∷ rows) = none_picked rows
 
-pub no_row_outside : (panel : List ℕ) (number : ℕ) (kept : Kept) → (1 ≤ number → number ≤ 1_000_000_000_000 → ⊥) → (tables_in kept).row panel number ≡ None
+pub no_row_outside : (panel : List ℕ) (number : ℕ) (kept : Kept) → (1 ≤ number → number ≤ 1_000_000_000_000 → ⊥)
+    → (tables_in kept).row panel number ≡ None
 no_row_outside panel number kept outside =
     no-row command_said with_row (λ name n. None) (λ t. t panel number) (λ row. false) (λ y. bytes_eq panel y.panel && number == y.number)
     (λ row item says. sym (and_no (bytes_eq panel item.panel) (number == item.number) (other row item says (number == item.number) refl)))
@@ -204,13 +212,15 @@ ends_beyond panel kept from upto past = record { below = λ n more less. none_be
 
 -- ---- a row that is found
 
-pub row_told : (kept : Kept) (panel : List ℕ) (from number : ℕ) (row : CommandRow) → IsNumberAt kept panel from number → (tables_in kept).row panel number ≡ Some row
+pub row_told : (kept : Kept) (panel : List ℕ) (from number : ℕ) (row : CommandRow) → IsNumberAt kept panel from number
+    → (tables_in kept).row panel number ≡ Some row
     → IsRowAt ((tables_in kept).row panel) from (record { number = number; row = row })
 row_told kept panel from number row at is = record { after = at.after; between = at.between; here = is; greatest = at.greatest }
 
 -- ---- a run
 
-still : (rows : Rows) (from number count : ℕ) → from ≤ number → ((n : ℕ) → number ≤ n → n < number + count → rows n ≡ None) → rows_between rows from (number + count) ≡ rows_between rows from number
+still : (rows : Rows) (from number count : ℕ) → from ≤ number → ((n : ℕ) → number ≤ n → n < number + count → rows n ≡ None)
+    → rows_between rows from (number + count) ≡ rows_between rows from number
 still rows from number zero ordered none = let same : number + 0 ≡ number = omega arith in ap (rows_between rows from) same
 still rows from number (suc count) ordered none =
     let more : number + suc count ≡ number + count + 1 = omega arith in
@@ -218,7 +228,8 @@ still rows from number (suc count) ordered none =
     ap (rows_between rows from) more
     ∙ sym (next-none rows from (number + count) (rows_between rows from number) (omega (arith, ordered)) (sym (still rows from number count ordered (λ n low high. none n low (omega (arith, high))))) here)
 
-pub still_between : (rows : Rows) (from number end : ℕ) → from ≤ number → number ≤ end → AreNone rows number end → rows_between rows from end ≡ rows_between rows from number
+pub still_between : (rows : Rows) (from number end : ℕ) → from ≤ number → number ≤ end → AreNone rows number end
+    → rows_between rows from end ≡ rows_between rows from number
 still_between rows from number end ordered up none =
     let all : number + (end - number) ≡ end = omega (arith, up) in
     ap (rows_between rows from) (sym all) ∙ still rows from number (end - number) ordered (λ n low high. none n low (omega (arith, high, up)))
@@ -228,7 +239,8 @@ so_far_none rows from upto run ordered none =
     let zero_is : from - from ≡ 0 = omega arith in
     record { ordered = omega arith; are = none ∙ sym (ap (λ c. rows_from c rows from) zero_is); unbroken = λ n low high. absurd (omega (arith, ordered, low, high)) }
 
-pub so_far_more : (rows : Rows) (from upto number : ℕ) (found : NumberedRow) (run now : List NumberedRow) → AreSoFar rows from upto number run → IsNextOf rows number upto found
+pub so_far_more : (rows : Rows) (from upto number : ℕ) (found : NumberedRow) (run now : List NumberedRow)
+    → AreSoFar rows from upto number run → IsNextOf rows number upto found
     → now ≡ run ++ found ∷ [] → AreSoFar rows from upto (found.number + 1) now
 so_far_more rows from upto number found run now far next is =
     let after : number ≤ found.number = next.row.after in
@@ -248,7 +260,8 @@ so_far_more rows from upto number found run now far next is =
       ];
     }
 
-pub run_ends : (rows : Rows) (from upto number : ℕ) (run : List NumberedRow) → AreSoFar rows from upto number run → Ends rows number upto → IsRun rows from upto run
+pub run_ends : (rows : Rows) (from upto number : ℕ) (run : List NumberedRow) → AreSoFar rows from upto number run → Ends rows number upto
+    → IsRun rows from upto run
 run_ends rows from upto number run far ends = elim (cases_Bool (nat_lt number upto)) [
   | inl below ↦
       let less : number < upto = ltb-true number upto below in

@@ -22,7 +22,8 @@ module _ (point : List ℕ) (kept : Kept) (answer : List Row) (named : IsName po
       no_place point q kept (nothing_passes (of_place point q) kept.place
       (λ row h is. passes_nothing (is_picked point 1) kept.place row (found.none none) h (count_of_row point kept 1 q row is low)))
 
-  pub priority_some : (shown : Row) (more : List Row) (priority : ℕ) → answer ≡ shown ∷ more → count_in 1 16 (column shown 0) ≡ Some priority → AreNoneBelow ((tables_in kept).places point) priority
+  pub priority_some : (shown : Row) (more : List Row) (priority : ℕ) → answer ≡ shown ∷ more
+      → count_in 1 16 (column shown 0) ≡ Some priority → AreNoneBelow ((tables_in kept).places point) priority
   priority_some shown more priority is reads q low high =
       let it = found.some shown more is in
       let cell : column shown 0 ≡ column it.0 2 = ap (λ r. column r 0) it.3 in
@@ -40,12 +41,14 @@ module _ (point : List ℕ) (kept : Kept) (answer : List Row) (named : IsName po
       let none : count_in 1 16 (column it.0 2) ≡ None = ap (count_in 1 16) (sym cell) ∙ reads in
       bad_place kept it.0 (contains_had kept.place it.0 it.1) (rw (name_here point (column it.0 1) named both.0, none) refl)
 
-  pub priority_ok : (r : Result ℕ ReadFault) (shown : Row) (more : List Row) → answer ≡ shown ∷ more → IfOk r (λ x. count_in 1 16 (column shown 0) ≡ Some x)
+  pub priority_ok : (r : Result ℕ ReadFault) (shown : Row) (more : List Row) → answer ≡ shown ∷ more
+      → IfOk r (λ x. count_in 1 16 (column shown 0) ≡ Some x)
       → IfOk r (AreNoneBelow ((tables_in kept).places point))
   priority_ok (Err e) shown more is reads = tt
   priority_ok (Ok x) shown more is reads = priority_some shown more x is reads
 
-  pub priority_err : (r : Result ℕ ReadFault) (shown : Row) (more : List Row) → answer ≡ shown ∷ more → IfErr r (λ _. count_in 1 16 (column shown 0) ≡ None)
+  pub priority_err : (r : Result ℕ ReadFault) (shown : Row) (more : List Row) → answer ≡ shown ∷ more
+      → IfErr r (λ _. count_in 1 16 (column shown 0) ≡ None)
       → IfErr r (λ _. is_sound_in kept ≡ false)
   priority_err (Err e) shown more is reads = priority_bad shown more is reads
   priority_err (Ok x) shown more is reads = tt

@@ -56,7 +56,8 @@ count_read priority (Real x) is q = absurd (none≢some priority is)
 count_read priority (Blob b) is q = absurd (none≢some priority is)
 
 -- the rows of a priority, with one row more
-one_more : (rows : List Row) (i : ℕ) (row : Row) → i < length rows → row ≡ get_or rows i row → (q : ℕ) → rows_at q (take (i + 1) rows) ≡ rows_at q (take i rows) ++ cond (is_count q (column row 0)) (row ∷ []) []
+one_more : (rows : List Row) (i : ℕ) (row : Row) → i < length rows → row ≡ get_or rows i row → (q : ℕ)
+    → rows_at q (take (i + 1) rows) ≡ rows_at q (take i rows) ++ cond (is_count q (column row 0)) (row ∷ []) []
 one_more rows i row below is q =
     ap (rows_at q) (take_more rows i row below ∙ ap (λ r. take i rows ++ r ∷ []) (sym is)) ∙ filter-append (λ r. is_count q (column r 0)) (take i rows) (row ∷ [])
 
@@ -124,14 +125,16 @@ module _ (point : List ℕ) (kept : Kept) (answer : List Row) (named : IsName po
       let mapped : IsPermutation (map second (map both (filter (of_place point q) kept.place))) (map second (rows_at q answer)) = IsPermutation-map second _ _ seen in
       record { shown = subst (λ l. IsPermutation l (map second (rows_at q answer))) (map-map second both (filter (of_place point q) kept.place)) mapped }
 
-  inside : (array : Places) → AreTold answer array → (q : ℕ) → 1 ≤ q → q ≤ 16 → (o : Option ℤ) → get array q ≡ o → o ≡ get ((tables_in kept).places point) q
+  inside : (array : Places) → AreTold answer array → (q : ℕ) → 1 ≤ q → q ≤ 16 → (o : Option ℤ) → get array q ≡ o
+      → o ≡ get ((tables_in kept).places point) q
   inside array told q low high None is =
       sym (place_none point q kept (map second (rows_at q answer)) (named, count_given 1 16 q low high) (found_at q) (ap (map second) (told.none q is)))
   inside array told q low high (Some x) is =
       let it = told.some q x is in
       sym (place_one point q kept (map second (rows_at q answer)) (named, count_given 1 16 q low high) (found_at q) (second it.0) x (ap (map second) it.1) it.2)
 
-  outside : (array : Places) → AreTold answer array → (q : ℕ) → (1 ≤ q → q ≤ 16 → ⊥) → get ((tables_in kept).places point) q ≡ None → (o : Option ℤ) → get array q ≡ o → o ≡ get ((tables_in kept).places point) q
+  outside : (array : Places) → AreTold answer array → (q : ℕ) → (1 ≤ q → q ≤ 16 → ⊥) → get ((tables_in kept).places point) q ≡ None
+      → (o : Option ℤ) → get array q ≡ o → o ≡ get ((tables_in kept).places point) q
   outside array told q apart none None is = sym none
   outside array told q apart none (Some x) is = let lies = told.within q x is in absurd (apart lies.0 lies.1)
 
@@ -166,7 +169,8 @@ module _ (point : List ℕ) (kept : Kept) (answer : List Row) (named : IsName po
       let reads : count_in 1 16 (column it.0 2) ≡ None = ap (λ r. count_in 1 16 (column r 0)) (sym it.3) ∙ unread in
       bad_place kept it.0 it.1 (rw (name_here point (column it.0 1) named it.2, reads) refl)
 
-  no_value : (row : Row) (priority : ℕ) → Has answer row → count_in 1 16 (column row 0) ≡ Some priority → number_in (column row 1) ≡ None → is_sound_in kept ≡ false
+  no_value : (row : Row) (priority : ℕ) → Has answer row → count_in 1 16 (column row 0) ≡ Some priority → number_in (column row 1) ≡ None
+      → is_sound_in kept ≡ false
   no_value row priority had at unread =
       let it = origin row had in
       let counted : count_in 1 16 (column it.0 2) ≡ Some priority = ap (λ r. count_in 1 16 (column r 0)) (sym it.3) ∙ at in
@@ -203,5 +207,6 @@ module _ (point : List ℕ) (kept : Kept) (answer : List Row) (named : IsName po
     | inr fails ↦ absurd (true≢false (sym is ∙ ap (λ b. b || false) fails))
   ]
 
-  pub cannot : (i : ℕ) (row : Row) (old : Places) → i < length answer → row ≡ get_or answer i row → AreTold (take i answer) old → IsTrue (cannot_place row old) → is_sound_in kept ≡ false
+  pub cannot : (i : ℕ) (row : Row) (old : Places) → i < length answer → row ≡ get_or answer i row → AreTold (take i answer) old
+      → IsTrue (cannot_place row old) → is_sound_in kept ≡ false
   cannot i row old below here told is = of_parts i row old below here told (count_in 1 16 (column row 0)) (number_in (column row 1)) refl refl is

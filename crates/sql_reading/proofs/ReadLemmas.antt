@@ -24,7 +24,8 @@ read_none s = record {
 }
 
 -- a read that was answered
-pub read_then : (a b c : State) (fault : Option ReadFault) → is_sql fault ≡ false → HasRead a b → (b.in_transaction ≡ false → c.in_transaction ≡ false)
+pub read_then : (a b c : State) (fault : Option ReadFault) → is_sql fault ≡ false → HasRead a b
+    → (b.in_transaction ≡ false → c.in_transaction ≡ false)
     → (HasCleanDisk c → IsOurs b.now → Asks fault b c) → Survives b c (λ _. IsOurs b.now → ⊥) → HasRead a c
 read_then a b c fault told one mode two survives =
     let clean : HasCleanDisk c → HasCleanDisk b = clean_before b c survives.clean in
@@ -36,7 +37,8 @@ read_then a b c fault told one mode two survives =
     }
 
 -- a read that was refused
-pub asks_then : (a b c : State) (fault : Option ReadFault) → HasRead a b → Survives b c (λ _. IsOurs b.now → ⊥) → (HasCleanDisk c → IsOurs b.now → Asks fault b c)
+pub asks_then : (a b c : State) (fault : Option ReadFault) → HasRead a b → Survives b c (λ _. IsOurs b.now → ⊥)
+    → (HasCleanDisk c → IsOurs b.now → Asks fault b c)
     → HasCleanDisk c → IsOurs a.now → Asks fault a c
 asks_then a b c fault one survives two h own =
     let saw = one.sees (clean_before b c survives.clean h) own in

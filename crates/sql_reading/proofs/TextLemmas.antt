@@ -79,7 +79,8 @@ all_push : (P : Text → Type 0) (texts : List Text) (x : Text) → AllByRecursi
 all_push P [] x all here = (here, tt)
 all_push P (y ∷ ys) x all here = (all.0, all_push P ys x all.1 here)
 
-sorted_push : (texts : List Text) (x : Text) → IsStrictlySortedBy (slice_cmp nat_cmp) texts → AllByRecursion (λ t. IsBefore t x) texts → IsStrictlySortedBy (slice_cmp nat_cmp) (texts ++ x ∷ [])
+sorted_push : (texts : List Text) (x : Text) → IsStrictlySortedBy (slice_cmp nat_cmp) texts → AllByRecursion (λ t. IsBefore t x) texts
+    → IsStrictlySortedBy (slice_cmp nat_cmp) (texts ++ x ∷ [])
 unfolding IsStrictlySortedBy
 sorted_push [] x sorted below = (tt, tt)
 sorted_push (y ∷ ys) x sorted below = (all_push (λ t. IsBefore y t) ys x sorted.0 below.0, sorted_push ys x sorted.1 below.1)
@@ -94,7 +95,8 @@ texts_none holds empty = record {
 }
 
 -- a text that comes next, and that holds
-pub texts_more : (holds : Text → Type 0) (after x : Text) (texts : List Text) → AreTextsTo holds after texts → IsTextAt holds after x → holds x → AreTextsTo holds x (texts ++ x ∷ [])
+pub texts_more : (holds : Text → Type 0) (after x : Text) (texts : List Text) → AreTextsTo holds after texts → IsTextAt holds after x
+    → holds x → AreTextsTo holds x (texts ++ x ∷ [])
 texts_more holds after x texts far at is = record {
   rise = sorted_push texts x far.rise (from_contains (λ t. IsBefore t x) texts (λ t here. not_past t (far.below t here)));
   below = λ t here before. elim (Contains-push_cases texts x t here) [
@@ -130,7 +132,8 @@ texts_more holds after x texts far at is = record {
     ]
 
 -- a text that comes next, and that does not hold
-pub texts_past : (holds : Text → Type 0) (after x : Text) (texts : List Text) → AreTextsTo holds after texts → IsTextAt holds after x → (holds x → ⊥) → AreTextsTo holds x texts
+pub texts_past : (holds : Text → Type 0) (after x : Text) (texts : List Text) → AreTextsTo holds after texts → IsTextAt holds after x
+    → (holds x → ⊥) → AreTextsTo holds x texts
 texts_past holds after x texts far at not_held = record {
   rise = far.rise;
   below = λ t here before. far.below t here (before_then after x t at.past before);
@@ -150,14 +153,16 @@ texts_past holds after x texts far at not_held = record {
   ];
 }
 
-pub texts_all : (holds : Text → Type 0) (after : Text) (texts : List Text) → AreTextsTo holds after texts → IsNextText holds after None → AreTexts holds texts
+pub texts_all : (holds : Text → Type 0) (after : Text) (texts : List Text) → AreTextsTo holds after texts → IsNextText holds after None
+    → AreTexts holds texts
 texts_all holds after texts far none = record {
   rise = far.rise;
   each = λ t. ((λ here. far.each t here), (λ is. far.all t is (λ past. none t is past)));
 }
 
 -- a text that comes next, and whether it holds
-pub texts_step : (holds : Text → Type 0) (after x : Text) (texts now : List Text) (stands : Bool) → AreTextsTo holds after texts → IsTextAt holds after x → Tells (holds x) stands
+pub texts_step : (holds : Text → Type 0) (after x : Text) (texts now : List Text) (stands : Bool) → AreTextsTo holds after texts
+    → IsTextAt holds after x → Tells (holds x) stands
     → now ≡ cond stands (texts ++ x ∷ []) texts → AreTextsTo holds x now
 texts_step holds after x texts now true far at tells is = subst (AreTextsTo holds x) (sym is) (texts_more holds after x texts far at (tells.held refl))
 texts_step holds after x texts now false far at tells is = subst (AreTextsTo holds x) (sym is) (texts_past holds after x texts far at (tells.gone refl))

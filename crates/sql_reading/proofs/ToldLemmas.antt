@@ -54,7 +54,8 @@ module _ (panel : List ℕ) (kept : Kept) (answer : List Row) (named : IsName pa
   pub next_none : answer ≡ [] → (tables_in kept).next panel ≡ 1
   next_none none = no_next panel kept (found_none _ _ kept.panel answer found none)
 
-  pub next_one : (shown_row : Row) (x : ℕ) → answer ≡ shown_row ∷ [] → count_in 1 1_000_000_000_001 (column shown_row 0) ≡ Some x → (tables_in kept).next panel ≡ x
+  pub next_one : (shown_row : Row) (x : ℕ) → answer ≡ shown_row ∷ [] → count_in 1 1_000_000_000_001 (column shown_row 0) ≡ Some x
+      → (tables_in kept).next panel ≡ x
   next_one shown_row x one cell =
       let it = found_one _ _ kept.panel answer shown_row found one in
       let here = picked (of_panel panel) kept.panel it.0 it.1 in
@@ -68,11 +69,13 @@ module _ (panel : List ℕ) (kept : Kept) (answer : List Row) (named : IsName pa
       let reads : count_in 1 1_000_000_000_001 (column it.0 2) ≡ None = ap (λ r. count_in 1 1_000_000_000_001 (column r 0)) (sym it.2) ∙ cell in
       bad_next kept it.0 here.0 (rw (name_here panel (column it.0 1) named here.1, reads) refl)
 
-  pub next_ok : (r : Result (ℕ) ReadFault) (row : Row) → answer ≡ row ∷ [] → IfOk r (λ x. count_in 1 1_000_000_000_001 (column row 0) ≡ Some x) → IfOk r (λ x. x ≡ (tables_in kept).next panel)
+  pub next_ok : (r : Result (ℕ) ReadFault) (row : Row) → answer ≡ row ∷ []
+      → IfOk r (λ x. count_in 1 1_000_000_000_001 (column row 0) ≡ Some x) → IfOk r (λ x. x ≡ (tables_in kept).next panel)
   next_ok (Ok x) row one cell = sym (next_one row x one cell)
   next_ok (Err e) row one cell = tt
 
-  pub next_err : (r : Result (ℕ) ReadFault) (row : Row) → answer ≡ row ∷ [] → IfErr r (λ _. count_in 1 1_000_000_000_001 (column row 0) ≡ None) → IfErr r (λ _. is_sound_in kept ≡ false)
+  pub next_err : (r : Result (ℕ) ReadFault) (row : Row) → answer ≡ row ∷ []
+      → IfErr r (λ _. count_in 1 1_000_000_000_001 (column row 0) ≡ None) → IfErr r (λ _. is_sound_in kept ≡ false)
   next_err (Ok x) row one cell = tt
   next_err (Err e) row one cell = next_bad row one cell
 
@@ -83,7 +86,9 @@ module _ (panel : List ℕ) (number : ℕ) (kept : Kept) (answer : List Row) (na
   pub command_none : answer ≡ [] → (tables_in kept).row panel number ≡ None
   command_none none = no_command panel number kept (found_none _ _ kept.command answer found none)
 
-  pub command_one : (shown_row : Row) (x : CommandRow) → answer ≡ shown_row ∷ [] → command_in (column shown_row 0) (column shown_row 1) (column shown_row 2) (column shown_row 3) (column shown_row 4) (column shown_row 5) ≡ Some x → (tables_in kept).row panel number ≡ Some x
+  pub command_one : (shown_row : Row) (x : CommandRow) → answer ≡ shown_row ∷ []
+      → command_in (column shown_row 0) (column shown_row 1) (column shown_row 2) (column shown_row 3) (column shown_row 4) (column shown_row 5) ≡ Some x
+      → (tables_in kept).row panel number ≡ Some x
   command_one shown_row x one cell =
       let it = found_one _ _ kept.command answer shown_row found one in
       let here = picked (of_command panel number) kept.command it.0 it.1 in
@@ -92,7 +97,9 @@ module _ (panel : List ℕ) (number : ℕ) (kept : Kept) (answer : List Row) (na
       let reads : command_in (column it.0 3) (column it.0 4) (column it.0 5) (column it.0 6) (column it.0 7) (column it.0 8) ≡ Some x = ap (λ r. command_in (column r 0) (column r 1) (column r 2) (column r 3) (column r 4) (column r 5)) (sym it.2) ∙ cell in
       one_command panel number kept it.0 (record { panel = panel; number = number; row = x }) it.1 (rw (name_here panel (column it.0 1) named.0 text_is, count_here number (column it.0 2) count_is, named.1, reads) refl)
 
-  pub command_bad : (shown_row : Row) → answer ≡ shown_row ∷ [] → command_in (column shown_row 0) (column shown_row 1) (column shown_row 2) (column shown_row 3) (column shown_row 4) (column shown_row 5) ≡ None → is_sound_in kept ≡ false
+  pub command_bad : (shown_row : Row) → answer ≡ shown_row ∷ []
+      → command_in (column shown_row 0) (column shown_row 1) (column shown_row 2) (column shown_row 3) (column shown_row 4) (column shown_row 5) ≡ None
+      → is_sound_in kept ≡ false
   command_bad shown_row one cell =
       let it = found_one _ _ kept.command answer shown_row found one in
       let here = picked (of_command panel number) kept.command it.0 it.1 in
@@ -101,11 +108,15 @@ module _ (panel : List ℕ) (number : ℕ) (kept : Kept) (answer : List Row) (na
       let reads : command_in (column it.0 3) (column it.0 4) (column it.0 5) (column it.0 6) (column it.0 7) (column it.0 8) ≡ None = ap (λ r. command_in (column r 0) (column r 1) (column r 2) (column r 3) (column r 4) (column r 5)) (sym it.2) ∙ cell in
       bad_command kept it.0 here.0 (rw (name_here panel (column it.0 1) named.0 text_is, count_here number (column it.0 2) count_is, named.1, reads) refl)
 
-  pub command_ok : (r : Result (CommandRow) ReadFault) (row : Row) → answer ≡ row ∷ [] → IfOk r (λ x. command_in (column row 0) (column row 1) (column row 2) (column row 3) (column row 4) (column row 5) ≡ Some x) → IfOk r (λ x. Some x ≡ (tables_in kept).row panel number)
+  pub command_ok : (r : Result (CommandRow) ReadFault) (row : Row) → answer ≡ row ∷ []
+      → IfOk r (λ x. command_in (column row 0) (column row 1) (column row 2) (column row 3) (column row 4) (column row 5) ≡ Some x)
+      → IfOk r (λ x. Some x ≡ (tables_in kept).row panel number)
   command_ok (Ok x) row one cell = sym (command_one row x one cell)
   command_ok (Err e) row one cell = tt
 
-  pub command_err : (r : Result (CommandRow) ReadFault) (row : Row) → answer ≡ row ∷ [] → IfErr r (λ _. command_in (column row 0) (column row 1) (column row 2) (column row 3) (column row 4) (column row 5) ≡ None) → IfErr r (λ _. is_sound_in kept ≡ false)
+  pub command_err : (r : Result (CommandRow) ReadFault) (row : Row) → answer ≡ row ∷ []
+      → IfErr r (λ _. command_in (column row 0) (column row 1) (column row 2) (column row 3) (column row 4) (column row 5) ≡ None)
+      → IfErr r (λ _. is_sound_in kept ≡ false)
   command_err (Ok x) row one cell = tt
   command_err (Err e) row one cell = command_bad row one cell
 
@@ -116,7 +127,8 @@ module _ (point : List ℕ) (priority : ℕ) (kept : Kept) (answer : List Row) (
   pub place_none : answer ≡ [] → get ((tables_in kept).places point) priority ≡ None
   place_none none = no_place point priority kept (found_none _ _ kept.place answer found none)
 
-  pub place_one : (shown_row : Row) (x : ℤ) → answer ≡ shown_row ∷ [] → number_in (column shown_row 0) ≡ Some x → get ((tables_in kept).places point) priority ≡ Some x
+  pub place_one : (shown_row : Row) (x : ℤ) → answer ≡ shown_row ∷ [] → number_in (column shown_row 0) ≡ Some x
+      → get ((tables_in kept).places point) priority ≡ Some x
   place_one shown_row x one cell =
       let it = found_one _ _ kept.place answer shown_row found one in
       let here = picked (of_place point priority) kept.place it.0 it.1 in
@@ -134,11 +146,13 @@ module _ (point : List ℕ) (priority : ℕ) (kept : Kept) (answer : List Row) (
       let reads : number_in (column it.0 3) ≡ None = ap (λ r. number_in (column r 0)) (sym it.2) ∙ cell in
       bad_place kept it.0 here.0 (rw (name_here point (column it.0 1) named.0 text_is, count_here priority (column it.0 2) count_is, named.1, reads) refl)
 
-  pub place_ok : (r : Result (ℤ) ReadFault) (row : Row) → answer ≡ row ∷ [] → IfOk r (λ x. number_in (column row 0) ≡ Some x) → IfOk r (λ x. Some x ≡ get ((tables_in kept).places point) priority)
+  pub place_ok : (r : Result (ℤ) ReadFault) (row : Row) → answer ≡ row ∷ [] → IfOk r (λ x. number_in (column row 0) ≡ Some x)
+      → IfOk r (λ x. Some x ≡ get ((tables_in kept).places point) priority)
   place_ok (Ok x) row one cell = sym (place_one row x one cell)
   place_ok (Err e) row one cell = tt
 
-  pub place_err : (r : Result (ℤ) ReadFault) (row : Row) → answer ≡ row ∷ [] → IfErr r (λ _. number_in (column row 0) ≡ None) → IfErr r (λ _. is_sound_in kept ≡ false)
+  pub place_err : (r : Result (ℤ) ReadFault) (row : Row) → answer ≡ row ∷ [] → IfErr r (λ _. number_in (column row 0) ≡ None)
+      → IfErr r (λ _. is_sound_in kept ≡ false)
   place_err (Ok x) row one cell = tt
   place_err (Err e) row one cell = place_bad row one cell
 
@@ -149,7 +163,8 @@ module _ (schedule : List ℕ) (kept : Kept) (answer : List Row) (named : IsName
   pub shown_none : answer ≡ [] → (tables_in kept).shown schedule ≡ None
   shown_none none = no_shown schedule kept (found_none _ _ kept.shown answer found none)
 
-  pub shown_one : (shown_row : Row) (x : Option ℤ) → answer ≡ shown_row ∷ [] → optional_in (column shown_row 0) ≡ Some x → (tables_in kept).shown schedule ≡ Some x
+  pub shown_one : (shown_row : Row) (x : Option ℤ) → answer ≡ shown_row ∷ [] → optional_in (column shown_row 0) ≡ Some x
+      → (tables_in kept).shown schedule ≡ Some x
   shown_one shown_row x one cell =
       let it = found_one _ _ kept.shown answer shown_row found one in
       let here = picked (of_schedule schedule) kept.shown it.0 it.1 in
@@ -163,11 +178,13 @@ module _ (schedule : List ℕ) (kept : Kept) (answer : List Row) (named : IsName
       let reads : optional_in (column it.0 2) ≡ None = ap (λ r. optional_in (column r 0)) (sym it.2) ∙ cell in
       bad_shown kept it.0 here.0 (rw (name_here schedule (column it.0 1) named here.1, reads) refl)
 
-  pub shown_ok : (r : Result (Option ℤ) ReadFault) (row : Row) → answer ≡ row ∷ [] → IfOk r (λ x. optional_in (column row 0) ≡ Some x) → IfOk r (λ x. Some x ≡ (tables_in kept).shown schedule)
+  pub shown_ok : (r : Result (Option ℤ) ReadFault) (row : Row) → answer ≡ row ∷ [] → IfOk r (λ x. optional_in (column row 0) ≡ Some x)
+      → IfOk r (λ x. Some x ≡ (tables_in kept).shown schedule)
   shown_ok (Ok x) row one cell = sym (shown_one row x one cell)
   shown_ok (Err e) row one cell = tt
 
-  pub shown_err : (r : Result (Option ℤ) ReadFault) (row : Row) → answer ≡ row ∷ [] → IfErr r (λ _. optional_in (column row 0) ≡ None) → IfErr r (λ _. is_sound_in kept ≡ false)
+  pub shown_err : (r : Result (Option ℤ) ReadFault) (row : Row) → answer ≡ row ∷ [] → IfErr r (λ _. optional_in (column row 0) ≡ None)
+      → IfErr r (λ _. is_sound_in kept ≡ false)
   shown_err (Ok x) row one cell = tt
   shown_err (Err e) row one cell = shown_bad row one cell
 
@@ -187,13 +204,15 @@ module _ (kept : Kept) (answer : List Row) (found : Finds (λ row. true) (λ row
       let it = found_two _ _ kept.desk answer two.first two.second two.more found two.is in
       desk_false (ap is_desk (sym (all_picked kept.desk) ∙ it.3))
 
-  pub last_ok : (r : Result (Option ℤ) ReadFault) (row : Row) → answer ≡ row ∷ [] → IfOk r (λ x. optional_in (column row 1) ≡ Some x) → IfOk r (λ x. x ≡ (tables_in kept).last_tick)
+  pub last_ok : (r : Result (Option ℤ) ReadFault) (row : Row) → answer ≡ row ∷ [] → IfOk r (λ x. optional_in (column row 1) ≡ Some x)
+      → IfOk r (λ x. x ≡ (tables_in kept).last_tick)
   last_ok (Err e) row one cell = tt
   last_ok (Ok x) row one cell =
       let it = found_one _ _ kept.desk answer row found one in
       sym (one_last kept it.0 x (sym (all_picked kept.desk) ∙ it.1) (ap (λ r. optional_in (column r 1)) (sym it.2) ∙ cell))
 
-  pub last_err : (r : Result (Option ℤ) ReadFault) (row : Row) → answer ≡ row ∷ [] → IfErr r (λ _. optional_in (column row 1) ≡ None) → IfErr r (λ _. is_sound_in kept ≡ false)
+  pub last_err : (r : Result (Option ℤ) ReadFault) (row : Row) → answer ≡ row ∷ [] → IfErr r (λ _. optional_in (column row 1) ≡ None)
+      → IfErr r (λ _. is_sound_in kept ≡ false)
   last_err (Ok x) row one cell = tt
   last_err (Err e) row one cell =
       let it = found_one _ _ kept.desk answer row found one in

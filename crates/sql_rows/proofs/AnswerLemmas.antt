@@ -21,7 +21,8 @@ map_map f g [] = refl
 map_map f g (x ∷ xs) = ap (λ l. f (g x) ∷ l) (map_map f g xs)
 
 -- the answer shows the rows that pass, in some order
-pub plain_answer : (tree : ℕ) (terms project : List Term) (db : Trees) (params : Row) (rows : List Row) → IsAnswer (plain_query tree terms project) db params rows
+pub plain_answer : (tree : ℕ) (terms project : List Term) (db : Trees) (params : Row) (rows : List Row)
+    → IsAnswer (plain_query tree terms project) db params rows
     → IsPermutation (map (shows project params) (filter (passes terms params) (db tree))) rows
 plain_answer tree terms project db params rows answer =
     let q = plain_query tree terms project in
@@ -37,7 +38,8 @@ pub overlay_none : (db : Trees) (tree : ℕ) → overlay db [] tree ≡ db tree
 overlay_none db tree = elim (nat_le (2 ^ 31) tree) as (λ b. unwrap_or (if b then slice_get {X = List Row} [] (tree - 2 ^ 31) else None) (db tree) ≡ db tree) [ true ↦ refl | false ↦ refl ]
 
 -- the same of a whole program
-pub plain_program : (tree : ℕ) (terms project : List Term) (db : Trees) (params : Row) (rows : List Row) → IsProgramAnswer [] (plain_query tree terms project) db params rows
+pub plain_program : (tree : ℕ) (terms project : List Term) (db : Trees) (params : Row) (rows : List Row)
+    → IsProgramAnswer [] (plain_query tree terms project) db params rows
     → IsPermutation (map (shows project params) (filter (passes terms params) (db tree))) rows
 plain_program tree terms project db params rows answer =
     subst (λ l. IsPermutation (map (shows project params) (filter (passes terms params) l)) rows) (overlay_none db tree) (plain_answer tree terms project (overlay db []) params rows (answer Null))

@@ -44,7 +44,8 @@ truth_of : (b : Bool) → is_true (from_truth (Some b)) ≡ b
 truth_of true = refl
 truth_of false = refl
 
-pub equal_text : (t : List ℕ) (cell : Value) → is_of kind.Text cell ≡ true → is_null cell ≡ false → is_true (binary (Compare Eq Binary) cell (Text t)) ≡ is_text t cell
+pub equal_text : (t : List ℕ) (cell : Value) → is_of kind.Text cell ≡ true → is_null cell ≡ false
+    → is_true (binary (Compare Eq Binary) cell (Text t)) ≡ is_text t cell
 unfolding binary
 equal_text t Null kind filled = absurd (true≢false filled)
 equal_text t (Int n) kind filled = absurd (true≢false (sym kind))
@@ -52,7 +53,8 @@ equal_text t (Real x) kind filled = absurd (true≢false (sym kind))
 equal_text t (Text s) kind filled = truth_of _ ∙ ap is_eq (value_cmp-Text s t) ∙ is_eq-slice_cmp s t ∙ same_either_way s t
 equal_text t (Blob b) kind filled = absurd (true≢false (sym kind))
 
-pub equal_count : (n : ℕ) (cell : Value) → is_of kind.Integer cell ≡ true → is_null cell ≡ false → is_true (binary (Compare Eq Binary) cell (Int (pos n))) ≡ is_count n cell
+pub equal_count : (n : ℕ) (cell : Value) → is_of kind.Integer cell ≡ true → is_null cell ≡ false
+    → is_true (binary (Compare Eq Binary) cell (Int (pos n))) ≡ is_count n cell
 unfolding binary
 equal_count n Null kind filled = absurd (true≢false filled)
 equal_count n (Int (pos m)) kind filled = truth_of _ ∙ ap is_eq (value_cmp-Int (pos m) (pos n)) ∙ same_count m n
@@ -61,7 +63,8 @@ equal_count n (Real x) kind filled = absurd (true≢false (sym kind))
 equal_count n (Text s) kind filled = absurd (true≢false (sym kind))
 equal_count n (Blob b) kind filled = absurd (true≢false (sym kind))
 
-pub below_count : (n : ℕ) (cell : Value) → is_of kind.Integer cell ≡ true → is_null cell ≡ false → is_true (binary (Compare Lt Binary) cell (Int (pos n))) ≡ is_below n cell
+pub below_count : (n : ℕ) (cell : Value) → is_of kind.Integer cell ≡ true → is_null cell ≡ false
+    → is_true (binary (Compare Lt Binary) cell (Int (pos n))) ≡ is_below n cell
 unfolding binary
 below_count n Null kind filled = absurd (true≢false filled)
 below_count n (Int (pos m)) kind filled = truth_of _ ∙ ap is_lt (value_cmp-Int (pos m) (pos n)) ∙ is_lt_cond (nat_lt m n) (nat_lt n m)
@@ -103,7 +106,8 @@ is_ge_cond true b = refl
 is_ge_cond false true = refl
 is_ge_cond false false = refl
 
-pub after_text : (t : List ℕ) (cell : Value) → is_of kind.Text cell ≡ true → is_null cell ≡ false → is_true (binary (Compare Gt Binary) cell (Text t)) ≡ is_after t cell
+pub after_text : (t : List ℕ) (cell : Value) → is_of kind.Text cell ≡ true → is_null cell ≡ false
+    → is_true (binary (Compare Gt Binary) cell (Text t)) ≡ is_after t cell
 unfolding binary
 after_text t Null kind filled = absurd (true≢false filled)
 after_text t (Int n) kind filled = absurd (true≢false (sym kind))
@@ -111,7 +115,8 @@ after_text t (Real x) kind filled = absurd (true≢false (sym kind))
 after_text t (Text s) kind filled = truth_of _ ∙ ap is_gt (value_cmp-Text s t)
 after_text t (Blob b) kind filled = absurd (true≢false (sym kind))
 
-pub from_count : (n : ℕ) (cell : Value) → is_of kind.Integer cell ≡ true → is_null cell ≡ false → is_true (binary (Compare Ge Binary) cell (Int (pos n))) ≡ is_from n cell
+pub from_count : (n : ℕ) (cell : Value) → is_of kind.Integer cell ≡ true → is_null cell ≡ false
+    → is_true (binary (Compare Ge Binary) cell (Int (pos n))) ≡ is_from n cell
 unfolding binary
 from_count n Null kind filled = absurd (true≢false filled)
 from_count n (Int (pos m)) kind filled = truth_of _ ∙ ap is_ge (value_cmp-Int (pos m) (pos n)) ∙ is_ge_cond (nat_lt m n) (nat_lt n m)

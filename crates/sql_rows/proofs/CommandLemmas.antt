@@ -32,7 +32,8 @@ use Rattle.sql_rows.proofs.CommandTexts.{add_is, add_plain, add_text, clear_is, 
 use Rattle.sql_rows.specs.Cells.{cell_of, is_below, is_count, is_text}
 use Rattle.sql_rows.specs.Rows.{of_command, of_lower_command}
 
-command_cells : (db : Database) → IsOurs db → (row : Row) → Has (db.trees command_tree) row → IsFilled kind.Text (column row 1) × IsFilled kind.Integer (column row 2)
+command_cells : (db : Database) → IsOurs db → (row : Row) → Has (db.trees command_tree) row
+    → IsFilled kind.Text (column row 1) × IsFilled kind.Integer (column row 2)
 command_cells db ours row h =
     let typed = all_has _ (db.trees command_tree) row (ruled Datatype db ours).1.1.0 h in
     let present = all_has _ (db.trees command_tree) row (ruled NotNull db ours).1.1.0 h in
@@ -48,12 +49,14 @@ command_cells db ours row h =
       second_filled command_table col1 (codes "number") kind.Integer (col3 ∷ col4 ∷ col5 ∷ col6 ∷ col7 ∷ col8 ∷ []) refl refl db.trees row typed present,
     )
 
-pub passes_command : (db : Database) → IsOurs db → (panel : List ℕ) (number : ℕ) → (row : Row) → Has (db.trees command_tree) row → passes (given 1 0 ∷ given 2 1 ∷ []) (Text panel ∷ Int (pos number) ∷ []) row ≡ of_command panel number row
+pub passes_command : (db : Database) → IsOurs db → (panel : List ℕ) (number : ℕ) → (row : Row) → Has (db.trees command_tree) row
+    → passes (given 1 0 ∷ given 2 1 ∷ []) (Text panel ∷ Int (pos number) ∷ []) row ≡ of_command panel number row
 passes_command db ours panel number row h =
     let cells = command_cells db ours row h in
     rw (equal_text panel (column row 1) cells.0.of cells.0.filled, equal_count number (column row 2) cells.1.of cells.1.filled, and_true) refl
 
-pub clears : (panel : List ℕ) (number : ℕ) → (old new : State) (result : Result ℕ Error) → IsInside old → ExecutesInside 0 clear_text (Text panel ∷ Int (pos number) ∷ []) old new result
+pub clears : (panel : List ℕ) (number : ℕ) → (old new : State) (result : Result ℕ Error) → IsInside old
+    → ExecutesInside 0 clear_text (Text panel ∷ Int (pos number) ∷ []) old new result
     → OnOk result (Changes (On command_slot (Loses (of_command panel number))) old new)
 clears panel number old new result inside h =
     loses command_slot is_command clear_text clear_plain (given 1 0 ∷ given 2 1 ∷ []) (of_command panel number) clear_is
@@ -75,7 +78,8 @@ one_command db ours panel number a b ha hb is_a is_b =
     (passes_command db ours panel number a ha ∙ is_a))
 
 -- where a row could be added under a number of a panel, none stood there
-adds_alone : (panel : List ℕ) (number : ℕ) (rest : Row) (old new : State) → Changes (On command_slot (Gains (Text panel ∷ Int (pos number) ∷ rest))) old new
+adds_alone : (panel : List ℕ) (number : ℕ) (rest : Row) (old new : State)
+    → Changes (On command_slot (Gains (Text panel ∷ Int (pos number) ∷ rest))) old new
     → Changes (On command_slot (Adds (of_command panel number) (Text panel ∷ Int (pos number) ∷ rest))) old new
 adds_alone panel number rest old new it =
     let rows = old.now.trees command_tree in
@@ -94,7 +98,9 @@ adds_alone panel number rest old new it =
     ] in
     record { seen = it.seen; ours = it.ours; change = record { others = it.change.others; rows = (filter_all rows ∙ filter_same (λ r. true) (λ r. not (of_command panel number r)) rows none, gains) } }
 
-pub adds : (panel : List ℕ) (number : ℕ) (point : List ℕ) (priority : ℤ) (value : Option ℤ) (state : ℤ) (a : Option ℤ) (b : Option ℤ) → (old new : State) (result : Result ℕ Error) → IsInside old → ExecutesInside 0 add_text (Text panel ∷ Int (pos number) ∷ Text point ∷ Int priority ∷ cell_of value ∷ Int state ∷ cell_of a ∷ cell_of b ∷ []) old new result
+pub adds : (panel : List ℕ) (number : ℕ) (point : List ℕ) (priority : ℤ) (value : Option ℤ) (state : ℤ) (a : Option ℤ) (b : Option ℤ)
+    → (old new : State) (result : Result ℕ Error) → IsInside old
+    → ExecutesInside 0 add_text (Text panel ∷ Int (pos number) ∷ Text point ∷ Int priority ∷ cell_of value ∷ Int state ∷ cell_of a ∷ cell_of b ∷ []) old new result
     → OnOk result (Changes (On command_slot (Adds (of_command panel number) (Text panel ∷ Int (pos number) ∷ Text point ∷ Int priority ∷ cell_of value ∷ Int state ∷ cell_of a ∷ cell_of b ∷ []))) old new)
 adds panel number point priority value state a b old new result inside h =
     on_ok result (adds_alone panel number (Text point ∷ Int priority ∷ cell_of value ∷ Int state ∷ cell_of a ∷ cell_of b ∷ []) old new)
@@ -108,7 +114,8 @@ passes_lower db ours panel number row h =
     let cells = command_cells db ours row h in
     rw (equal_text panel (column row 1) cells.0.of cells.0.filled, below_count number (column row 2) cells.1.of cells.1.filled, and_true) refl
 
-pub drops : (panel : List ℕ) (number : ℕ) → (old new : State) (result : Result ℕ Error) → IsInside old → ExecutesInside 0 drop_text (Text panel ∷ Int (pos number) ∷ []) old new result
+pub drops : (panel : List ℕ) (number : ℕ) → (old new : State) (result : Result ℕ Error) → IsInside old
+    → ExecutesInside 0 drop_text (Text panel ∷ Int (pos number) ∷ []) old new result
     → OnOk result (Changes (On command_slot (Loses (of_lower_command panel number))) old new)
 drops panel number old new result inside h =
     loses command_slot is_command drop_text drop_plain (given 1 0 ∷ compared_with Lt 2 1 ∷ []) (of_lower_command panel number) drop_is
@@ -124,7 +131,8 @@ find_shown items panel number old new (Ok v) ours shown =
     finds_same (passes (given 1 0 ∷ given 2 1 ∷ []) (Text panel ∷ Int (pos number) ∷ [])) (of_command panel number) (λ row. column row 3 ∷ column row 4 ∷ column row 5 ∷ column row 6 ∷ column row 7 ∷ column row 8 ∷ []) (old.now.trees command_tree) (items v) (λ row h. passes_command old.now ours panel number row h)
     (finds find_text find_plain find_unlisted command_tree (given 1 0 ∷ given 2 1 ∷ []) (col 1 3 ∷ col 1 4 ∷ col 1 5 ∷ col 1 6 ∷ col 1 7 ∷ col 1 8 ∷ []) (codes "point" ∷ codes "priority" ∷ codes "value" ∷ codes "state" ∷ codes "a" ∷ codes "b" ∷ []) find_is old new (Text panel ∷ Int (pos number) ∷ []) (items v) ours.schema_is shown)
 
-passes_next_panel : (db : Database) → IsOurs db → (after : List ℕ) → (row : Row) → Has (db.trees command_tree) row → passes (compared_with Gt 1 0 ∷ []) (Text after ∷ []) row ≡ (is_after after (column row 1))
+passes_next_panel : (db : Database) → IsOurs db → (after : List ℕ) → (row : Row) → Has (db.trees command_tree) row
+    → passes (compared_with Gt 1 0 ∷ []) (Text after ∷ []) row ≡ (is_after after (column row 1))
 passes_next_panel db ours after row h =
     let cells = command_cells db ours row h in
     rw (after_text after (column row 1) cells.0.of cells.0.filled, and_true) refl
@@ -136,7 +144,8 @@ next_panel_shown items after old new (Ok v) ours shown =
     least_same (passes (compared_with Gt 1 0 ∷ []) (Text after ∷ [])) (λ row. is_after after (column row 1)) 1 (old.now.trees command_tree) (items v) (λ row h. passes_next_panel old.now ours after row h)
     (finds_least next_panel_text next_panel_plain next_panel_unlisted command_tree (compared_with Gt 1 0 ∷ []) 1 (codes "panel" ∷ []) next_panel_is old new (Text after ∷ []) (items v) ours.schema_is shown)
 
-passes_next_number : (db : Database) → IsOurs db → (panel : List ℕ) (from : ℕ) → (row : Row) → Has (db.trees command_tree) row → passes (given 1 0 ∷ compared_with Ge 2 1 ∷ []) (Text panel ∷ Int (pos from) ∷ []) row ≡ (is_text panel (column row 1) && is_from from (column row 2))
+passes_next_number : (db : Database) → IsOurs db → (panel : List ℕ) (from : ℕ) → (row : Row) → Has (db.trees command_tree) row
+    → passes (given 1 0 ∷ compared_with Ge 2 1 ∷ []) (Text panel ∷ Int (pos from) ∷ []) row ≡ (is_text panel (column row 1) && is_from from (column row 2))
 passes_next_number db ours panel from row h =
     let cells = command_cells db ours row h in
     rw (equal_text panel (column row 1) cells.0.of cells.0.filled, from_count from (column row 2) cells.1.of cells.1.filled, and_true) refl

@@ -36,7 +36,8 @@ module _ (old new : State) (inside : IsInside old) (seen : Shows old new new.now
   abbrev was : Row
   was = inside.ours.rows.desk.row
 
-  put : (shown cells : Row) (last : Row → Value) → rowid shown ≡ rowid was → cast_row desk_table (drop 1 shown) ≡ rowid was ∷ cells → column (rowid was ∷ cells) 3 ≡ last was
+  put : (shown cells : Row) (last : Row → Value) → rowid shown ≡ rowid was → cast_row desk_table (drop 1 shown) ≡ rowid was ∷ cells
+      → column (rowid was ∷ cells) 3 ≡ last was
       → Ran old new (edit_of old.now.trees desk_table (ids_of (shown ∷ [])) Given 1 (shown ∷ [])) → Changes (SetsDesk last) old new
   put shown cells last same made last_is ran =
       let db = old.now.trees in
@@ -63,10 +64,12 @@ module _ (old new : State) (inside : IsInside old) (seen : Shows old new new.now
       }
 
 -- what an UPDATE shows of the one row
-one_shown : (project : List Term) (params : Row) (rows answer : List Row) (row : Row) → rows ≡ row ∷ [] → IsPermutation (map (shows project params) (filter (passes [] params) rows)) answer → answer ≡ shows project params row ∷ []
+one_shown : (project : List Term) (params : Row) (rows answer : List Row) (row : Row) → rows ≡ row ∷ []
+    → IsPermutation (map (shows project params) (filter (passes [] params) rows)) answer → answer ≡ shows project params row ∷ []
 one_shown project params rows answer row is same = one_permutation (shows project params row) answer (subst (λ l. IsPermutation (map (shows project params) (filter (passes [] params) l)) answer) is same)
 
-pub sets_last : (moment : ℤ) (old new : State) (result : Result ℕ Error) → IsInside old → ExecutesInside 0 set_last_text (Int moment ∷ []) old new result → OnOk result (Changes (SetsDesk (λ _. Int moment)) old new)
+pub sets_last : (moment : ℤ) (old new : State) (result : Result ℕ Error) → IsInside old
+    → ExecutesInside 0 set_last_text (Int moment ∷ []) old new result → OnOk result (Changes (SetsDesk (λ _. Int moment)) old new)
 sets_last moment old new (Err e) inside h = tt
 sets_last moment old new (Ok count) inside h =
     let desk = inside.ours.rows.desk in
@@ -79,7 +82,8 @@ sets_last moment old new (Ok count) inside h =
     put old new inside h.1 shown (Null ∷ cast Integer (column desk.row 2) ∷ Int moment ∷ []) (λ _. Int moment) refl
     (rw (cast_null, cast_int moment, own, cast_int (id_in (rowid desk.row))) refl) refl ran
 
-pub find_shown : {V : Type 0} (items : V → List Row) (old new : State) (r : Result V Error) → old.now.schema ≡ desk_schema → IfOk r (λ v. Shown find_text [] old new (items v))
+pub find_shown : {V : Type 0} (items : V → List Row) (old new : State) (r : Result V Error) → old.now.schema ≡ desk_schema
+    → IfOk r (λ v. Shown find_text [] old new (items v))
     → IfOk r (λ v. Finds (λ row. true) (λ row. column row 2 ∷ column row 3 ∷ []) (old.now.trees desk_tree) (items v))
 find_shown items old new (Err e) has shown = tt
 find_shown items old new (Ok v) has shown = finds find_text find_plain find_unlisted desk_tree [] (col 1 2 ∷ col 1 3 ∷ []) (codes "version" ∷ codes "last" ∷ []) find_is old new [] (items v) has shown

@@ -32,7 +32,8 @@ module _ {Item Table : Type 0} (put : Item → Table → Table) where
         ap (with_each put ys) (sym (commute y t (not-true (gone y) both.0))) ∙ with_each-past ys (put y t) both.1
 
   -- what is seen of the whole stays where each item leaves it
-  pub with_each-unseen : {Seen : Type 0} (seen : Table → Seen) (test : Item → Bool) → ((y : Item) (t : Table) → test y ≡ false → seen (put y t) ≡ seen t)
+  pub with_each-unseen : {Seen : Type 0} (seen : Table → Seen) (test : Item → Bool)
+      → ((y : Item) (t : Table) → test y ≡ false → seen (put y t) ≡ seen t)
       → (ys : List Item) (t : Table) → filter test ys ≡ [] → seen (with_each put ys t) ≡ seen t
   with_each-unseen seen test leaves [] t none = refl
   with_each-unseen seen test leaves (y ∷ ys) t none =
@@ -42,7 +43,8 @@ module _ {Item Table : Type 0} (put : Item → Table → Table) where
       ]
 
   -- and is what the only item of a key tells
-  pub with_each-seen : {Seen : Type 0} (seen : Table → Seen) (test : Item → Bool) → ((y : Item) (t : Table) → test y ≡ false → seen (put y t) ≡ seen t)
+  pub with_each-seen : {Seen : Type 0} (seen : Table → Seen) (test : Item → Bool)
+      → ((y : Item) (t : Table) → test y ≡ false → seen (put y t) ≡ seen t)
       → (value : Item → Seen) → ((y : Item) (t : Table) → test y ≡ true → seen (put y t) ≡ value y)
       → (ys : List Item) (x : Item) (t : Table) → filter test ys ≡ x ∷ [] → seen (with_each put ys t) ≡ value x
   with_each-seen seen test leaves value shows [] x t only = absurd (let h : ⊥ = cc in h)

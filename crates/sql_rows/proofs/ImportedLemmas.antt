@@ -24,7 +24,8 @@ use Rattle.sql_rows.proofs.ImportedTexts.{add_is, add_plain, add_text, clear_is,
 use Rattle.sql_rows.specs.Cells.{is_text}
 use Rattle.sql_rows.specs.Rows.{of_entry}
 
-imported_cells : (db : Database) → IsOurs db → (row : Row) → Has (db.trees imported_tree) row → IsFilled kind.Text (column row 1) × IsFilled kind.Text (column row 2)
+imported_cells : (db : Database) → IsOurs db → (row : Row) → Has (db.trees imported_tree) row
+    → IsFilled kind.Text (column row 1) × IsFilled kind.Text (column row 2)
 imported_cells db ours row h =
     let typed = all_has _ (db.trees imported_tree) row (ruled Datatype db ours).1.1.1.1.1.0 h in
     let present = all_has _ (db.trees imported_tree) row (ruled NotNull db ours).1.1.1.1.1.0 h in
@@ -34,19 +35,22 @@ imported_cells db ours row h =
       second_filled imported_table col1 (codes "entry") kind.Text ([]) refl refl db.trees row typed present,
     )
 
-pub passes_imported : (db : Database) → IsOurs db → (calendar : List ℕ) (entry : List ℕ) → (row : Row) → Has (db.trees imported_tree) row → passes (given 1 0 ∷ given 2 1 ∷ []) (Text calendar ∷ Text entry ∷ []) row ≡ of_entry calendar entry row
+pub passes_imported : (db : Database) → IsOurs db → (calendar : List ℕ) (entry : List ℕ) → (row : Row) → Has (db.trees imported_tree) row
+    → passes (given 1 0 ∷ given 2 1 ∷ []) (Text calendar ∷ Text entry ∷ []) row ≡ of_entry calendar entry row
 passes_imported db ours calendar entry row h =
     let cells = imported_cells db ours row h in
     rw (equal_text calendar (column row 1) cells.0.of cells.0.filled, equal_text entry (column row 2) cells.1.of cells.1.filled, and_true) refl
 
-pub clears : (calendar : List ℕ) (entry : List ℕ) → (old new : State) (result : Result ℕ Error) → IsInside old → ExecutesInside 0 clear_text (Text calendar ∷ Text entry ∷ []) old new result
+pub clears : (calendar : List ℕ) (entry : List ℕ) → (old new : State) (result : Result ℕ Error) → IsInside old
+    → ExecutesInside 0 clear_text (Text calendar ∷ Text entry ∷ []) old new result
     → OnOk result (Changes (On imported_slot (Loses (of_entry calendar entry))) old new)
 clears calendar entry old new result inside h =
     loses imported_slot is_imported clear_text clear_plain (given 1 0 ∷ given 2 1 ∷ []) (of_entry calendar entry) clear_is
     (λ a b same. ap (λ l. is_text calendar (column l 0) && is_text entry (column l 1)) same) old new (Text calendar ∷ Text entry ∷ []) result
     (λ row h. passes_imported old.now inside.ours calendar entry row h) inside h
 
-pub adds : (calendar : List ℕ) (entry : List ℕ) → (old new : State) (result : Result ℕ Error) → IsInside old → ExecutesInside 0 add_text (Text calendar ∷ Text entry ∷ []) old new result
+pub adds : (calendar : List ℕ) (entry : List ℕ) → (old new : State) (result : Result ℕ Error) → IsInside old
+    → ExecutesInside 0 add_text (Text calendar ∷ Text entry ∷ []) old new result
     → OnOk result (Changes (On imported_slot (Gains (Text calendar ∷ Text entry ∷ []))) old new)
 adds calendar entry old new result inside h =
     gains imported_slot is_imported add_text add_plain (codes "imported") imported_table.columns imported_table.checks (lit Null ∷ col 0 0 ∷ col 0 1 ∷ []) 3 imported_tree refl add_is
@@ -55,7 +59,8 @@ adds calendar entry old new result inside h =
 
 -- the queries
 
-passes_next_name : (db : Database) → IsOurs db → (after : List ℕ) → (row : Row) → Has (db.trees imported_tree) row → passes (compared_with Gt 1 0 ∷ []) (Text after ∷ []) row ≡ (is_after after (column row 1))
+passes_next_name : (db : Database) → IsOurs db → (after : List ℕ) → (row : Row) → Has (db.trees imported_tree) row
+    → passes (compared_with Gt 1 0 ∷ []) (Text after ∷ []) row ≡ (is_after after (column row 1))
 passes_next_name db ours after row h =
     let cells = imported_cells db ours row h in
     rw (after_text after (column row 1) cells.0.of cells.0.filled, and_true) refl
@@ -67,12 +72,14 @@ next_name_shown items after old new (Ok v) ours shown =
     least_same (passes (compared_with Gt 1 0 ∷ []) (Text after ∷ [])) (λ row. is_after after (column row 1)) 1 (old.now.trees imported_tree) (items v) (λ row h. passes_next_name old.now ours after row h)
     (finds_least next_name_text next_name_plain next_name_unlisted imported_tree (compared_with Gt 1 0 ∷ []) 1 (codes "calendar" ∷ []) next_name_is old new (Text after ∷ []) (items v) ours.schema_is shown)
 
-passes_next_entry : (db : Database) → IsOurs db → (calendar : List ℕ) (after : List ℕ) → (row : Row) → Has (db.trees imported_tree) row → passes (given 1 0 ∷ compared_with Gt 2 1 ∷ []) (Text calendar ∷ Text after ∷ []) row ≡ (is_text calendar (column row 1) && is_after after (column row 2))
+passes_next_entry : (db : Database) → IsOurs db → (calendar : List ℕ) (after : List ℕ) → (row : Row) → Has (db.trees imported_tree) row
+    → passes (given 1 0 ∷ compared_with Gt 2 1 ∷ []) (Text calendar ∷ Text after ∷ []) row ≡ (is_text calendar (column row 1) && is_after after (column row 2))
 passes_next_entry db ours calendar after row h =
     let cells = imported_cells db ours row h in
     rw (equal_text calendar (column row 1) cells.0.of cells.0.filled, after_text after (column row 2) cells.1.of cells.1.filled, and_true) refl
 
-pub next_entry_shown : {V : Type 0} (items : V → List Row) (calendar : List ℕ) (after : List ℕ) (old new : State) (r : Result V Error) → IsOurs old.now
+pub next_entry_shown : {V : Type 0} (items : V → List Row) (calendar : List ℕ) (after : List ℕ) (old new : State) (r : Result V Error)
+    → IsOurs old.now
     → IfOk r (λ v. Shown next_entry_text (Text calendar ∷ Text after ∷ []) old new (items v)) → IfOk r (λ v. FindsLeast (λ row. is_text calendar (column row 1) && is_after after (column row 2)) 2 (old.now.trees imported_tree) (items v))
 next_entry_shown items calendar after old new (Err e) ours shown = tt
 next_entry_shown items calendar after old new (Ok v) ours shown =

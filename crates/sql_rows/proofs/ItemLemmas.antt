@@ -40,18 +40,21 @@ put_on slot law gone cells a b c lost gains =
     }
 
 -- where a row of the key stood, an UPDATE puts one with these cells
-put_in : (slot : Slot) (gone : Row → Bool) (cells : Row) (count : ℕ) (a b : Kept) → count ≢ 0 → On slot (Rewrites gone cells count) a b → Put slot gone cells a b
+put_in : (slot : Slot) (gone : Row → Bool) (cells : Row) (count : ℕ) (a b : Kept) → count ≢ 0 → On slot (Rewrites gone cells count) a b
+    → Put slot gone cells a b
 put_in slot gone cells zero a b some set = absurd (some refl)
 put_in slot gone cells (suc more) a b some set = record { id = set.rows.0; has = set.rows.1; is = set.others }
 
 -- where none stood, it does what the removal of none does
-none_lost : (slot : Slot) (gone : Row → Bool) (cells : Row) (count : ℕ) (a b : Kept) → count ≡ 0 → On slot (Rewrites gone cells count) a b → On slot (Loses gone) a b
+none_lost : (slot : Slot) (gone : Row → Bool) (cells : Row) (count : ℕ) (a b : Kept) → count ≡ 0 → On slot (Rewrites gone cells count) a b
+    → On slot (Loses gone) a b
 none_lost slot gone cells count a b none set =
     let rows = subst (λ n. Rewrites gone cells n (slot.get a) (slot.get b)) none set.rows in
     record { others = set.others; rows = rows.1 ∙ rows.0 }
 
 -- the tables of the rows that are
-makes_from : (f : Tables → Tables) (a b c : Kept) → c ≡ b → (tables_in b ≡ f (tables_in a)) × (is_sound_in a ≡ true → is_sound_in b ≡ true) → Makes f a c
+makes_from : (f : Tables → Tables) (a b c : Kept) → c ≡ b → (tables_in b ≡ f (tables_in a)) × (is_sound_in a ≡ true → is_sound_in b ≡ true)
+    → Makes f a c
 makes_from f a b c is both = subst (Makes f a) (sym is) (record { tables = both.0; is_sound = both.1 })
 
 -- the items that an UPDATE put, or else an INSERT
@@ -64,10 +67,12 @@ module _ (item : NextNumber) (named : IsName item.panel) (in' : IsNext item) whe
       makes_from (next_put item) a (record a { panel = b.panel }) b put.is
       (put_next item (put.id ∷ next_cells) a b.panel (made_next item (put.id ∷ next_cells) refl refl named in') put.has)
 
-  pub next_set : (count : ℕ) → count ≢ 0 → (a b : Kept) → On panel_slot (Rewrites (of_panel item.panel) next_cells count) a b → Makes (next_put item) a b
+  pub next_set : (count : ℕ) → count ≢ 0 → (a b : Kept) → On panel_slot (Rewrites (of_panel item.panel) next_cells count) a b
+      → Makes (next_put item) a b
   next_set count some a b set = next_from a b (put_in panel_slot (of_panel item.panel) next_cells count a b some set)
 
-  pub next_added : (count : ℕ) → count ≡ 0 → (a b c : Kept) → On panel_slot (Rewrites (of_panel item.panel) next_cells count) a b → On panel_slot (Gains next_cells) b c → Makes (next_put item) a c
+  pub next_added : (count : ℕ) → count ≡ 0 → (a b c : Kept) → On panel_slot (Rewrites (of_panel item.panel) next_cells count) a b
+      → On panel_slot (Gains next_cells) b c → Makes (next_put item) a c
   next_added count none a b c set gains =
       next_from a c (put_on panel_slot (λ x y k. refl) (of_panel item.panel) next_cells a b c (none_lost panel_slot (of_panel item.panel) next_cells count a b none set) gains)
 
@@ -86,7 +91,8 @@ module _ (item : PlaceValue) (value : ℤ) (some_value : item.value ≡ Some val
   pub place_set : (count : ℕ) → count ≢ 0 → (a b : Kept) → On place_slot (Rewrites place_gone place_cells count) a b → Makes (place_put item) a b
   place_set count some a b set = place_from a b (put_in place_slot place_gone place_cells count a b some set)
 
-  pub place_added : (count : ℕ) → count ≡ 0 → (a b c : Kept) → On place_slot (Rewrites place_gone place_cells count) a b → On place_slot (Gains place_cells) b c → Makes (place_put item) a c
+  pub place_added : (count : ℕ) → count ≡ 0 → (a b c : Kept) → On place_slot (Rewrites place_gone place_cells count) a b
+      → On place_slot (Gains place_cells) b c → Makes (place_put item) a c
   place_added count none a b c set gains =
       place_from a c (put_on place_slot (λ x y k. refl) place_gone place_cells a b c (none_lost place_slot place_gone place_cells count a b none set) gains)
 
@@ -136,13 +142,15 @@ module _ (a b c : Kept) where
       (put_imported item (put.id ∷ cells) a c.imported (made_imported item (put.id ∷ cells) refl (ap Text is) named in') has)
 
 module _ (a b : Kept) where
-  pub place_cleared : (item : PlaceValue) → item.value ≡ None → On place_slot (Loses (of_place item.point item.priority)) a b → Makes (place_put item) a b
+  pub place_cleared : (item : PlaceValue) → item.value ≡ None → On place_slot (Loses (of_place item.point item.priority)) a b
+      → Makes (place_put item) a b
   place_cleared item quiet lost = makes_from (place_put item) a (record a { place = b.place }) b lost.others (clear_place item a b.place quiet lost.rows)
 
   pub shown_cleared : (item : ShownValue) → item.shown ≡ None → On shown_slot (Loses (of_schedule item.schedule)) a b → Makes (shown_put item) a b
   shown_cleared item quiet lost = makes_from (shown_put item) a (record a { shown = b.shown }) b lost.others (clear_shown item a b.shown quiet lost.rows)
 
-  pub rows_lost : (item : RowsBelow) (number : ℕ) → drops_the_same item number → On command_slot (Loses (of_lower_command item.panel number)) a b → Makes (rows_dropped item) a b
+  pub rows_lost : (item : RowsBelow) (number : ℕ) → drops_the_same item number
+      → On command_slot (Loses (of_lower_command item.panel number)) a b → Makes (rows_dropped item) a b
   rows_lost item number same lost =
       let other : RowsBelow = record { panel = item.panel; number = number } in
       let both = drop_commands other a b.command lost.rows in

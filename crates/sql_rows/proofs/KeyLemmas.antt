@@ -49,7 +49,8 @@ same_number a b int other h =
     p ∙ ap Int same ∙ sym q
 
 -- two rows that agree on the key of a unique index have one number
-pub one_number : (index : Index) (table : Table) (key : List ℕ) (db : Database) → IsOurs db → Has desk_schema.tables table → Has desk_schema.indexes index → guards index table ≡ true
+pub one_number : (index : Index) (table : Table) (key : List ℕ) (db : Database) → IsOurs db → Has desk_schema.tables table
+    → Has desk_schema.indexes index → guards index table ≡ true
     → AreOwn key (db.trees table.tree) → (a b : Row) → Has (db.trees table.tree) a → Has (db.trees table.tree) b → agree index.order index.columns a index.columns b ≡ true → rowid a ≡ rowid b
 one_number index table key db ours listed known guarded own a b ha hb agrees =
     let rows = db.trees table.tree in

@@ -35,7 +35,8 @@ mapped_empty f [] none = refl
 mapped_empty f (x ∷ xs) none = absurd (omega (arith, ap length none))
 
 -- the first of a sorted list is not above any
-first_is_least : (lt : Output → Output → Ordering) (o : Output) (rest : List Output) → IsSorted lt (o ∷ rest) → ((x y : Output) → lt x y ≡ value_cmp (first_key x) (first_key y))
+first_is_least : (lt : Output → Output → Ordering) (o : Output) (rest : List Output) → IsSorted lt (o ∷ rest)
+    → ((x y : Output) → lt x y ≡ value_cmp (first_key x) (first_key y))
     → (other : Output) → Has (o ∷ rest) other → is_lt (value_cmp (first_key other) (first_key o)) ≡ false
 first_is_least lt o rest sorted is other h =
     let at = contains_had (o ∷ rest) other h in
@@ -100,7 +101,8 @@ module _ (tree : ℕ) (terms : List Term) (at : ℕ) (db : Trees) (params : Row)
   pub least_answer : FindsLeast (passes terms params) at (db tree) rows
   least_answer = of_ordered answer.ordered refl
 
-pub least_program : (tree : ℕ) (terms : List Term) (at : ℕ) (db : Trees) (params : Row) (rows : List Row) → IsProgramAnswer [] (least_query tree terms at) db params rows
+pub least_program : (tree : ℕ) (terms : List Term) (at : ℕ) (db : Trees) (params : Row) (rows : List Row)
+    → IsProgramAnswer [] (least_query tree terms at) db params rows
     → FindsLeast (passes terms params) at (db tree) rows
 least_program tree terms at db params rows answer =
     subst (λ l. FindsLeast (passes terms params) at l rows) (overlay_none db tree) (least_answer tree terms at (overlay db []) params rows (answer Null))

@@ -31,7 +31,8 @@ optional-made : (cell : Value) (value : Option ℤ) → cell ≡ cell_of value �
 optional-made cell None is = ap optional_in is
 optional-made cell (Some n) is = ap optional_in is
 
-pub made_next : (item : NextNumber) (row : Row) → column row 1 ≡ Text item.panel → column row 2 ≡ Int (pos item.next) → IsName item.panel → IsNext item
+pub made_next : (item : NextNumber) (row : Row) → column row 1 ≡ Text item.panel → column row 2 ≡ Int (pos item.next) → IsName item.panel
+    → IsNext item
     → next_said row ≡ Some item
 made_next item row first second named in' =
     let name = name-made (column row 1) item.panel first named in

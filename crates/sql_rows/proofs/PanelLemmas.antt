@@ -38,12 +38,14 @@ panel_cells db ours row h =
     let col2 = column_of (codes "next") kind.Integer true in
     first_filled panel_table (codes "name") kind.Text (col2 ∷ []) refl refl db.trees row typed present
 
-pub passes_panel : (db : Database) → IsOurs db → (panel : List ℕ) → (row : Row) → Has (db.trees panel_tree) row → passes (given 1 0 ∷ []) (Text panel ∷ []) row ≡ of_panel panel row
+pub passes_panel : (db : Database) → IsOurs db → (panel : List ℕ) → (row : Row) → Has (db.trees panel_tree) row
+    → passes (given 1 0 ∷ []) (Text panel ∷ []) row ≡ of_panel panel row
 passes_panel db ours panel row h =
     let cell = panel_cells db ours row h in
     rw (equal_text panel (column row 1) cell.of cell.filled, and_true) refl
 
-pub adds : (panel : List ℕ) (next : ℕ) → (old new : State) (result : Result ℕ Error) → IsInside old → ExecutesInside 0 add_text (Text panel ∷ Int (pos next) ∷ []) old new result
+pub adds : (panel : List ℕ) (next : ℕ) → (old new : State) (result : Result ℕ Error) → IsInside old
+    → ExecutesInside 0 add_text (Text panel ∷ Int (pos next) ∷ []) old new result
     → OnOk result (Changes (On panel_slot (Gains (Text panel ∷ Int (pos next) ∷ []))) old new)
 adds panel next old new result inside h =
     gains panel_slot is_panel add_text add_plain (codes "panel") panel_table.columns panel_table.checks (lit Null ∷ col 0 0 ∷ col 0 1 ∷ []) 3 panel_tree refl add_is
@@ -51,13 +53,15 @@ adds panel next old new result inside h =
     (rw (cast_null, cast_int (pos next)) refl) inside h
 
 -- no two rows have one name
-one_panel : (db : Database) → IsOurs db → (panel : List ℕ) (a b : Row) → Has (db.trees panel_tree) a → Has (db.trees panel_tree) b → of_panel panel a ≡ true → of_panel panel b ≡ true → rowid a ≡ rowid b
+one_panel : (db : Database) → IsOurs db → (panel : List ℕ) (a b : Row) → Has (db.trees panel_tree) a → Has (db.trees panel_tree) b
+    → of_panel panel a ≡ true → of_panel panel b ≡ true → rowid a ≡ rowid b
 unfolding first_key
 one_panel db ours panel a b ha hb is_a is_b =
     one_number (automatic panel_table 0 (1 ∷ []) 2) panel_table (1 ∷ []) db ours (inr (inl refl)) (inl refl) refl ours.rows.panel a b ha hb
     (subst (λ v. passes (given 1 0 ∷ []) (v ∷ []) a ≡ true) (sym (text_is panel (column b 1) is_b)) (passes_panel db ours panel a ha ∙ is_a))
 
-pub sets : (panel : List ℕ) (next : ℕ) → (old new : State) (result : Result ℕ Error) → IsInside old → ExecutesInside 0 set_text (Text panel ∷ Int (pos next) ∷ []) old new result
+pub sets : (panel : List ℕ) (next : ℕ) → (old new : State) (result : Result ℕ Error) → IsInside old
+    → ExecutesInside 0 set_text (Text panel ∷ Int (pos next) ∷ []) old new result
     → IfOk result (λ count. Changes (On panel_slot (Rewrites (of_panel panel) (Text panel ∷ Int (pos next) ∷ []) count)) old new)
 sets panel next old new result inside h =
     let cells = Text panel ∷ Int (pos next) ∷ [] in
@@ -81,7 +85,8 @@ find_shown items panel old new (Ok v) ours shown =
     finds_same (passes (given 1 0 ∷ []) (Text panel ∷ [])) (of_panel panel) (λ row. column row 2 ∷ []) (old.now.trees panel_tree) (items v) (λ row h. passes_panel old.now ours panel row h)
     (finds find_text find_plain find_unlisted panel_tree (given 1 0 ∷ []) (col 1 2 ∷ []) (codes "next" ∷ []) find_is old new (Text panel ∷ []) (items v) ours.schema_is shown)
 
-passes_next_name : (db : Database) → IsOurs db → (after : List ℕ) → (row : Row) → Has (db.trees panel_tree) row → passes (compared_with Gt 1 0 ∷ []) (Text after ∷ []) row ≡ (is_after after (column row 1))
+passes_next_name : (db : Database) → IsOurs db → (after : List ℕ) → (row : Row) → Has (db.trees panel_tree) row
+    → passes (compared_with Gt 1 0 ∷ []) (Text after ∷ []) row ≡ (is_after after (column row 1))
 passes_next_name db ours after row h =
     let cell = panel_cells db ours row h in
     rw (after_text after (column row 1) cell.of cell.filled, and_true) refl

@@ -34,7 +34,8 @@ use Rattle.sql_rows.proofs.SlotLemmas.{gains, is_place, loses}
 use Rattle.sql_rows.specs.Cells.{is_count, is_text}
 use Rattle.sql_rows.specs.Rows.{of_place}
 
-place_cells : (db : Database) → IsOurs db → (row : Row) → Has (db.trees place_tree) row → IsFilled kind.Text (column row 1) × IsFilled kind.Integer (column row 2)
+place_cells : (db : Database) → IsOurs db → (row : Row) → Has (db.trees place_tree) row
+    → IsFilled kind.Text (column row 1) × IsFilled kind.Integer (column row 2)
 place_cells db ours row h =
     let typed = all_has _ (db.trees place_tree) row (ruled Datatype db ours).1.1.1.0 h in
     let present = all_has _ (db.trees place_tree) row (ruled NotNull db ours).1.1.1.0 h in
@@ -101,7 +102,8 @@ find_shown items point priority old new (Ok v) ours shown =
     finds_same (passes (given 1 0 ∷ given 2 1 ∷ []) (Text point ∷ Int (pos priority) ∷ [])) (of_place point priority) (λ row. column row 3 ∷ []) (old.now.trees place_tree) (items v) (λ row h. passes_place old.now ours point priority row h)
     (finds find_text find_plain find_unlisted place_tree (given 1 0 ∷ given 2 1 ∷ []) (col 1 3 ∷ []) (codes "value" ∷ []) find_is old new (Text point ∷ Int (pos priority) ∷ []) (items v) ours.schema_is shown)
 
-passes_next_point : (db : Database) → IsOurs db → (after : List ℕ) → (row : Row) → Has (db.trees place_tree) row → passes (compared_with Gt 1 0 ∷ []) (Text after ∷ []) row ≡ (is_after after (column row 1))
+passes_next_point : (db : Database) → IsOurs db → (after : List ℕ) → (row : Row) → Has (db.trees place_tree) row
+    → passes (compared_with Gt 1 0 ∷ []) (Text after ∷ []) row ≡ (is_after after (column row 1))
 passes_next_point db ours after row h =
     let cells = place_cells db ours row h in
     rw (after_text after (column row 1) cells.0.of cells.0.filled, and_true) refl
@@ -113,7 +115,8 @@ next_point_shown items after old new (Ok v) ours shown =
     least_same (passes (compared_with Gt 1 0 ∷ []) (Text after ∷ [])) (λ row. is_after after (column row 1)) 1 (old.now.trees place_tree) (items v) (λ row h. passes_next_point old.now ours after row h)
     (finds_least next_point_text next_point_plain next_point_unlisted place_tree (compared_with Gt 1 0 ∷ []) 1 (codes "point" ∷ []) next_point_is old new (Text after ∷ []) (items v) ours.schema_is shown)
 
-passes_next_priority : (db : Database) → IsOurs db → (point : List ℕ) (from : ℕ) → (row : Row) → Has (db.trees place_tree) row → passes (given 1 0 ∷ compared_with Ge 2 1 ∷ []) (Text point ∷ Int (pos from) ∷ []) row ≡ (is_text point (column row 1) && is_from from (column row 2))
+passes_next_priority : (db : Database) → IsOurs db → (point : List ℕ) (from : ℕ) → (row : Row) → Has (db.trees place_tree) row
+    → passes (given 1 0 ∷ compared_with Ge 2 1 ∷ []) (Text point ∷ Int (pos from) ∷ []) row ≡ (is_text point (column row 1) && is_from from (column row 2))
 passes_next_priority db ours point from row h =
     let cells = place_cells db ours row h in
     rw (equal_text point (column row 1) cells.0.of cells.0.filled, from_count from (column row 2) cells.1.of cells.1.filled, and_true) refl
@@ -125,7 +128,8 @@ next_priority_shown items point from old new (Ok v) ours shown =
     least_same (passes (given 1 0 ∷ compared_with Ge 2 1 ∷ []) (Text point ∷ Int (pos from) ∷ [])) (λ row. is_text point (column row 1) && is_from from (column row 2)) 2 (old.now.trees place_tree) (items v) (λ row h. passes_next_priority old.now ours point from row h)
     (finds_least next_priority_text next_priority_plain next_priority_unlisted place_tree (given 1 0 ∷ compared_with Ge 2 1 ∷ []) 2 (codes "priority" ∷ []) next_priority_is old new (Text point ∷ Int (pos from) ∷ []) (items v) ours.schema_is shown)
 
-passes_point : (db : Database) → IsOurs db → (point : List ℕ) (row : Row) → Has (db.trees place_tree) row → passes (given 1 0 ∷ []) (Text point ∷ []) row ≡ is_text point (column row 1)
+passes_point : (db : Database) → IsOurs db → (point : List ℕ) (row : Row) → Has (db.trees place_tree) row
+    → passes (given 1 0 ∷ []) (Text point ∷ []) row ≡ is_text point (column row 1)
 passes_point db ours point row h =
     let cells = place_cells db ours row h in
     rw (equal_text point (column row 1) cells.0.of cells.0.filled, and_true) refl

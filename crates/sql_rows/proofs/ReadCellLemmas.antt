@@ -126,7 +126,8 @@ panel-agrees panel row item says =
     (name_in (column row 1)) (count_in 1 1_000_000_000_001 (column row 2)) item says in
     text-cell panel (column row 1) parts.first item.panel parts.first-is (ap (λ y. y.panel) parts.is)
 
-pub command-parts : (row : Row) (item : KeptRow) → command_said row ≡ Some item → (column row 1 ≡ Text item.panel) × (column row 2 ≡ Int (pos item.number))
+pub command-parts : (row : Row) (item : KeptRow) → command_said row ≡ Some item
+    → (column row 1 ≡ Text item.panel) × (column row 2 ≡ Int (pos item.number))
 command-parts row item says =
     let parts = three-parts (λ name number kept. let it : KeptRow = record { panel = name; number = number; row = kept } in it)
     (name_in (column row 1)) (count_in 1 1_000_000_000_000 (column row 2))
@@ -141,7 +142,8 @@ command-agrees panel number row item says =
     let parts = command-parts row item says in
     both-tests (ap (is_text panel) parts.0) (ap (is_count number) parts.1)
 
-pub lower-agrees : (panel : List ℕ) (number : ℕ) → Agrees command_said (of_lower_command panel number) (λ y. bytes_eq panel y.panel && nat_lt y.number number)
+pub lower-agrees : (panel : List ℕ) (number : ℕ)
+    → Agrees command_said (of_lower_command panel number) (λ y. bytes_eq panel y.panel && nat_lt y.number number)
 lower-agrees panel number row item says =
     let parts = command-parts row item says in
     both-tests (ap (is_text panel) parts.0) (ap (is_below number) parts.1)
@@ -168,7 +170,8 @@ place-parts row item says =
       at_most_16 = omega arith;
     }
 
-pub place-agrees : (point : List ℕ) (priority : ℕ) → Agrees place_said (of_place point priority) (λ y. bytes_eq point y.point && priority == y.priority)
+pub place-agrees : (point : List ℕ) (priority : ℕ)
+    → Agrees place_said (of_place point priority) (λ y. bytes_eq point y.point && priority == y.priority)
 place-agrees point priority row item says =
     let parts = place-parts row item says in
     both-tests (ap (is_text point) parts.point) (ap (is_count priority) parts.priority)
@@ -179,7 +182,8 @@ schedule-agrees schedule row item says =
     (name_in (column row 1)) (optional_in (column row 2)) item says in
     text-cell schedule (column row 1) parts.first item.schedule parts.first-is (ap (λ y. y.schedule) parts.is)
 
-pub entry-agrees : (calendar text : List ℕ) → Agrees imported_said (of_entry calendar text) (λ y. bytes_eq calendar y.calendar && bytes_eq text (spelling y.entry))
+pub entry-agrees : (calendar text : List ℕ)
+    → Agrees imported_said (of_entry calendar text) (λ y. bytes_eq calendar y.calendar && bytes_eq text (spelling y.entry))
 entry-agrees calendar text row item says =
     let parts = two-parts (λ name entry. let it : ImportedEntry = record { calendar = name; entry = entry } in it)
     (name_in (column row 1)) (entry_in (column row 2)) item says in

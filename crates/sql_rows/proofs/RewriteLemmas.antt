@@ -102,7 +102,8 @@ module _ (slot : Slot) (is_slot : IsSlot slot) (sql : List ℕ) (plain : IsPlain
 module _ (slot : Slot) (is_slot : IsSlot slot) (sql : List ℕ) (plain : IsPlain (understood desk_schema sql)) (terms : List Term) (gone : Row → Bool) (set : List Term)
     (is : command_of (understood desk_schema sql) ≡ Update slot.at (record { lets = []; body = plain_query slot.table.tree terms (col 1 0 ∷ set) })) where
   -- a statement that changes the rows of a key
-  pub rewrites : (old new : State) (params cells : Row) (result : Result ℕ Error) → ((row : Row) → Has (old.now.trees slot.table.tree) row → passes terms params row ≡ gone row)
+  pub rewrites : (old new : State) (params cells : Row) (result : Result ℕ Error)
+      → ((row : Row) → Has (old.now.trees slot.table.tree) row → passes terms params row ≡ gone row)
       → Aims slot gone set params cells (old.now.trees slot.table.tree)
       → IsInside old → ExecutesInside 0 sql params old new result → IfOk result (λ count. Changes (On slot (Rewrites gone cells count)) old new)
   rewrites old new params cells (Err e) same aims inside h = tt

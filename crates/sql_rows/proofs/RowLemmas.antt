@@ -98,7 +98,8 @@ pub put_apart : (new : Row) (rows : List Row) → is_taken rows new ≡ false �
 put_apart new [] free = record { before = []; after = []; was = refl; is = refl }
 put_apart new (r ∷ rows) free = go (value_cmp (rowid r) (rowid new)) refl (or_parts _ _ free).0 (put_apart new rows (or_parts _ _ free).1)
   where
-    go : (o : Ordering) → value_cmp (rowid r) (rowid new) ≡ o → is_eq (value_cmp (rowid r) (rowid new)) ≡ false → HasOneMore new rows (put_row new rows)
+    go : (o : Ordering) → value_cmp (rowid r) (rowid new) ≡ o → is_eq (value_cmp (rowid r) (rowid new)) ≡ false
+        → HasOneMore new rows (put_row new rows)
         → HasOneMore new (r ∷ rows) (match_ordering o (r ∷ put_row new rows) (new ∷ rows) (new ∷ r ∷ rows))
     go Less is other later = record { before = r ∷ later.before; after = later.after; was = ap (λ l. r ∷ l) later.was; is = ap (λ l. r ∷ l) later.is }
     go Equal is other later = absurd (true≢false (ap is_eq (sym is) ∙ other))
@@ -125,7 +126,8 @@ pub tied_taken : (new : Row) (rows : List Row) (a : Row) → Has rows a → rowi
 tied_taken new rows a h same = some_from (λ r. is_eq (value_cmp (rowid r) (rowid new))) rows a h (ap (λ v. is_eq (value_cmp v (rowid new))) same ∙ ap is_eq (tied_itself value_cmp_total (rowid new)))
 
 -- so are the rows with one at a number that none has
-pub own_put : (new : Row) (key : List ℕ) (rows : List Row) → IsTrue (is_int (rowid new)) → is_taken rows new ≡ false → AreOwn key rows → AreOwn key (put_row new rows)
+pub own_put : (new : Row) (key : List ℕ) (rows : List Row) → IsTrue (is_int (rowid new)) → is_taken rows new ≡ false → AreOwn key rows
+    → AreOwn key (put_row new rows)
 own_put new key rows int free own = record {
   numbered = λ row h. elim (put_has new rows row h) [ inl same ↦ subst (λ r. IsTrue (is_int (rowid r))) (sym same) int | inr was ↦ own.numbered row was ];
   apart = λ a b ha hb tied. elim (put_has new rows a ha) [

@@ -16,7 +16,8 @@ unchanged_keeps old new same = record { was_open = λ _. same.0.was_open; commit
 rolled_keeps : (old new : State) → IsRolledBack old new → KeepsCommit old new
 rolled_keeps old new back = record { was_open = back.was_open; committed = λ stands. (back.undone stands).1 }
 
-pub inside_keeps : (sql : List ℕ) (params : Row) (old new : State) (result : Result ℕ Error) → ExecutesInside 0 sql params old new result → KeepsCommit old new
+pub inside_keeps : (sql : List ℕ) (params : Row) (old new : State) (result : Result ℕ Error) → ExecutesInside 0 sql params old new result
+    → KeepsCommit old new
 inside_keeps sql params old new (Ok count) h = record { was_open = λ _. h.1.was_open; committed = λ _. h.1.committed_is }
 inside_keeps sql params old new (Err e) (inl h) = elim h.1 [ inl same ↦ unchanged_keeps old new same | inr back ↦ rolled_keeps old new back ]
 inside_keeps sql params old new (Err e) (inr h) = unchanged_keeps old new h.2

@@ -31,19 +31,22 @@ shown_cells db ours row h =
     let col2 = column_of (codes "value") kind.Integer false in
     first_filled shown_table (codes "schedule") kind.Text (col2 ∷ []) refl refl db.trees row typed present
 
-pub passes_shown : (db : Database) → IsOurs db → (schedule : List ℕ) → (row : Row) → Has (db.trees shown_tree) row → passes (given 1 0 ∷ []) (Text schedule ∷ []) row ≡ of_schedule schedule row
+pub passes_shown : (db : Database) → IsOurs db → (schedule : List ℕ) → (row : Row) → Has (db.trees shown_tree) row
+    → passes (given 1 0 ∷ []) (Text schedule ∷ []) row ≡ of_schedule schedule row
 passes_shown db ours schedule row h =
     let cell = shown_cells db ours row h in
     rw (equal_text schedule (column row 1) cell.of cell.filled, and_true) refl
 
-pub clears : (schedule : List ℕ) → (old new : State) (result : Result ℕ Error) → IsInside old → ExecutesInside 0 clear_text (Text schedule ∷ []) old new result
+pub clears : (schedule : List ℕ) → (old new : State) (result : Result ℕ Error) → IsInside old
+    → ExecutesInside 0 clear_text (Text schedule ∷ []) old new result
     → OnOk result (Changes (On shown_slot (Loses (of_schedule schedule))) old new)
 clears schedule old new result inside h =
     loses shown_slot is_shown clear_text clear_plain (given 1 0 ∷ []) (of_schedule schedule) clear_is
     (λ a b same. ap (λ l. is_text schedule (column l 0)) same) old new (Text schedule ∷ []) result
     (λ row h. passes_shown old.now inside.ours schedule row h) inside h
 
-pub adds : (schedule : List ℕ) (value : Option ℤ) → (old new : State) (result : Result ℕ Error) → IsInside old → ExecutesInside 0 add_text (Text schedule ∷ cell_of value ∷ []) old new result
+pub adds : (schedule : List ℕ) (value : Option ℤ) → (old new : State) (result : Result ℕ Error) → IsInside old
+    → ExecutesInside 0 add_text (Text schedule ∷ cell_of value ∷ []) old new result
     → OnOk result (Changes (On shown_slot (Gains (Text schedule ∷ cell_of value ∷ []))) old new)
 adds schedule value old new result inside h =
     gains shown_slot is_shown add_text add_plain (codes "shown") shown_table.columns shown_table.checks (lit Null ∷ col 0 0 ∷ col 0 1 ∷ []) 3 shown_tree refl add_is
@@ -59,7 +62,8 @@ find_shown items schedule old new (Ok v) ours shown =
     finds_same (passes (given 1 0 ∷ []) (Text schedule ∷ [])) (of_schedule schedule) (λ row. column row 2 ∷ []) (old.now.trees shown_tree) (items v) (λ row h. passes_shown old.now ours schedule row h)
     (finds find_text find_plain find_unlisted shown_tree (given 1 0 ∷ []) (col 1 2 ∷ []) (codes "value" ∷ []) find_is old new (Text schedule ∷ []) (items v) ours.schema_is shown)
 
-passes_next_name : (db : Database) → IsOurs db → (after : List ℕ) → (row : Row) → Has (db.trees shown_tree) row → passes (compared_with Gt 1 0 ∷ []) (Text after ∷ []) row ≡ (is_after after (column row 1))
+passes_next_name : (db : Database) → IsOurs db → (after : List ℕ) → (row : Row) → Has (db.trees shown_tree) row
+    → passes (compared_with Gt 1 0 ∷ []) (Text after ∷ []) row ≡ (is_after after (column row 1))
 passes_next_name db ours after row h =
     let cell = shown_cells db ours row h in
     rw (after_text after (column row 1) cell.of cell.filled, and_true) refl

@@ -31,7 +31,8 @@ use Rattle.sql_rows.specs.Stored.{Kept}
 pub record IsSlot (slot : Slot) : Type 0 where
   pub found : slice_get desk_schema.tables slot.at ≡ Some slot.table
   pub stands : (db : Trees) → slot.get (kept_in db) ≡ db slot.table.tree
-  pub others : (db next : Trees) (edit : Edit) → edit.table ≡ slot.table → Applies desk_schema Enforced db edit next → kept_in next ≡ slot.set (next slot.table.tree) (kept_in db)
+  pub others : (db next : Trees) (edit : Edit) → edit.table ≡ slot.table → Applies desk_schema Enforced db edit next
+      → kept_in next ≡ slot.set (next slot.table.tree) (kept_in db)
   pub own : (kept : Kept) → AreOurs kept → AreOwn slot.key (slot.get kept)
   pub with_own : (kept : Kept) (rows : List Row) → AreOurs kept → AreOwn slot.key rows → AreOurs (slot.set rows kept)
 
@@ -135,7 +136,8 @@ not_true false is = refl
 not_true true is = sym is
 
 module _ (slot : Slot) (is_slot : IsSlot slot) (sql : List ℕ) (plain : IsPlain (understood desk_schema sql)) where
-  pub changed : (Rows : List Row → List Row → Type 0) (edit : Edit) (old new : State) → edit.table ≡ slot.table → IsInside old → Shows old new new.now old.committed true → Ran old new edit
+  pub changed : (Rows : List Row → List Row → Type 0) (edit : Edit) (old new : State) → edit.table ≡ slot.table → IsInside old
+      → Shows old new new.now old.committed true → Ran old new edit
       → AreOwn slot.key (new.now.trees slot.table.tree) → Rows (old.now.trees slot.table.tree) (new.now.trees slot.table.tree) → Changes (On slot Rows) old new
   changed Rows edit old new on inside seen ran own rows =
       let was = kept_in old.now.trees in
@@ -168,7 +170,8 @@ module _ (slot : Slot) (is_slot : IsSlot slot) (sql : List ℕ) (plain : IsPlain
       changed (Loses gone) _ old new refl inside h.1 gave.2 (subst (AreOwn slot.key) (sym left) (own_filtered (λ r. not (gone r)) slot.key rows own)) left
 
   -- a statement that adds a row
-  pub gains : (name : List ℕ) (columns : List Column) (checks terms : List Term) (width : ℕ) (tree : ℕ) → slot.table ≡ keyed_table name tree columns slot.key checks
+  pub gains : (name : List ℕ) (columns : List Column) (checks terms : List Term) (width : ℕ) (tree : ℕ)
+      → slot.table ≡ keyed_table name tree columns slot.key checks
       → command_of (understood desk_schema sql) ≡ Insert slot.at (Values terms width)
       → (old new : State) (params cells : Row) (result : Result ℕ Error)
       → map (cast_row slot.table) (value_rows (params ++ []) width (length terms / width) terms) ≡ (Null ∷ cells) ∷ []

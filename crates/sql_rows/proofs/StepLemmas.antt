@@ -18,7 +18,8 @@ pub clean_before : (a b : State) (P : Trees → Type 0) → Survives a b P → H
 clean_before a b P one clean = omega (arith, one.clean)
 
 -- one step alone
-alone : {A : Type 0} (P Q : State → State → Type 0) (a b : State) (x y : A) → (P a b → Q a b) → Steps {A = A} P a b (Ok x) → Steps {A = A} Q a b (Ok y)
+alone : {A : Type 0} (P Q : State → State → Type 0) (a b : State) (x y : A) → (P a b → Q a b) → Steps {A = A} P a b (Ok x)
+    → Steps {A = A} Q a b (Ok y)
 alone P Q a b x y turn one = record { done = λ clean inside. turn (one.done clean inside); kept = one.kept; survives = one.survives }
 
 on_ok : {A : Type 0} {P Q : Type 0} (told : Result A Error) → (P → Q) → OnOk told P → OnOk told Q
@@ -26,7 +27,8 @@ on_ok (Ok x) f p = f p
 on_ok (Err e) f p = tt
 
 -- two steps
-pub then : {A B : Type 0} (P Q R : State → State → Type 0) (a b c : State) (x : A) (told : Result B Error) → (P a b → IsInside b) → (P a b → Q b c → R a c)
+pub then : {A B : Type 0} (P Q R : State → State → Type 0) (a b c : State) (x : A) (told : Result B Error) → (P a b → IsInside b)
+    → (P a b → Q b c → R a c)
     → Steps P a b (Ok x) → Steps Q b c told → Steps R a c told
 then P Q R a b c x told inside both one two = record {
   done = λ clean at. let first = one.done (clean_before b c _ two.survives clean) at in on_ok told (both first) (two.done clean (inside first));
@@ -48,7 +50,8 @@ one_statement P f a b z makes done kept survives = record {
 }
 
 -- two statements do
-pub two_statements : {A : Type 0} (P Q : Kept → Kept → Type 0) (f : Tables → Tables) (a b c : State) (z : A) → ((k l m : Kept) → P k l → Q l m → Makes f k m)
+pub two_statements : {A : Type 0} (P Q : Kept → Kept → Type 0) (f : Tables → Tables) (a b c : State) (z : A)
+    → ((k l m : Kept) → P k l → Q l m → Makes f k m)
     → (HasCleanDisk b → IsInside a → Changes P a b) → (HasCleanDisk b → KeepsCommit a b) → Survives a b (λ _. ⊥)
     → (HasCleanDisk c → IsInside b → Changes Q b c) → (HasCleanDisk c → KeepsCommit b c) → Survives b c (λ _. ⊥) → Steps (Turns f) a c (Ok z)
 two_statements P Q f a b c z makes done kept survives done' kept' survives' = record {

@@ -56,7 +56,8 @@ sound-from kept are =
 
 -- ---- changes
 
-pub put_next : (item : NextNumber) (row : Row) (kept : Kept) (now : List Row) → next_said row ≡ Some item → HasPut row (of_panel item.panel) kept.panel now
+pub put_next : (item : NextNumber) (row : Row) (kept : Kept) (now : List Row) → next_said row ≡ Some item
+    → HasPut row (of_panel item.panel) kept.panel now
     → (tables_in (record kept { panel = now }) ≡ record (tables_in kept) { next = with_next item (tables_in kept).next })
     × (is_sound_in kept ≡ true → is_sound_in (record kept { panel = now }) ≡ true)
 put_next item row kept now says has =
@@ -181,7 +182,8 @@ no_next panel kept none =
     (λ y t other. next-at panel y t false other)
     kept.panel none
 
-pub one_next : (panel : Text) (kept : Kept) (row : Row) (item : NextNumber) → filter (of_panel panel) kept.panel ≡ row ∷ [] → next_said row ≡ Some item
+pub one_next : (panel : Text) (kept : Kept) (row : Row) (item : NextNumber) → filter (of_panel panel) kept.panel ≡ row ∷ []
+    → next_said row ≡ Some item
     → (tables_in kept).next panel ≡ item.next
 one_next panel kept row item only says =
     one-row next_said with_next (λ name. 1) (λ t. t panel) (of_panel panel) (λ y. bytes_eq panel y.panel) (panel-agrees panel)
@@ -200,7 +202,8 @@ alike-text key a b first second = text-same a b (sym (same-text key a first) ∙
 alike-number : (key m n : ℕ) → (key == m) ≡ true → (key == n) ≡ true → (m == n) ≡ true
 alike-number key m n first second = eq-eqb m n (sym (eqb-true key m first) ∙ eqb-true key n second)
 
-pub two_next : (panel : Text) (kept : Kept) (a b : Row) (more : List Row) → filter (of_panel panel) kept.panel ≡ a ∷ b ∷ more → is_sound_in kept ≡ false
+pub two_next : (panel : Text) (kept : Kept) (a b : Row) (more : List Row) → filter (of_panel panel) kept.panel ≡ a ∷ b ∷ more
+    → is_sound_in kept ≡ false
 two_next panel kept a b more two =
     false_from_ne_true _ (λ is. both_ways _ (two-rows next_said same_panel (of_panel panel) (λ y. bytes_eq panel y.panel) (panel-agrees panel)
     (λ x y first second. alike-text panel x.panel y.panel first second)
@@ -208,7 +211,8 @@ two_next panel kept a b more two =
 
 -- ---- reads of `command`
 
-pub no_command : (panel : Text) (number : ℕ) (kept : Kept) → filter (of_command panel number) kept.command ≡ [] → (tables_in kept).row panel number ≡ None
+pub no_command : (panel : Text) (number : ℕ) (kept : Kept) → filter (of_command panel number) kept.command ≡ []
+    → (tables_in kept).row panel number ≡ None
 no_command panel number kept none =
     no-row command_said with_row (λ name n. None) (λ t. t panel number) (of_command panel number) (λ y. bytes_eq panel y.panel && number == y.number)
     (command-agrees panel number)
@@ -229,7 +233,8 @@ pub bad_command : (kept : Kept) (row : Row) → Contains kept.command row → co
 bad_command kept row here none =
     false_from_ne_true _ (λ is. both_ways _ (bad-row command_said same_command kept.command row here none) (sound-parts kept is).command)
 
-pub two_command : (panel : Text) (number : ℕ) (kept : Kept) (a b : Row) (more : List Row) → filter (of_command panel number) kept.command ≡ a ∷ b ∷ more
+pub two_command : (panel : Text) (number : ℕ) (kept : Kept) (a b : Row) (more : List Row)
+    → filter (of_command panel number) kept.command ≡ a ∷ b ∷ more
     → is_sound_in kept ≡ false
 two_command panel number kept a b more two =
     false_from_ne_true _ (λ is. both_ways _ (two-rows command_said same_command (of_command panel number) (λ y. bytes_eq panel y.panel && number == y.number)
@@ -242,7 +247,8 @@ two_command panel number kept a b more two =
 
 -- ---- reads of `place`
 
-pub no_place : (point : Text) (priority : ℕ) (kept : Kept) → filter (of_place point priority) kept.place ≡ [] → get ((tables_in kept).places point) priority ≡ None
+pub no_place : (point : Text) (priority : ℕ) (kept : Kept) → filter (of_place point priority) kept.place ≡ []
+    → get ((tables_in kept).places point) priority ≡ None
 no_place point priority kept none =
     no-row place_said with_place (λ name. empty) (λ t. get (t point) priority) (of_place point priority) (λ y. bytes_eq point y.point && priority == y.priority)
     (place-agrees point priority)
@@ -276,7 +282,8 @@ two_place point priority kept a b more two =
     kept.place a b more two) (sound-parts kept is).place)
 
 -- no item is of a priority outside 1 to 16
-none-outside : (q : ℕ) → ((n : ℕ) → 1 ≤ n → n ≤ 16 → (q == n) ≡ false) → (rows : List Row) → filter (λ y. q == y.priority) (filter_map place_said rows) ≡ []
+none-outside : (q : ℕ) → ((n : ℕ) → 1 ≤ n → n ≤ 16 → (q == n) ≡ false) → (rows : List Row)
+    → filter (λ y. q == y.priority) (filter_map place_said rows) ≡ []
 none-outside q outside [] = refl
 none-outside q outside (row ∷ rows) =
     sym (item-goes (λ y. q == y.priority) (place_said row) (filter_map place_said rows) []
@@ -332,7 +339,8 @@ here_imported kept row item here says =
     (λ y t is. entry-stays item.calendar (spelling item.entry) y t is)
     item (λ t. entry-shows item t) kept.imported row says here.0 here.1 here.2 (λ calendar text. false)
 
-pub not_imported : (calendar text : Text) (kept : Kept) → filter (of_entry calendar text) kept.imported ≡ [] → (tables_in kept).imported calendar text ≡ false
+pub not_imported : (calendar text : Text) (kept : Kept) → filter (of_entry calendar text) kept.imported ≡ []
+    → (tables_in kept).imported calendar text ≡ false
 not_imported calendar text kept none =
     no-row imported_said with_imported (λ name t. false) (λ t. t calendar text) (of_entry calendar text)
     (λ y. bytes_eq calendar y.calendar && bytes_eq text (spelling y.entry)) (entry-agrees calendar text)

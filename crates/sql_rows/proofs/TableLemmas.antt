@@ -83,7 +83,8 @@ pub shown-absorb : (x y : ShownValue) (t : List ℕ → Option (Option ℤ)) →
 shown-absorb x y t same =
     λ i. λ q. over (bytes_eq x.schedule q) (bytes_eq y.schedule q) x.shown y.shown (t q) (λ no yes. both_ways (bytes_eq x.schedule q) no (follow x.schedule y.schedule q same yes)) i
 
-pub shown-commute : (x y : ShownValue) (t : List ℕ → Option (Option ℤ)) → same_schedule x y ≡ false → with_shown x (with_shown y t) ≡ with_shown y (with_shown x t)
+pub shown-commute : (x y : ShownValue) (t : List ℕ → Option (Option ℤ)) → same_schedule x y ≡ false
+    → with_shown x (with_shown y t) ≡ with_shown y (with_shown x t)
 shown-commute x y t apart =
     λ i. λ q. past (bytes_eq x.schedule q) (bytes_eq y.schedule q) x.shown y.shown (t q) (λ one two. both_ways (same_schedule x y) apart (meet x.schedule y.schedule q one two)) i
 
@@ -141,7 +142,8 @@ pub lower-absorb : (x : RowsBelow) (y : KeptRow) (t : List ℕ → Rows) → is_
 lower-absorb x y t low =
     λ i. λ q n. over (below-row x q n) (at-row y q n) None (Some y.row) (t q n) (λ no yes. both_ways (below-row x q n) no (lower-here x y q n yes ∙ low)) i
 
-pub lower-commute : (x : RowsBelow) (y : KeptRow) (t : List ℕ → Rows) → is_lower x y ≡ false → without_rows x (with_row y t) ≡ with_row y (without_rows x t)
+pub lower-commute : (x : RowsBelow) (y : KeptRow) (t : List ℕ → Rows) → is_lower x y ≡ false
+    → without_rows x (with_row y t) ≡ with_row y (without_rows x t)
 lower-commute x y t high =
     λ i. λ q n. past (below-row x q n) (at-row y q n) None (Some y.row) (t q n) (λ one two. both_ways (below-row x q n) (lower-here x y q n two ∙ high) one) i
 
@@ -150,14 +152,16 @@ lower-none x = λ i. λ q n. both-same (below-row x q n) None i
 
 -- ---- places
 
-pub get-put : (places : Places) (priority : ℕ) (value : Option ℤ) (q : ℕ) → get (put places priority value) q ≡ cond (eq_by_cmp nat_cmp q priority) value (get places q)
+pub get-put : (places : Places) (priority : ℕ) (value : Option ℤ) (q : ℕ)
+    → get (put places priority value) q ≡ cond (eq_by_cmp nat_cmp q priority) value (get places q)
 get-put places priority None q = get-remove nat_cmp_total places priority q
 get-put places priority (Some value) q = get-insert nat_cmp_total places priority value q
 
 tied-is : (q n : ℕ) → eq_by_cmp nat_cmp q n ≡ (q == n)
 tied-is q n = grind (arith, nat_tests)
 
-pub get-put_at : (places : Places) (priority : ℕ) (value : Option ℤ) (q : ℕ) → get (put places priority value) q ≡ cond (q == priority) value (get places q)
+pub get-put_at : (places : Places) (priority : ℕ) (value : Option ℤ) (q : ℕ)
+    → get (put places priority value) q ≡ cond (q == priority) value (get places q)
 get-put_at places priority value q = get-put places priority value q ∙ ap (λ b. cond b value (get places q)) (tied-is q priority)
 
 put-twice : (places : Places) (m n : ℕ) (u v : Option ℤ) (q : ℕ) → get (put (put places n v) m u) q ≡ cond (q == m) u (cond (q == n) v (get places q))
@@ -227,20 +231,23 @@ entry-either x y = either-both (either-text x.calendar y.calendar) (either-text 
 abbrev at-entry : ImportedEntry → List ℕ → List ℕ → Bool
 at-entry x c e = bytes_eq x.calendar c && bytes_eq (spelling x.entry) e
 
-pub entry-absorb : (x y : ImportedEntry) (t : List ℕ → List ℕ → Bool) → same_entry x y ≡ true → with_imported x (with_imported y t) ≡ with_imported x t
+pub entry-absorb : (x y : ImportedEntry) (t : List ℕ → List ℕ → Bool) → same_entry x y ≡ true
+    → with_imported x (with_imported y t) ≡ with_imported x t
 entry-absorb x y t same =
     let parts = and_parts (bytes_eq x.calendar y.calendar) (bytes_eq (spelling x.entry) (spelling y.entry)) same in
     let calendars : x.calendar ≡ y.calendar = same-text x.calendar y.calendar parts.0 in
     let texts : spelling x.entry ≡ spelling y.entry = same-text (spelling x.entry) (spelling y.entry) parts.1 in
     λ i. λ c e. or-over (at-entry x c e) (at-entry y c e) (t c e) (λ j. bytes_eq (calendars j) c && bytes_eq (texts j) e) i
 
-pub entry-commute : (x y : ImportedEntry) (t : List ℕ → List ℕ → Bool) → same_entry x y ≡ false → with_imported x (with_imported y t) ≡ with_imported y (with_imported x t)
+pub entry-commute : (x y : ImportedEntry) (t : List ℕ → List ℕ → Bool) → same_entry x y ≡ false
+    → with_imported x (with_imported y t) ≡ with_imported y (with_imported x t)
 entry-commute x y t apart = λ i. λ c e. or-past (at-entry x c e) (at-entry y c e) (t c e) i
 
 -- ---- what an item leaves and shows at a key
 
 -- whether a row is of the key, asked the one way and the other
-pub next-at : (panel : List ℕ) (y : NextNumber) (t : List ℕ → ℕ) (b : Bool) → bytes_eq panel y.panel ≡ b → with_next y t panel ≡ cond b y.next (t panel)
+pub next-at : (panel : List ℕ) (y : NextNumber) (t : List ℕ → ℕ) (b : Bool) → bytes_eq panel y.panel ≡ b
+    → with_next y t panel ≡ cond b y.next (t panel)
 next-at panel y t b is = ap (λ c. cond c y.next (t panel)) (either-text y.panel panel ∙ is)
 
 pub shown-at : (schedule : List ℕ) (y : ShownValue) (t : List ℕ → Option (Option ℤ)) (b : Bool) → bytes_eq schedule y.schedule ≡ b
@@ -252,11 +259,13 @@ pub row-at : (panel : List ℕ) (number : ℕ) (y : KeptRow) (t : List ℕ → R
 row-at panel number y t b is =
     ap (λ c. cond c (Some y.row) (t panel number)) (either-both (either-text y.panel panel) (either-number y.number number) ∙ is)
 
-get-place-in : (b : Bool) (y : PlaceValue) (places : Places) (q : ℕ) → get (place-in b y places) q ≡ cond (b && q == y.priority) y.value (get places q)
+get-place-in : (b : Bool) (y : PlaceValue) (places : Places) (q : ℕ)
+    → get (place-in b y places) q ≡ cond (b && q == y.priority) y.value (get places q)
 get-place-in true y places q = get-put_at places y.priority y.value q
 get-place-in false y places q = refl
 
-pub place-at : (point : List ℕ) (priority : ℕ) (y : PlaceValue) (t : List ℕ → Places) (b : Bool) → (bytes_eq point y.point && priority == y.priority) ≡ b
+pub place-at : (point : List ℕ) (priority : ℕ) (y : PlaceValue) (t : List ℕ → Places) (b : Bool)
+    → (bytes_eq point y.point && priority == y.priority) ≡ b
     → get (with_place y t point) priority ≡ cond b y.value (get (t point) priority)
 place-at point priority y t b is =
     get-place-in (bytes_eq y.point point) y (t point) priority
@@ -277,7 +286,8 @@ pub entry-at : (calendar text : List ℕ) (y : ImportedEntry) (t : List ℕ → 
 entry-at calendar text y t b is =
     ap (λ c. c || t calendar text) (either-both (either-text y.calendar calendar) (either-text (spelling y.entry) text) ∙ is)
 
-pub entry-stays : (calendar text : List ℕ) (y : ImportedEntry) (t : List ℕ → List ℕ → Bool) → t calendar text ≡ true → with_imported y t calendar text ≡ true
+pub entry-stays : (calendar text : List ℕ) (y : ImportedEntry) (t : List ℕ → List ℕ → Bool) → t calendar text ≡ true
+    → with_imported y t calendar text ≡ true
 entry-stays calendar text y t is = ap (λ c. at-entry y calendar text || c) is ∙ always (at-entry y calendar text) where
   always : (b : Bool) → (b || true) ≡ true
   always true = refl

@@ -64,7 +64,8 @@ module _ (sql : List ℕ) (at : ℕ) (table : Table) (found : slice_get desk_sch
         record { schema = ap (λ (d : Database). d.schema) now; sound = w.sound; applies = subst (Applies desk_schema Enforced db edit) left (one_step desk_schema Enforced db written.0 edit refl written.1) },
       )
 
-  pub updates : (tree : ℕ) (terms project : List Term) → command_of (understood desk_schema sql) ≡ Update at (record { lets = []; body = plain_query tree terms project })
+  pub updates : (tree : ℕ) (terms project : List Term)
+      → command_of (understood desk_schema sql) ≡ Update at (record { lets = []; body = plain_query tree terms project })
       → (old new : State) (params : Row) (count : ℕ) → old.now.schema ≡ desk_schema → Executes sql params old new (Ok count)
       → (rows : List Row) × IsPermutation (map (shows project params) (filter (passes terms params) (old.now.trees tree))) rows × Ran old new (edit_of old.now.trees table (ids_of rows) Given 1 rows) × (count ≡ length rows)
   updates tree terms project is old new params count has h =

@@ -37,7 +37,8 @@ module _ {S : Type 0} (g : Ghosts S) (old mid new : Held S) where
   not_committed (Err e) kept fails settled is_open = failed e kept fails settled is_open
 
   -- a stop leaves what was there before, or the whole change
-  pub survives_whole : {A : Type 0} (change : Change) (x : A) → Steps {A = A} (Turns (with_change change)) (state g (record old { in_transaction = true })) (state g mid) (Ok x)
+  pub survives_whole : {A : Type 0} (change : Change) (x : A)
+      → Steps {A = A} (Turns (with_change change)) (state g (record old { in_transaction = true })) (state g mid) (Ok x)
       → Survives (state g mid) (state g new) (λ trees. trees ≡ (state g mid).now.trees)
       → Survives (state g old) (state g new) (λ trees. IsOurs (state g old).now → Makes (with_change change) (kept_in (state g old).now.trees) (kept_in trees))
   survives_whole change x steps commits =

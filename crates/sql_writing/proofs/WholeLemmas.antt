@@ -31,7 +31,8 @@ shown : (items : List ShownValue) (t : Tables) → with_each shown_put items t �
 shown [] t = refl
 shown (item ∷ items) t = shown items (shown_put item t)
 
-imported : (items : List ImportedEntry) (t : Tables) → with_each imported_put items t ≡ record t { imported = with_each with_imported items t.imported }
+imported : (items : List ImportedEntry) (t : Tables)
+    → with_each imported_put items t ≡ record t { imported = with_each with_imported items t.imported }
 imported [] t = refl
 imported (item ∷ items) t = imported items (imported_put item t)
 

@@ -90,7 +90,8 @@ IsOpen-read first second reads = record {
     not_bad e = cc
 
 -- a call that did nothing but read, and then tells a fault of its own
-pub Goes-told : (fault : StoreFault) (first second : Standing) → Goes None first second → (Some fault ≡ Some Shut → ⊥) → (Some fault ≡ Some Failed → ⊥)
+pub Goes-told : (fault : StoreFault) (first second : Standing) → Goes None first second → (Some fault ≡ Some Shut → ⊥)
+    → (Some fault ≡ Some Failed → ⊥)
     → Goes (Some fault) first second
 Goes-told fault first second before no_shut no_failure = record {
   honest = before.honest;
@@ -103,7 +104,8 @@ Goes-told fault first second before no_shut no_failure = record {
 }
 
 -- a call that fails for want of memory, where nothing was done but reads
-pub Reads-told : (fault : StoreFault) (first second : Standing) → Reads None first second → (Some fault ≡ Some NoMemory) → Reads (Some fault) first second
+pub Reads-told : (fault : StoreFault) (first second : Standing) → Reads None first second → (Some fault ≡ Some NoMemory)
+    → Reads (Some fault) first second
 Reads-told fault first second before is = record {
   goes = Goes-told fault first second before.goes (λ told. memory_not_shut (sym is ∙ told)) (λ told. memory_not_failed (sym is ∙ told));
   kept = λ honest told. before.kept honest not_failed;

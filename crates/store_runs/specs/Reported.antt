@@ -17,7 +17,8 @@ use Rattle.store_runs.specs.Answered.{Opens}
 
 -- the report over the tables of the list E was printed, and the store holds them still
 pub record Reports (b : Building) (E : List Delivery) (day : Date) (left : Standing) (old new : Option (List ℕ)) : Type 0 where
-  pub printed : (imported : Text → List Text) → Tells (tables b E).imported imported → Appends old new (report_text b imported (tables b E).places day)
+  pub printed : (imported : Text → List Text) → Tells (tables b E).imported imported
+      → Appends old new (report_text b imported (tables b E).places day)
   pub holds : Holds b E left
 
 -- The file is a building, the text spells a day, and the report of that day was printed: over whatever list of deliveries

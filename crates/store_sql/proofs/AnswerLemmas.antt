@@ -23,7 +23,8 @@ use Rattle.store_sql.proofs.Questions.{has_no_number, one, pair_query, pairing, 
 abbrev pub pair_passes : List Term → Row → Row → Bool
 pair_passes terms a b = list_all (holds ([] ∷ a ∷ b ∷ [])) terms
 
-plain_empty : (tree : ℕ) (terms : List Term) (db : Trees) (rows : List Row) → IsAnswer (plain_query tree terms one) db [] rows → (rows ≡ []) ↔ ((row : Row) → Has (db tree) row → passes terms [] row ≡ false)
+plain_empty : (tree : ℕ) (terms : List Term) (db : Trees) (rows : List Row) → IsAnswer (plain_query tree terms one) db [] rows
+    → (rows ≡ []) ↔ ((row : Row) → Has (db tree) row → passes terms [] row ≡ false)
 plain_empty tree terms db rows answer = (there, back)
   where
     there : rows ≡ [] → (row : Row) → Has (db tree) row → passes terms [] row ≡ false
@@ -59,10 +60,12 @@ pair_empty tree terms db rows answer = (there, back)
         answer.shown ∙ ap (map (λ (o : Output). o.1)) ordered
 
 -- what the command of the text reads
-read_as : (sql : List ℕ) (command : Command) → command_of (understood desk_schema sql) ≡ command → (none : Bool) (db : Database) → (h : FindsNone sql none db) → Reads command db [] h.rows
+read_as : (sql : List ℕ) (command : Command) → command_of (understood desk_schema sql) ≡ command → (none : Bool) (db : Database)
+    → (h : FindsNone sql none db) → Reads command db [] h.rows
 read_as sql command is none db h = subst (λ k. Reads k db [] h.rows) (sym (ap command_of h.is) ∙ is) h.read
 
-pub plain_none : (sql : List ℕ) (tree : ℕ) → command_of (understood desk_schema sql) ≡ unnumbered tree → (none : Bool) (db : Database) → FindsNone sql none db
+pub plain_none : (sql : List ℕ) (tree : ℕ) → command_of (understood desk_schema sql) ≡ unnumbered tree → (none : Bool) (db : Database)
+    → FindsNone sql none db
     → IsTrue none ↔ ((row : Row) → Has (db.trees tree) row → passes (has_no_number ∷ []) [] row ≡ false)
 plain_none sql tree is none db h =
     let read = read_as sql (unnumbered tree) is none db h in
@@ -72,7 +75,8 @@ plain_none sql tree is none db h =
       λ each. h.told.1 (empty.1 (subst (λ l. (row : Row) → Has l row → passes (has_no_number ∷ []) [] row ≡ false) (sym same) each)),
     )
 
-pub pair_none : (sql : List ℕ) (tree : ℕ) (different : Term) → command_of (understood desk_schema sql) ≡ pairing tree different → (none : Bool) (db : Database) → FindsNone sql none db
+pub pair_none : (sql : List ℕ) (tree : ℕ) (different : Term) → command_of (understood desk_schema sql) ≡ pairing tree different
+    → (none : Bool) (db : Database) → FindsNone sql none db
     → IsTrue none ↔ ((a b : Row) → Has (db.trees tree) a → Has (db.trees tree) b → pair_passes (share ∷ different ∷ []) a b ≡ false)
 pair_none sql tree different is none db h =
     let read = read_as sql (pairing tree different) is none db h in

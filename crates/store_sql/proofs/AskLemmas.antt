@@ -18,7 +18,8 @@ abbrev pub Saying : Type 1
 Saying = Bool → Database → Type 0
 
 -- an answer says what follows from it
-pub asks_as : (P Q : Saying) → ((b : Bool) (db : Database) → IsFitting db → P b db → Q b db) → (old new : State) (r : Result Bool Error) → Asks P old new r → Asks Q old new r
+pub asks_as : (P Q : Saying) → ((b : Bool) (db : Database) → IsFitting db → P b db → Q b db) → (old new : State) (r : Result Bool Error)
+    → Asks P old new r → Asks Q old new r
 asks_as P Q f old new r h = record { same = h.same; rests = h.rests; told = λ clean fit. follows r fit (h.told clean fit); survives = h.survives }
   where
     follows : (r : Result Bool Error) → IsFitting old.now → IfOk r (λ b. P b old.now) → IfOk r (λ b. Q b old.now)
@@ -29,13 +30,15 @@ asks_as P Q f old new r h = record { same = h.same; rests = h.rests; told = λ c
 plain_here : (sql : List ℕ) (s : State) → IsAskable sql → IsFitting s.now → IsPlain (understood s.now.schema sql)
 plain_here sql s ask fit = subst (λ schema. IsPlain (understood schema sql)) (sym fit.schema_is) ask.plain
 
-never_here : (sql : List ℕ) (old new : State) → IsAskable sql → Survives old new (λ _. IsPlain (understood old.now.schema sql) → ⊥) → Survives old new (λ _. IsFitting old.now → ⊥)
+never_here : (sql : List ℕ) (old new : State) → IsAskable sql → Survives old new (λ _. IsPlain (understood old.now.schema sql) → ⊥)
+    → Survives old new (λ _. IsFitting old.now → ⊥)
 never_here sql old new ask survives =
     survives_weaker old new (λ _. IsPlain (understood old.now.schema sql) → ⊥) (λ _. IsFitting old.now → ⊥) (λ _ db never fit. never (plain_here sql old ask fit)) survives
 
 -- what was looked at, of a question with an answer in a Bool
 module _ (says : Saying) (sql : List ℕ) (ask : IsAskable sql) (old new : State) where
-  pub looked : (answer : Bool) (rows : List Row) → ((c : Compiled) → understood desk_schema sql ≡ Ok c → Reads c.command old.now [] rows → says answer old.now)
+  pub looked : (answer : Bool) (rows : List Row)
+      → ((c : Compiled) → understood desk_schema sql ≡ Ok c → Reads c.command old.now [] rows → says answer old.now)
       → (HasCleanDisk new → Shown sql [] old new rows)
       → (HasCleanDisk new → IsPlain (understood old.now.schema sql) → IsUnchanged old new)
       → (HasCleanDisk new → IsPlain (understood old.now.schema sql) → Rests old new)

@@ -67,7 +67,8 @@ either_told true false = refl
 either_told false true = refl
 either_told false false = refl
 
-pub differ_told : (v w x y : Value) → is_true (binary Or (unary Not (binary (Is Binary) v w)) (unary Not (binary (Is Binary) x y))) ≡ not (ties v w && ties x y)
+pub differ_told : (v w x y : Value)
+    → is_true (binary Or (unary Not (binary (Is Binary) v w)) (unary Not (binary (Is Binary) x y))) ≡ not (ties v w && ties x y)
 unfolding binary
 differ_told v w x y = either_told (ties v w) (ties x y)
 

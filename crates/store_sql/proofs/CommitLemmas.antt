@@ -21,7 +21,8 @@ use Rattle.store_sql.specs.declared.session.Session.{Session}
 use Rattle.store_sql.proofs.StandLemmas.{Settles, settled_at}
 
 -- a shut store answers S3 and is left as it is
-pub commits_shut : (change : Change) (s : State) (failures : ℕ) (is_shut : Bool) → is_shut ≡ true → Commits change (Some Shut) (standing_at s failures is_shut) (standing_at s failures is_shut)
+pub commits_shut : (change : Change) (s : State) (failures : ℕ) (is_shut : Bool) → is_shut ≡ true
+    → Commits change (Some Shut) (standing_at s failures is_shut) (standing_at s failures is_shut)
 commits_shut change s failures is_shut shut = record {
   goes = record {
     honest = λ h. h;
@@ -46,7 +47,8 @@ module _ (change : Change) (old new : State) (failures : ℕ) (was_shut : Bool) 
   stood clean = fit.stands (clean_before old new survives.clean clean) was_open
 
   -- what the rows say is what the content says
-  made_of : HasCleanDisk new → (trees : Trees) → ours.Makes (with_change change) (kept_in old.now.trees) (kept_in trees) → Makes change (content_of old.committed.trees) (content_of trees)
+  made_of : HasCleanDisk new → (trees : Trees) → ours.Makes (with_change change) (kept_in old.now.trees) (kept_in trees)
+      → Makes change (content_of old.committed.trees) (content_of trees)
   made_of clean trees makes =
       subst (λ d. Makes change (content_of d.trees) (content_of trees)) (stood clean).same
       (record { tables = makes.tables; is_sound = makes.is_sound })
@@ -84,7 +86,8 @@ module _ (change : Change) (old new : State) (failures : ℕ) (was_shut : Bool) 
       )
 
   -- memory was refused, and the connection goes on with what it had
-  pub commit_refused : (HasCleanDisk new → (new.now ≡ old.committed) × (new.committed ≡ old.committed) × IsTrue new.is_open) → (now_shut : Bool) → now_shut ≡ was_shut
+  pub commit_refused : (HasCleanDisk new → (new.now ≡ old.committed) × (new.committed ≡ old.committed) × IsTrue new.is_open)
+      → (now_shut : Bool) → now_shut ≡ was_shut
       → IsFit new now_shut × Commits change (Some NoMemory) (standing_at old failures was_shut) (standing_at new failures now_shut)
   commit_refused undone now_shut same_shut =
       let now_fit : IsFit new now_shut = record {

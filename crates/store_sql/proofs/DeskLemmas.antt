@@ -34,7 +34,8 @@ one_from_length (r ∷ []) is = (r, refl)
 one_from_length (r ∷ s ∷ rows) is = absurd cc
 
 -- the answer has as many rows as the table
-pub alone_told : (rows : List Row) (n : ℕ) → n ≡ length rows → (db : Database) → (compiled : Compiled) → understood desk_schema find_text ≡ Ok compiled → Reads compiled.command db [] rows → TellsOf desk_tree IsAlone (n == 1) db
+pub alone_told : (rows : List Row) (n : ℕ) → n ≡ length rows → (db : Database) → (compiled : Compiled)
+    → understood desk_schema find_text ≡ Ok compiled → Reads compiled.command db [] rows → TellsOf desk_tree IsAlone (n == 1) db
 alone_told rows n counted db compiled is h =
     let read = subst (λ k. Reads k db [] rows) (sym (ap command_of is) ∙ find_is) h in
     let shown = plain_program desk_tree [] (col 1 2 ∷ col 1 3 ∷ []) db.trees [] rows read.answer in
@@ -44,7 +45,8 @@ alone_told rows n counted db compiled is h =
       λ one. (Decides-eqb n 1).1 (many ∙ ap length one.1),
     )
 
-pub desk_told : (own : Bool) (db : Database) → IsFitting db → Joins (TellsOf desk_tree IsAlone) (TellsOf desk_tree AreNumbered) own db → TellsOf desk_tree IsOne own db
+pub desk_told : (own : Bool) (db : Database) → IsFitting db → Joins (TellsOf desk_tree IsAlone) (TellsOf desk_tree AreNumbered) own db
+    → TellsOf desk_tree IsOne own db
 desk_told own db fit h = elim h.is [
   | inl both ↦
       let one = both.0.0 refl in (

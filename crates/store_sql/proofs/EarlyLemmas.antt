@@ -28,7 +28,8 @@ module _ (next : Text → ℕ) where
   stays_gone (q ∷ panels) row p n none =
       stays_gone panels (without_rows (early_rows next q) row) p n (ap (cond (bytes_eq q p && nat_lt n (next q - 1_000)) None) none ∙ both_same (bytes_eq q p && nat_lt n (next q - 1_000)) None)
 
-  late_step : (q p : Text) (n : ℕ) (kept : Option CommandRow) → nat_lt n (next p - 1_000) ≡ false → cond (bytes_eq q p && nat_lt n (next q - 1_000)) None kept ≡ kept
+  late_step : (q p : Text) (n : ℕ) (kept : Option CommandRow) → nat_lt n (next p - 1_000) ≡ false
+      → cond (bytes_eq q p && nat_lt n (next q - 1_000)) None kept ≡ kept
   late_step q p n kept late = elim (cases_Bool (bytes_eq q p)) [
     | inl same ↦
         let is : q ≡ p = (bytes_eq-Decides q p).0 same in
@@ -42,14 +43,16 @@ module _ (next : Text → ℕ) where
   late_stays [] row p n late = refl
   late_stays (q ∷ panels) row p n late = late_stays panels (without_rows (early_rows next q) row) p n late ∙ late_step q p n (row p n) late
 
-  early_step : (q p : Text) (n : ℕ) (kept : Option CommandRow) → q ≡ p → nat_lt n (next p - 1_000) ≡ true → cond (bytes_eq q p && nat_lt n (next q - 1_000)) None kept ≡ None
+  early_step : (q p : Text) (n : ℕ) (kept : Option CommandRow) → q ≡ p → nat_lt n (next p - 1_000) ≡ true
+      → cond (bytes_eq q p && nat_lt n (next q - 1_000)) None kept ≡ None
   early_step q p n kept is early =
       let same : bytes_eq q p ≡ true = (bytes_eq-Decides q p).1 is in
       let low : nat_lt n (next q - 1_000) ≡ true = ap (λ t. nat_lt n (next t - 1_000)) is ∙ early in
       rw (same, low) refl
 
   -- an early row of a panel of the list goes
-  early_goes : (panels : List Text) (row : Text → Rows) (p : Text) (n : ℕ) → Contains panels p → nat_lt n (next p - 1_000) ≡ true → after panels row p n ≡ None
+  early_goes : (panels : List Text) (row : Text → Rows) (p : Text) (n : ℕ) → Contains panels p → nat_lt n (next p - 1_000) ≡ true
+      → after panels row p n ≡ None
   early_goes [] row p n (k, below, at) early = absurd (omega (arith, below))
   early_goes (q ∷ panels) row p n (zero, below, at) early =
       stays_gone panels (without_rows (early_rows next q) row) p n (early_step q p n (row p n) at early)
@@ -70,7 +73,8 @@ module _ (tables : Tables) (panels : List Text) (are : AreTexts (HasPanel tables
         late_stays tables.next panels tables.row p n late ∙ sym (rw high refl)
   ]
 
-  pub drops_early : (change : Change) → change.nexts.items ≡ [] → change.rows.items ≡ [] → change.dropped.items ≡ map (early_rows tables.next) panels → change.places.items ≡ [] → change.shown.items ≡ []
+  pub drops_early : (change : Change) → change.nexts.items ≡ [] → change.rows.items ≡ []
+      → change.dropped.items ≡ map (early_rows tables.next) panels → change.places.items ≡ [] → change.shown.items ≡ []
       → change.imported.items ≡ [] → change.last_tick ≡ None → DropsEarly tables change
   unfolding with_change
   drops_early change nexts rows dropped places shown imported last = record {
@@ -88,7 +92,8 @@ module _ (tables : Tables) (panels : List Text) (are : AreTexts (HasPanel tables
   }
 
 -- one panel more
-pub far_more : (next : Text → ℕ) (panels : List Text) (i : ℕ) (panel : Text) (dropped longer : List RowsBelow) → i < length panels → panel ≡ get_or panels i panel
+pub far_more : (next : Text → ℕ) (panels : List Text) (i : ℕ) (panel : Text) (dropped longer : List RowsBelow) → i < length panels
+    → panel ≡ get_or panels i panel
     → dropped ++ map (early_rows next) (drop i panels) ≡ map (early_rows next) panels → longer ≡ dropped ++ early_rows next panel ∷ []
     → longer ++ map (early_rows next) (drop (i + 1) panels) ≡ map (early_rows next) panels
 far_more next panels i panel dropped longer below is far put =

@@ -25,28 +25,34 @@ not_run_rests sql params old new e (inr h) =
     record { was_open = back.was_open; same = λ alike stands. ((back.undone stands).0 ∙ sym alike, (back.undone stands).1) }
 
 -- the answer on `desk` is the cells of its one row
-one_answer : (kept answer : List Row) (one : IsOne kept) → Finds (λ row. true) (λ row. column row 2 ∷ column row 3 ∷ []) kept answer → answer ≡ (column one.row 2 ∷ column one.row 3 ∷ []) ∷ []
+one_answer : (kept answer : List Row) (one : IsOne kept) → Finds (λ row. true) (λ row. column row 2 ∷ column row 3 ∷ []) kept answer
+    → answer ≡ (column one.row 2 ∷ column one.row 3 ∷ []) ∷ []
 one_answer kept answer one found = one_permutation (column one.row 2 ∷ column one.row 3 ∷ []) answer (rw one.is at found.shown)
 
-first_cell : (kept answer : List Row) (row : Row) (one : IsOne kept) → Finds (λ row. true) (λ row. column row 2 ∷ column row 3 ∷ []) kept answer → Some row ≡ slice_get answer 0 → version_in kept ≡ number_in (column row 0)
+first_cell : (kept answer : List Row) (row : Row) (one : IsOne kept)
+    → Finds (λ row. true) (λ row. column row 2 ∷ column row 3 ∷ []) kept answer → Some row ≡ slice_get answer 0
+    → version_in kept ≡ number_in (column row 0)
 first_cell kept answer row one found first =
     let same : Some row ≡ Some (column one.row 2 ∷ column one.row 3 ∷ []) = first ∙ ap (λ l. slice_get l 0) (one_answer kept answer one found) in
     let row_is : row ≡ column one.row 2 ∷ column one.row 3 ∷ [] = cc in
     ap version_in one.is ∙ ap (λ r. number_in (column r 0)) (sym row_is)
 
 -- the first row of the answer on `desk` tells what the one row of `desk` tells
-pub version_told : (kept answer : List Row) (row : Row) → IsOne kept → Finds (λ row. true) (λ row. column row 2 ∷ column row 3 ∷ []) kept answer → Some row ≡ slice_get answer 0
+pub version_told : (kept answer : List Row) (row : Row) → IsOne kept
+    → Finds (λ row. true) (λ row. column row 2 ∷ column row 3 ∷ []) kept answer → Some row ≡ slice_get answer 0
     → (r : Result ℤ ReadFault) → IfOk r (λ n. number_in (column row 0) ≡ Some n) → IfOk r (λ n. version_in kept ≡ Some n)
 version_told kept answer row one found first (Err e) told = tt
 version_told kept answer row one found first (Ok n) told = first_cell kept answer row one found first ∙ told
 
-pub version_untold : (kept answer : List Row) (row : Row) → IsOne kept → Finds (λ row. true) (λ row. column row 2 ∷ column row 3 ∷ []) kept answer → Some row ≡ slice_get answer 0
+pub version_untold : (kept answer : List Row) (row : Row) → IsOne kept
+    → Finds (λ row. true) (λ row. column row 2 ∷ column row 3 ∷ []) kept answer → Some row ≡ slice_get answer 0
     → (r : Result ℤ ReadFault) → IfErr r (λ _. number_in (column row 0) ≡ None) → IfErr r (λ _. version_in kept ≡ None)
 version_untold kept answer row one found first (Ok n) untold = tt
 version_untold kept answer row one found first (Err e) untold = first_cell kept answer row one found first ∙ untold
 
 -- the answer on `desk` has a row
-pub never_empty : (kept answer : List Row) → IsOne kept → Finds (λ row. true) (λ row. column row 2 ∷ column row 3 ∷ []) kept answer → None ≡ slice_get answer 0 → ⊥
+pub never_empty : (kept answer : List Row) → IsOne kept → Finds (λ row. true) (λ row. column row 2 ∷ column row 3 ∷ []) kept answer
+    → None ≡ slice_get answer 0 → ⊥
 never_empty kept answer one found none =
     let same : None ≡ Some (column one.row 2 ∷ column one.row 3 ∷ []) = none ∙ ap (λ l. slice_get l 0) (one_answer kept answer one found) in
     let e = same in cc
@@ -58,7 +64,8 @@ judged_ours old mid settled judged =
     subst IsOurs (sym judged.now) (record { schema_is = fit.schema_is; sound = fit.sound; rows = judged.told.0 refl })
 
 -- the version was found in what was looked at
-pub version_found : (told : ℤ) (old mid new : State) → IsSettled old → IsJudged true old mid → Sees mid new → version_of mid.now.trees ≡ Some told → IsFound told old new
+pub version_found : (told : ℤ) (old mid new : State) → IsSettled old → IsJudged true old mid → Sees mid new
+    → version_of mid.now.trees ≡ Some told → IsFound told old new
 version_found told old mid new settled judged sees version =
     let now = sees.now ∙ judged.now in
     let committed = sees.committed ∙ judged.committed in
@@ -80,7 +87,8 @@ pub answered_sees : (old new : State) → Asks None old new → Sees old new
 answered_sees old new asks = elim asks.same [ inl refused ↦ absurd (true≢false (sym refused)) | inr sees ↦ sees ]
 
 -- the version was read in what was looked at
-pub version_read : (told : ℤ) (own : Bool) (old mid new : State) → own ≡ true → IsSettled old → IsJudged own old mid → (IsOurs mid.now → Asks None mid new)
+pub version_read : (told : ℤ) (own : Bool) (old mid new : State) → own ≡ true → IsSettled old → IsJudged own old mid
+    → (IsOurs mid.now → Asks None mid new)
     → (IsOurs mid.now → version_of mid.now.trees ≡ Some told) → IsFound told old new
 version_read told own old mid new is settled judged asks version =
     let judged' : IsJudged true old mid = subst (λ b. IsJudged b old mid) is judged in

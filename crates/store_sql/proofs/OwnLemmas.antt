@@ -29,7 +29,8 @@ not_false false is = absurd (true≢false is)
 numbered_row : (row : Row) → passes (has_no_number ∷ []) [] row ≡ not (is_int (rowid row))
 numbered_row row = and_true _ ∙ no_number (rowid row)
 
-pub numbered_told : (sql : List ℕ) (tree : ℕ) → command_of (understood desk_schema sql) ≡ unnumbered tree → (none : Bool) (db : Database) → FindsNone sql none db → IsTrue none ↔ AreNumbered (db.trees tree)
+pub numbered_told : (sql : List ℕ) (tree : ℕ) → command_of (understood desk_schema sql) ≡ unnumbered tree → (none : Bool) (db : Database)
+    → FindsNone sql none db → IsTrue none ↔ AreNumbered (db.trees tree)
 numbered_told sql tree is none db h =
     let told = plain_none sql tree is none db h in
     (λ t row has. not_false (is_int (rowid row)) (sym (numbered_row row) ∙ told.0 t row has), λ numbered. told.1 (λ row has. numbered_row row ∙ ap not (numbered row has)))
@@ -40,13 +41,15 @@ numbered_told sql tree is none db h =
 abbrev pub IsTie : (Row → Row → Bool) → List ℕ → List Row → Type 0
 IsTie tie key rows = (a b : Row) → Has rows a → Has rows b → (tie a b ≡ true) ↔ (map (column a) key ≡ map (column b) key)
 
-pair_row : (different : Term) (tie : Row → Row → Bool) → ((a b : Row) → pair_passes (different ∷ []) a b ≡ not (tie a b)) → (a b : Row) → pair_passes (share ∷ different ∷ []) a b ≡ false
+pair_row : (different : Term) (tie : Row → Row → Bool) → ((a b : Row) → pair_passes (different ∷ []) a b ≡ not (tie a b)) → (a b : Row)
+    → pair_passes (share ∷ different ∷ []) a b ≡ false
     → is_int (rowid a) ≡ true → is_int (rowid b) ≡ true → rowid a ≡ rowid b → tie a b ≡ true
 pair_row different tie is a b none ia ib same =
     let shared = (shares (rowid a) (rowid b) ia ib).1 same in
     not_false (tie a b) (sym (is a b) ∙ sym (ap (λ x. x && pair_passes (different ∷ []) a b) shared) ∙ none)
 
-row_pair : (different : Term) (tie : Row → Row → Bool) → ((a b : Row) → pair_passes (different ∷ []) a b ≡ not (tie a b)) → (a b : Row) → is_int (rowid a) ≡ true → is_int (rowid b) ≡ true
+row_pair : (different : Term) (tie : Row → Row → Bool) → ((a b : Row) → pair_passes (different ∷ []) a b ≡ not (tie a b)) → (a b : Row)
+    → is_int (rowid a) ≡ true → is_int (rowid b) ≡ true
     → (rowid a ≡ rowid b → tie a b ≡ true) → pair_passes (share ∷ different ∷ []) a b ≡ false
 row_pair different tie is a b ia ib tied = elim (cases_Bool (pair_passes (share ∷ different ∷ []) a b)) [
   | inl passed ↦
@@ -56,7 +59,8 @@ row_pair different tie is a b ia ib tied = elim (cases_Bool (pair_passes (share 
   | inr none ↦ none
 ]
 
-pub own_told : (first second : List ℕ) (tree : ℕ) (different : Term) (tie : Row → Row → Bool) (key : List ℕ) → command_of (understood desk_schema first) ≡ unnumbered tree
+pub own_told : (first second : List ℕ) (tree : ℕ) (different : Term) (tie : Row → Row → Bool) (key : List ℕ)
+    → command_of (understood desk_schema first) ≡ unnumbered tree
     → command_of (understood desk_schema second) ≡ pairing tree different → ((a b : Row) → pair_passes (different ∷ []) a b ≡ not (tie a b))
     → (own : Bool) (db : Database) → IsTie tie key (db.trees tree) → Joins (FindsNone first) (FindsNone second) own db → IsTrue own ↔ AreOwn key (db.trees tree)
 own_told first second tree different tie key first_is second_is differing own db ties_key h = (there h.is, back h.is)

@@ -19,7 +19,8 @@ use Rattle.store_sql.specs.Opening.{DropsEarly, IsChangedBy, IsFirst, IsRaised, 
 use Rattle.store_sql.proofs.OpenLemmas.{answered_sees}
 
 -- the change and then the version
-pub raised : {A B C : Type 0} (change : Change) (a b c : State) (x : A) (y : B) (z : C) → Steps {A = A} (Turns (with_change change)) a b (Ok x) → Steps {A = B} SetsVersion b c (Ok y)
+pub raised : {A B C : Type 0} (change : Change) (a b c : State) (x : A) (y : B) (z : C)
+    → Steps {A = A} (Turns (with_change change)) a b (Ok x) → Steps {A = B} SetsVersion b c (Ok y)
     → Steps {A = C} (Raises change) a c (Ok z)
 raised {A} {B} {C} change a b c x y z one two =
     let last : Steps {A = C} SetsVersion b c (Ok z) = record { done = λ clean at. two.done clean at; kept = two.kept; survives = two.survives } in
@@ -72,7 +73,8 @@ module _ {S : Type 0} (g : Ghosts S) (old mid new : Held S) where
       steps.survives commits)
 
 -- the change of the early rows, with the version, raises the tables
-raised_by : (change : Change) (a b : State) (db : Trees) → IsFirst a → b.now ≡ a.now → DropsEarly (tables_in (kept_in a.now.trees)) change → IsChangedBy change b.now.trees db → IsRaised a.committed.trees db
+raised_by : (change : Change) (a b : State) (db : Trees) → IsFirst a → b.now ≡ a.now → DropsEarly (tables_in (kept_in a.now.trees)) change
+    → IsChangedBy change b.now.trees db → IsRaised a.committed.trees db
 raised_by change a b db first now drops changed =
     let same = now ∙ first.stands.same in
     let here : IsChangedBy change a.committed.trees db = subst (λ d. IsChangedBy change d.trees db) same changed in

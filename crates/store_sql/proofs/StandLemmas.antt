@@ -30,7 +30,8 @@ pub settled_at : (s : State) (failures : ℕ) (is_shut : Bool) → Settles s →
 settled_at s failures is_shut settles fit clean unshut content left = left.2 ∙ ap content_of (settles left.0 (fit.stands clean unshut).is_open left.1)
 
 -- a shut store answers S3 and is left as it is
-pub reads_shut : (s : State) (failures : ℕ) (is_shut : Bool) → is_shut ≡ true → Reads (Some Shut) (standing_at s failures is_shut) (standing_at s failures is_shut)
+pub reads_shut : (s : State) (failures : ℕ) (is_shut : Bool) → is_shut ≡ true
+    → Reads (Some Shut) (standing_at s failures is_shut) (standing_at s failures is_shut)
 reads_shut s failures is_shut shut = record {
   goes = record {
     honest = λ h. h;
@@ -65,7 +66,8 @@ module _ (old new : State) (failures : ℕ) (was_shut : Bool) (was_open : was_sh
   ours_before : HasCleanDisk new → Stands old
   ours_before clean = fit.stands (clean_before old new survives.clean clean) was_open
 
-  left_before : HasCleanDisk new → (content : _) → (db : Trees) × new.may_leave db × (content ≡ content_of db) → content ≡ content_of old.committed.trees
+  left_before : HasCleanDisk new → (content : _) → (db : Trees) × new.may_leave db × (content ≡ content_of db)
+      → content ≡ content_of old.committed.trees
   left_before clean content left =
       elim (survives.crash clean left.0 left.1) [
         | inl could ↦ left.2 ∙ ap content_of (settles_old left.0 (ours_before clean).is_open could)
@@ -73,7 +75,8 @@ module _ (old new : State) (failures : ℕ) (was_shut : Bool) (was_open : was_sh
       ]
 
   -- it was answered, or refused with a fault that leaves the store open
-  pub goes_open : (fault : Option StoreFault) (now_shut : Bool) → now_shut ≡ was_shut → (fault ≡ Some Shut → ⊥) → (fault ≡ Some Failed → ⊥) → (HasCleanDisk new → Sees old new)
+  pub goes_open : (fault : Option StoreFault) (now_shut : Bool) → now_shut ≡ was_shut → (fault ≡ Some Shut → ⊥) → (fault ≡ Some Failed → ⊥)
+      → (HasCleanDisk new → Sees old new)
       → (fault ≡ Some BadRow → HasCleanDisk new → is_sound_in (kept_in old.now.trees) ≡ false) → IsFit new now_shut × Reads fault (standing_at old failures was_shut) (standing_at new failures now_shut)
   goes_open fault now_shut same_shut unshut unfailed sees bad =
       let now_fit : IsFit new now_shut = record { mode = mode fit.mode; stands = λ clean _. sees_stands old new (sees clean) (ours_before clean) } in (
@@ -95,7 +98,8 @@ module _ (old new : State) (failures : ℕ) (was_shut : Bool) (was_open : was_sh
       )
 
   -- the database failed
-  pub goes_shut : (risen : ℕ) (now_shut : Bool) → now_shut ≡ true → HasRisen failures risen → IsFit new now_shut × Reads (Some Failed) (standing_at old failures was_shut) (standing_at new risen now_shut)
+  pub goes_shut : (risen : ℕ) (now_shut : Bool) → now_shut ≡ true → HasRisen failures risen
+      → IsFit new now_shut × Reads (Some Failed) (standing_at old failures was_shut) (standing_at new risen now_shut)
   goes_shut risen now_shut shut has_risen = (
     record { mode = mode fit.mode; stands = λ _ unshut. absurd (true≢false (sym shut ∙ unshut)) },
     record {
@@ -153,7 +157,8 @@ module _ {S A : Type 0} (g : Ghosts S) (before after now : Session S) (asked : R
   stood : HasCleanDisk new → Stands old
   stood clean = fit.stands (clean_before old mid asked_survives.clean (clean_mid clean)) was_open
 
-  left_open : (it : Option StoreFault) → (it ≡ Some Shut → ⊥) → (it ≡ Some Failed → ⊥) → (HasCleanDisk new → Sees old new) → (it ≡ Some BadRow → HasCleanDisk new → is_sound_in (kept_in old.now.trees) ≡ false)
+  left_open : (it : Option StoreFault) → (it ≡ Some Shut → ⊥) → (it ≡ Some Failed → ⊥) → (HasCleanDisk new → Sees old new)
+      → (it ≡ Some BadRow → HasCleanDisk new → is_sound_in (kept_in old.now.trees) ≡ false)
       → now.failures ≡ before.failures → now.is_shut ≡ before.is_shut → Left it now.failures now.is_shut
   left_open it unshut unfailed sees unsound failures_are shut_is =
       subst (λ n. Left it n now.is_shut) (sym failures_are)
@@ -196,7 +201,8 @@ module _ {S A : Type 0} (g : Ghosts S) (before after now : Session S) (asked : R
   pub read_left : IsFit new now.is_shut × Reads (result_err told) (standing_of g before) (standing_of g now)
   read_left = by_answer asked refl is_told
 
-  value_by : (P : Tables → A → Type 0) (answer : Result A ReadFault) → IsTold g after now answer told → IfOk answer (P (tables_in (kept_in old.now.trees))) → IfOk told (P (tables_in (kept_in old.now.trees)))
+  value_by : (P : Tables → A → Type 0) (answer : Result A ReadFault) → IsTold g after now answer told
+      → IfOk answer (P (tables_in (kept_in old.now.trees))) → IfOk told (P (tables_in (kept_in old.now.trees)))
   value_by P (Ok value) h p = subst (λ t. IfOk t (P (tables_in (kept_in old.now.trees)))) (sym h.0) p
   value_by P (Err fault) h p = subst (λ t. IfOk t (P (tables_in (kept_in old.now.trees)))) (sym h.1) p
 

@@ -60,10 +60,12 @@ last_kept db ours row one =
 taken_out : (row answer : Row) → IsTrue (is_int (rowid row)) → rowid answer ≡ rowid row → without_all (row ∷ []) (ids_of (answer ∷ [])) ≡ []
 taken_out row answer int same = rw (same, has_own_id row int) refl
 
-one_shown : (project : List Term) (params : Row) (rows answer : List Row) (row : Row) → rows ≡ row ∷ [] → IsPermutation (map (shows project params) (filter (passes [] params) rows)) answer → answer ≡ shows project params row ∷ []
+one_shown : (project : List Term) (params : Row) (rows answer : List Row) (row : Row) → rows ≡ row ∷ []
+    → IsPermutation (map (shows project params) (filter (passes [] params) rows)) answer → answer ≡ shows project params row ∷ []
 one_shown project params rows answer row is same = one_permutation (shows project params row) answer (subst (λ l. IsPermutation (map (shows project params) (filter (passes [] params) l)) answer) is same)
 
-pub sets_version : (old new : State) (result : Result ℕ Error) → IsInside old → ExecutesInside 0 set_version_text [] old new result → OnOk result (SetsVersion old new)
+pub sets_version : (old new : State) (result : Result ℕ Error) → IsInside old → ExecutesInside 0 set_version_text [] old new result
+    → OnOk result (SetsVersion old new)
 sets_version old new (Err e) inside h = tt
 sets_version old new (Ok count) inside h =
     let desk = inside.ours.rows.desk in

@@ -12,7 +12,8 @@ invariant-loop-entry g l =
     let left = drop l.entry-index l.entries in
     record {
       reads : Reads None (g.S.Store.standing l.fn.store) (g.S.Store.standing l.store);
-      rows : (g.S.Store.standing l.store).is_honest → l.acted.rows.items ++ answered_rows l.building (written l.acted.places.items held) l.panel.name left
+      rows : (g.S.Store.standing l.store).is_honest
+          → l.acted.rows.items ++ answered_rows l.building (written l.acted.places.items held) l.panel.name left
           ≡ answered_rows l.building held l.panel.name l.entries;
       places : (g.S.Store.standing l.store).is_honest → places_after_each l.building (written l.acted.places.items held) l.panel.name left
           ≡ places_after_each l.building held l.panel.name l.entries;

@@ -15,5 +15,6 @@ invariant-loop g l =
     let here = state g.S.Store l.connection in
     record {
       reads : HasRead first here;
-      far : HasCleanDisk here → IsOurs first.now → AreTextsTo (IsImported (tables_in (kept_in first.now.trees)) l.calendar) (string_bytes l.after) (map spelling l.entries.items);
+      far : HasCleanDisk here → IsOurs first.now
+          → AreTextsTo (IsImported (tables_in (kept_in first.now.trees)) l.calendar) (string_bytes l.after) (map spelling l.entries.items);
     }

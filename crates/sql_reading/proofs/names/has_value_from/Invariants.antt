@@ -13,5 +13,6 @@ invariant-loop-priority g l =
     let here = state g.S.Store l.connection in
     record {
       reads : HasRead first here;
-      none : HasCleanDisk here → IsOurs first.now → AreNoneBelow ((tables_in (kept_in first.now.trees)).places l.point) l.least → AreNoneBelow ((tables_in (kept_in first.now.trees)).places l.point) l.priority;
+      none : HasCleanDisk here → IsOurs first.now → AreNoneBelow ((tables_in (kept_in first.now.trees)).places l.point) l.least
+          → AreNoneBelow ((tables_in (kept_in first.now.trees)).places l.point) l.priority;
     }

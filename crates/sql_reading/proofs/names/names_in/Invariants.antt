@@ -15,5 +15,6 @@ invariant-loop g l =
     let here = state g.S.Store l.connection in
     record {
       reads : HasRead first here;
-      far : HasCleanDisk here → IsOurs first.now → AreTextsTo (StandsIn l.list (tables_in (kept_in first.now.trees))) (unwrap_or l.after []) l.names.items;
+      far : HasCleanDisk here → IsOurs first.now
+          → AreTextsTo (StandsIn l.list (tables_in (kept_in first.now.trees))) (unwrap_or l.after []) l.names.items;
     }

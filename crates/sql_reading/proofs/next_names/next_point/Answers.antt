@@ -16,7 +16,8 @@ returns-clause-value g c clean ours =
     let told = c.told_name.ensures.value kept.place (c.in_ok-rows.ensures.found clean ours) in
     fewer kept c.args.after.now c.told_name.result told
   where
-    fewer : (kept : Kept) (after : Text) (r : Result (Option Text) ReadFault) → IfOk r (IsNextText (HasName kept.place) after) → IfOk r (IsNextText (HasPoint (tables_in kept)) after)
+    fewer : (kept : Kept) (after : Text) (r : Result (Option Text) ReadFault) → IfOk r (IsNextText (HasName kept.place) after)
+        → IfOk r (IsNextText (HasPoint (tables_in kept)) after)
     fewer kept after (Err e) told = tt
     fewer kept after (Ok o) told = next_fewer (HasName kept.place) (HasPoint (tables_in kept)) after o (point_named kept) told
 

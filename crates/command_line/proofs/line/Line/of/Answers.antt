@@ -14,7 +14,8 @@ of_any {T} {E} (Ok x) P p = p
 of_any {T} {E} (Err e) P p = tt
 
 -- what is asked by the line, if there is one
-of_told : (words : List Text) (r : Result Line ArgFault) → option_map asked_of (result_ok r) ≡ asked words → IfOk r (λ line. asked words ≡ Some (asked_of line))
+of_told : (words : List Text) (r : Result Line ArgFault) → option_map asked_of (result_ok r) ≡ asked words
+    → IfOk r (λ line. asked words ≡ Some (asked_of line))
 of_told words (Ok line) is = sym is
 of_told words (Err fault) is = tt
 
