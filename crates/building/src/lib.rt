@@ -8,8 +8,8 @@
 //! From the bottom up: `Fields` is a table with its `Location`, which gives the value at a `Key` in the type that the
 //! key takes, or the fault that tells why not; `read_items` reads a list item by item, `read_references` a list of
 //! names, and `read_section` the tables of a section, each by what knows its table (`PointTable`, `PanelTable`,
-//! `CalendarTable`, `ScheduleTable`). What is wrong in a file is a `FileFault` at a `Location`, and is printed as one line: its
-//! number, the section, the place in it, and the key. A `Roster` keeps items by name.
+//! `CalendarTable`, `ScheduleTable`). What is wrong in a file is a `FileFault` at a `Location`, and is printed as one
+//! line: its number, the section, the place in it, and the key. A `Roster` keeps items by name.
 #![tactic(auto)]
 
 pub use building::Building;

@@ -1,8 +1,9 @@
 //! What does one request to the desk get, and leave?
 //!
-//! `serve_one` reads one request (`request_reading`) by the table of routes that it is lent, delivers what it tells or looks
-//! at what it asks for, and writes one response (`response_texts`). What is answered to a request, and which tables are left, is `specs/Answers.antt`, over
-//! the definitions of `deliveries`; what the bytes of an input get, whatever fails, `specs/Serving.antt`.
+//! `serve_one` reads one request (`request_reading`) by the table of routes that it is lent, delivers what it tells or
+//! looks at what it asks for, and writes one response (`response_texts`). What is answered to a request, and which tables
+//! are left, is `specs/Answers.antt`, over the definitions of `deliveries`; what the bytes of an input get, whatever fails,
+//! `specs/Serving.antt`.
 #![tactic(auto)]
 
 pub use request_reading::Routes;

@@ -19,9 +19,9 @@ use Rattle.store_sql.specs.declared.refusal.Refusal.{Refusal}
 use Rattle.store_sql.specs.declared.refusal.Refusal.TheVariants.{BadRow, NotOurs, Sql}
 
 -- a fault of a read as one of an opening
-abbrev pub as_open : ReadFault → Refusal
-as_open (read.Sql error) = Sql error
-as_open read.BadRow = BadRow
+abbrev pub refusal_of : ReadFault → Refusal
+refusal_of (read.Sql error) = Sql error
+refusal_of read.BadRow = BadRow
 
 -- the version that a row of `desk` tells
 abbrev pub version_in : List Row → Option ℤ

@@ -78,7 +78,8 @@ fn all_are_own<S: Alter>(connection: &mut Connection<S>) -> Result<bool, Error>
     }
 }
 
-/// Whether each row of the tables is numbered, and rows that share a number share the key; and whether `desk` has its one row.
+/// Whether each row of the tables is numbered, and rows that share a number share the key; and whether `desk` has its
+/// one row.
 pub fn are_own<S: Alter>(connection: &mut Connection<S>) -> Result<bool, Error>
     ensures mode { connection.old.in_transaction ≡ false → connection.new.in_transaction ≡ false }
     ensures same { HasCleanDisk (state S.Store connection.new) → IsFitting (state S.Store connection.old).now

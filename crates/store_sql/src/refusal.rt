@@ -48,9 +48,9 @@ impl From<Error> for Refusal {
 
 impl From<ReadFault> for Refusal {
     ghost use Rattle.std.specs.Prelude.{◌≡◌};
-    ghost use Rattle.store_sql.specs.Opening.{as_open};
+    ghost use Rattle.store_sql.specs.Opening.{refusal_of};
 
-    ghost from_gives = { λ fault told. told ≡ as_open fault };
+    ghost from_gives = { λ fault told. told ≡ refusal_of fault };
 
     fn from(fault: ReadFault) -> Refusal {
         match fault {
