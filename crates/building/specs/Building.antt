@@ -23,12 +23,12 @@ pub record Building : Type 0 where
 
 -- the same, with what the rule of the time zone says
 abbrev pub contents_of : Building → Contents
-contents_of b = record {
-  zone = rule_text b.zone;
-  points = b.points;
-  panels = b.panels;
-  calendars = b.calendars;
-  schedules = b.schedules;
+contents_of building = record {
+  zone = rule_text building.zone;
+  points = building.points;
+  panels = building.panels;
+  calendars = building.calendars;
+  schedules = building.schedules;
 }
 
 -- no name stands twice in its section; defaults lie in their kinds; what panels and schedules name exists, and what a schedule may write lies in

@@ -19,7 +19,7 @@ o >>= f = option_and_then f o
 
 -- the place of the first `=`
 abbrev pub place_of_equals : Text → ℕ
-place_of_equals text = position_or_len (λ b. b == 61) text
+place_of_equals text = position_or_len (λ byte. byte == 61) text
 
 -- the text before the first `=`, and the text after it
 abbrev pub cut_at_equals : Text → Option (Text × Text)
@@ -36,22 +36,22 @@ abbrev pub digit_at : ℕ → Option ℕ
 digit_at byte = if nat_le 48 byte && nat_le byte 57 then Some (byte - 48) else None
 
 abbrev pub below : ℕ → ℕ → Option ℕ
-below limit n = if nat_lt n limit then Some n else None
+below limit number = if nat_lt number limit then Some number else None
 
 -- the number of the two digits that a text begins with, where it is below a limit, and the rest
 abbrev pub leading_below : ℕ → Text → Option (ℕ × Text)
 leading_below limit (tens ∷ units ∷ rest) = do
-  t ← digit_at tens
-  u ← digit_at units
-  n ← below limit (10 * t + u)
-  Some (n, rest)
+  ten ← digit_at tens
+  unit ← digit_at units
+  number ← below limit (10 * ten + unit)
+  Some (number, rest)
 leading_below limit _ = None
 
 -- ---- the time, in hundredths of a second after midnight
 
 abbrev pub at_end : ℕ × Text → Option ℕ
-at_end (n, []) = Some n
-at_end (n, rest) = None
+at_end (number, []) = Some number
+at_end (number, rest) = None
 
 -- nothing, or `.hh`
 abbrev pub hundredths_at : Text → Option ℕ
@@ -89,7 +89,7 @@ number_at text = if is_number text then Some (digits_value 10 text) else None
 abbrev pub signed_at : Text → Option ℤ
 signed_at [] = None
 signed_at (first ∷ rest) =
-    if first == 45 then option_map (λ n. neg_ℤ (pos n)) (number_at rest) else option_map pos (number_at (first ∷ rest))
+    if first == 45 then option_map (λ number. neg_ℤ (pos number)) (number_at rest) else option_map pos (number_at (first ∷ rest))
 
 -- `NULL`, or a number
 abbrev pub value_at : Text → Option (Option ℤ)

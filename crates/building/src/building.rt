@@ -45,15 +45,17 @@ impl Model for Building {
 
     ghost Value = { Building };
 
-    ghost view = { λ b. record {
-      zone = b.zone;
-      points = b.points;
-      panels = b.panels;
-      calendars = b.calendars;
-      schedules = b.schedules;
+    ghost view = { λ building. record {
+      zone = building.zone;
+      points = building.points;
+      panels = building.panels;
+      calendars = building.calendars;
+      schedules = building.schedules;
     } };
 
-    ghost invariant = { λ b. IsSound b.points b.panels b.calendars b.schedules };
+    ghost invariant = {
+        λ building. IsSound building.points building.panels building.calendars building.schedules
+    };
 }
 
 impl Building {

@@ -78,7 +78,7 @@ impl ExceptionTable<'_> {
 
 /// An exception as a table.
 fn table_at<'a>(location: Location, item: &'a Value) -> Result<&'a Table, FileFault>
-    ensures { result_map (λ t. table_view t.now) result ≡ fields_at location (view item.now) }
+    ensures { result_map (λ table. table_view table.now) result ≡ fields_at location (view item.now) }
 {
     item.as_table()
         .ok_or(location.fault(Key::Exception, Cause::WrongType))

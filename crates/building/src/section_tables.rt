@@ -92,7 +92,7 @@ fn table_in<T: Named, R: ReadTable<T>>(
 
 /// An item of a section as a table.
 fn table_at<'a>(location: Location, item: &'a Value) -> Result<&'a toml::Table, FileFault>
-    ensures { result_map (λ t. table_view t.now) result ≡ table_at location (view item.now) }
+    ensures { result_map (λ table. table_view table.now) result ≡ table_at location (view item.now) }
 {
     item.as_table()
         .ok_or(location.fault(Key::Unknown, Cause::WrongType))

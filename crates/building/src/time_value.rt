@@ -68,8 +68,8 @@ fn hundredths_at(text: &[u8]) -> Option<u32>
 
 /// The number of the two digits that a text begins with, where it is below a limit, and the rest.
 fn leading_below(limit: u32, text: &[u8]) -> Option<(u32, &[u8])>
-    ensures value { option_map (λ p. (p.0, p.1.now)) result ≡ leading_below limit text.now }
-    ensures bound { IfSome result (λ p. p.0 < limit) }
+    ensures value { option_map (λ cut. (cut.0, cut.1.now)) result ≡ leading_below limit text.now }
+    ensures bound { IfSome result (λ cut. cut.0 < limit) }
 {
     let [tens, units, rest @ ..] = text else {
         return None;

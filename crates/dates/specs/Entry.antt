@@ -13,38 +13,38 @@ use Rattle.dates.specs.WeekNDay.{IsWeekNDay, in_week_n_day, week_n_day_at, week_
 
 -- the numbers are in range, as those of each value that the program holds
 abbrev pub IsEntry : Entry → Type 0
-IsEntry (Pattern p) = IsPattern p
-IsEntry (Range r) = IsRange r
-IsEntry (WeekNDay w) = IsWeekNDay w
+IsEntry (Pattern pattern) = IsPattern pattern
+IsEntry (Range range) = IsRange range
+IsEntry (WeekNDay week_n_day) = IsWeekNDay week_n_day
 
 -- the days of an entry, as the test of its members
 unfoldable pub holds_on : Entry → Date → Bool
-holds_on (Pattern p) day = in_pattern p day
-holds_on (Range r) day = in_range r day
-holds_on (WeekNDay w) day = in_week_n_day w day
+holds_on (Pattern pattern) day = in_pattern pattern day
+holds_on (Range range) day = in_range range day
+holds_on (WeekNDay week_n_day) day = in_week_n_day week_n_day day
 
 -- a text that does not begin with `wnd:`
 unfoldable pub dates_at : Text → Result Entry EntryFault
-dates_at text = option_map_or (λ ends. range_at ends.0 ends.1 >>= λ r. Ok (Range r))
-    (cut_at (codes "..") text) (pattern_at text >>= λ p. Ok (Pattern p))
+dates_at text = option_map_or (λ ends. range_at ends.0 ends.1 >>= λ range. Ok (Range range))
+    (cut_at (codes "..") text) (pattern_at text >>= λ pattern. Ok (Pattern pattern))
 
 -- what a text reads as: an entry, or the first fault in the order of the notation
 unfoldable pub reading : Text → Result Entry EntryFault
-reading text = option_map_or (λ parts. week_n_day_at parts >>= λ w. Ok (WeekNDay w))
+reading text = option_map_or (λ parts. week_n_day_at parts >>= λ week_n_day. Ok (WeekNDay week_n_day))
     (without_prefix (codes "wnd:") text) (dates_at text)
 
 -- the one text that spells an entry, by the forms of the notation
 unfoldable pub spelling : Entry → Text
-spelling (Pattern p) = pattern_text p
-spelling (Range r) = range_text r
-spelling (WeekNDay w) = week_n_day_text w
+spelling (Pattern pattern) = pattern_text pattern
+spelling (Range range) = range_text range
+spelling (WeekNDay week_n_day) = week_n_day_text week_n_day
 
 -- the text spells the entry
 abbrev pub Spells : Text → Entry → Type 0
-Spells text e = (text ≡ spelling e) × IsEntry e
+Spells text entry = (text ≡ spelling entry) × IsEntry entry
 
 -- one text spells the entry, and no other does
-pub record HasOneSpelling (e : Entry) : Type 0 where
+pub record HasOneSpelling (entry : Entry) : Type 0 where
   pub text : Text
-  pub spells : Spells text e
-  pub only : (other : Text) → Spells other e → other ≡ text
+  pub spells : Spells text entry
+  pub only : (other : Text) → Spells other entry → other ≡ text

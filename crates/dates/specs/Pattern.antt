@@ -16,13 +16,13 @@ use Rattle.dates.specs.Year.{AreYears, in_years}
 
 -- the numbers are in range
 abbrev pub IsPattern : Pattern → Type 0
-IsPattern p = AreYears p.year × AreMonths p.months × AreMonthDays p.days
+IsPattern pattern = AreYears pattern.year × AreMonths pattern.months × AreMonthDays pattern.days
 
 -- the days that each field names
 abbrev pub in_pattern : Pattern → Date → Bool
-in_pattern p day =
-    in_years p.year day && in_months p.months day && in_month_days p.days day
-    && in_weekdays p.weekday day
+in_pattern pattern day =
+    in_years pattern.year day && in_months pattern.months day && in_month_days pattern.days day
+    && in_weekdays pattern.weekday day
 
 -- a text before its first `/`, and what follows that, if it has one
 unfoldable pub date_part : Text → Text
@@ -46,4 +46,4 @@ weekday_suffix (Some name) = codes "/" ++ weekday_text name
 
 -- Y-M-D or Y-M-D/W
 abbrev pub pattern_text : Pattern → Text
-pattern_text p = date_fields_text p.year p.months p.days ++ weekday_suffix p.weekday
+pattern_text pattern = date_fields_text pattern.year pattern.months pattern.days ++ weekday_suffix pattern.weekday

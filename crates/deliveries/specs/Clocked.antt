@@ -10,12 +10,12 @@ use Rattle.deliveries.specs.Machine.{told_at, writes_at}
 
 -- the places and what is shown, as the schedules settle over what is imported and what they show; with these
 -- items and this last tick
-pub record Settles (b : Building) (texts : Text → List Text) (shows : Shown) (local : Option LocalTime) (items : List ImportedEntry)
-    (last : Option ℤ) (change : Change) : Type 0 where
+pub record Settles (building : Building) (texts : Text → List Text) (shows : Shown) (local : Option LocalTime)
+    (items : List ImportedEntry) (last : Option ℤ) (change : Change) : Type 0 where
   pub nexts : change.nexts.items ≡ []
   pub rows : change.rows.items ≡ []
   pub dropped : change.dropped.items ≡ []
-  pub places : change.places.items ≡ writes_at b texts shows local
-  pub shown : change.shown.items ≡ told_at b texts shows local
+  pub places : change.places.items ≡ writes_at building texts shows local
+  pub shown : change.shown.items ≡ told_at building texts shows local
   pub imported : change.imported.items ≡ items
   pub last_tick : change.last_tick ≡ last

@@ -19,32 +19,35 @@ use Rattle.store.specs.Tables.{Text}
 
 -- no two schedules have one name, as in each building that was read
 abbrev pub HasDistinctSchedules : Building → Type 0
-HasDistinctSchedules b = IsTrue (are_distinct (map (λ (schedule : NamedSchedule). schedule.name) b.schedules))
+HasDistinctSchedules building = IsTrue (are_distinct (map (λ (schedule : NamedSchedule). schedule.name) building.schedules))
 
 -- what the schedules show once they have settled
 abbrev pub shown_after : Building → (Text → List Text) → Shown → Option LocalTime → Shown
-shown_after b imported shown local = with_each with_shown (told_at b imported shown local) shown
+shown_after building imported shown local = with_each with_shown (told_at building imported shown local) shown
 
 -- settled again at the same local time, they write nothing and show nothing else
-pub record WritesNothingMore (b : Building) (imported : Text → List Text) (shown : Shown) (local : Option LocalTime) : Type 0 where
-  pub writes : writes_at b imported (shown_after b imported shown local) local ≡ []
-  pub tells : told_at b imported (shown_after b imported shown local) local ≡ []
+pub record WritesNothingMore (building : Building) (imported : Text → List Text) (shown : Shown) (local : Option LocalTime) : Type 0 where
+  pub writes : writes_at building imported (shown_after building imported shown local) local ≡ []
+  pub tells : told_at building imported (shown_after building imported shown local) local ≡ []
 
 abbrev pub SettledOnceIsSettled : Type 0
-SettledOnceIsSettled = (b : Building) (imported : Text → List Text) (shown : Shown) (local : Option LocalTime)
-    → HasDistinctSchedules b → WritesNothingMore b imported shown local
+SettledOnceIsSettled = (building : Building) (imported : Text → List Text) (shown : Shown) (local : Option LocalTime)
+    → HasDistinctSchedules building → WritesNothingMore building imported shown local
 
 -- a tick that is not later than one before it changes nothing
 abbrev pub LateTickChangesNothing : Type 0
-LateTickChangesNothing = (b : Building) (E : List Delivery) (moment : ℤ) → is_later (last_tick_of b E) moment ≡ false
-    → tables b (E ++ Tick moment ∷ []) ≡ tables b E
+LateTickChangesNothing = (building : Building) (earlier : List Delivery) (moment : ℤ)
+    → is_later (last_tick_of building earlier) moment ≡ false
+    → tables building (earlier ++ Tick moment ∷ []) ≡ tables building earlier
 
 -- and is told so, where it is in range
 abbrev pub LateTickIsOld : Type 0
-LateTickIsOld = (b : Building) (E : List Delivery) (moment : ℤ) → is_moment b moment ≡ true → is_later (last_tick_of b E) moment ≡ false
-    → reply b E (Tick moment) ≡ Old
+LateTickIsOld = (building : Building) (earlier : List Delivery) (moment : ℤ) → is_moment building moment ≡ true
+    → is_later (last_tick_of building earlier) moment ≡ false
+    → reply building earlier (Tick moment) ≡ Old
 
 -- an import that adds nothing changes nothing
 abbrev pub KnownImportChangesNothing : Type 0
-KnownImportChangesNothing = (b : Building) (E : List Delivery) (rows : List CalendarEntry) → HasDistinctSchedules b
-    → added b (machine b E).imported rows ≡ [] → tables b (E ++ Import rows ∷ []) ≡ tables b E
+KnownImportChangesNothing = (building : Building) (earlier : List Delivery) (rows : List CalendarEntry)
+    → HasDistinctSchedules building → added building (machine building earlier).imported rows ≡ []
+    → tables building (earlier ++ Import rows ∷ []) ≡ tables building earlier

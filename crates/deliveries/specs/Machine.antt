@@ -53,7 +53,7 @@ opening_machine = record {
 
 -- the least rule against a panel's content; a panel that the building lacks has no event
 abbrev pub rule_for : Building → Text → Content → Option Rule
-rule_for b panel content = option_map_or (λ p. rule_of b.points p content) (panel_named b panel) (Some NoSuchPoint)
+rule_for building panel content = option_map_or (λ found. rule_of building.points found content) (panel_named building panel) (Some NoSuchPoint)
 
 -- the place that a permitted priority names
 abbrev pub place_of : ℤ → ℕ
@@ -61,7 +61,7 @@ place_of (pos n) = n
 place_of (negsuc n) = 0
 
 abbrev pub default_of : Building → Text → ℤ
-default_of b point = option_map_or (λ p. p.relinquish_default) (point_named b.points point) (pos 0)
+default_of building point = option_map_or (λ found. found.relinquish_default) (point_named building.points point) (pos 0)
 
 -- what a point's places are after a content
 abbrev pub commanded : Places → Content → Places
@@ -69,7 +69,7 @@ commanded places content = put places (place_of content.priority) content.value
 
 -- a map with another value at one name
 abbrev pub with_name : {A : Type 0} → (Text → A) → Text → A → Text → A
-with_name f name value q = if bytes_eq name q then value else f q
+with_name f name value asked = if bytes_eq name asked then value else f asked
 
 abbrev pub places_under : Option Rule → (Text → Places) → Content → Text → Places
 places_under (Some rule) places content = places
@@ -79,53 +79,54 @@ abbrev pub done_of : ℤ × ℕ → Answer
 done_of present = Done present.0 present.1
 
 abbrev pub answer_under : Option Rule → Building → (Text → Places) → Content → Answer
-answer_under (Some rule) b places content = Refused rule
-answer_under None b places content =
-    done_of (present_of (commanded (places content.point) content) (default_of b content.point))
+answer_under (Some rule) building places content = Refused rule
+answer_under None building places content =
+    done_of (present_of (commanded (places content.point) content) (default_of building content.point))
 
 -- the places after a panel's command, and its answer
 unfoldable pub places_after : Building → (Text → Places) → Text → Content → Text → Places
-places_after b places panel content = places_under (rule_for b panel content) places content
+places_after building places panel content = places_under (rule_for building panel content) places content
 
 unfoldable pub answer_to : Building → (Text → Places) → Text → Content → Answer
-answer_to b places panel content = answer_under (rule_for b panel content) b places content
+answer_to building places panel content = answer_under (rule_for building panel content) building places content
 
 -- a table of rows with another value at one number of one panel
 abbrev pub with_number : {A : Type 0} → (Text → ℕ → A) → Text → ℕ → A → Text → ℕ → A
-with_number f panel number value q n = if bytes_eq panel q && number == n then value else f q n
+with_number f panel number value asked_panel asked_number =
+    if bytes_eq panel asked_panel && number == asked_number then value else f asked_panel asked_number
 
 -- ---- settling
 
 -- what a schedule's value depends on, at a local day and time
 abbrev pub now_of : Building → (Text → List Text) → LocalTime → Now
-now_of b imported local = record { calendars = calendars_of b imported; day = local.day; time = local.time }
+now_of building imported local = record { calendars = calendars_of building imported; day = local.day; time = local.time }
 
 -- what the schedules write and show at a local day and time; at none, nothing
 abbrev pub writes_at : Building → (Text → List Text) → Shown → Option LocalTime → List PlaceValue
-writes_at b imported shown None = []
-writes_at b imported shown (Some local) = written (now_of b imported local) shown b.schedules
+writes_at building imported shown None = []
+writes_at building imported shown (Some local) = written (now_of building imported local) shown building.schedules
 
 abbrev pub told_at : Building → (Text → List Text) → Shown → Option LocalTime → List ShownValue
-told_at b imported shown None = []
-told_at b imported shown (Some local) = told (now_of b imported local) shown b.schedules
+told_at building imported shown None = []
+told_at building imported shown (Some local) = told (now_of building imported local) shown building.schedules
 
 -- the machine after the schedules have settled
 unfoldable pub settled : Building → Machine → Option LocalTime → Machine
-settled b m local = record {
-  places = with_each with_place (writes_at b m.imported m.shown local) m.places;
-  answers = m.answers;
-  shown = with_each with_shown (told_at b m.imported m.shown local) m.shown;
-  imported = m.imported;
-  last_tick = m.last_tick;
+settled building machine local = record {
+  places = with_each with_place (writes_at building machine.imported machine.shown local) machine.places;
+  answers = machine.answers;
+  shown = with_each with_shown (told_at building machine.imported machine.shown local) machine.shown;
+  imported = machine.imported;
+  last_tick = machine.last_tick;
 }
 
 -- the local day and time at a moment: none without a moment, or where it has none in range
 abbrev pub local_of : Building → Option ℤ → Option LocalTime
-local_of b moment = option_and_then (local_at b.zone) moment
+local_of building moment = option_and_then (local_at building.zone) moment
 
 -- how many values are written
 abbrev pub writes_of : Building → Machine → Option ℤ → ℕ
-writes_of b m moment = length (writes_at b m.imported m.shown (local_of b moment))
+writes_of building machine moment = length (writes_at building machine.imported machine.shown (local_of building moment))
 
 -- ---- imports
 
@@ -142,29 +143,30 @@ added_to imported entry (Some calendar) =
     if is_known imported calendar entry then [] else record { calendar = calendar.name; entry = entry } ∷ []
 
 abbrev pub added_by : Building → (Text → List Text) → CalendarEntry → List ImportedEntry
-added_by b imported row = added_to imported row.entry (slice_get b.calendars row.calendar.place)
+added_by building imported row = added_to imported row.entry (slice_get building.calendars row.calendar.place)
 
 -- the items that rows add, each beside those before it
 abbrev pub added : Building → (Text → List Text) → List CalendarEntry → List ImportedEntry
-added b imported [] = []
-added b imported (row ∷ rows) = let items = added_by b imported row in items ++ added b (with_items imported items) rows
+added building imported [] = []
+added building imported (row ∷ rows) =
+    let items = added_by building imported row in items ++ added building (with_items imported items) rows
 
 -- the machine with the rows' items
 abbrev pub with_rows : Building → Machine → List CalendarEntry → Machine
-with_rows b m rows = record {
-  places = m.places;
-  answers = m.answers;
-  shown = m.shown;
-  imported = with_items m.imported (added b m.imported rows);
-  last_tick = m.last_tick;
+with_rows building machine rows = record {
+  places = machine.places;
+  answers = machine.answers;
+  shown = machine.shown;
+  imported = with_items machine.imported (added building machine.imported rows);
+  last_tick = machine.last_tick;
 }
 
 abbrev pub ticked : Machine → ℤ → Machine
-ticked m moment = record {
-  places = m.places;
-  answers = m.answers;
-  shown = m.shown;
-  imported = m.imported;
+ticked machine moment = record {
+  places = machine.places;
+  answers = machine.answers;
+  shown = machine.shown;
+  imported = machine.imported;
   last_tick = Some moment;
 }
 
@@ -172,16 +174,16 @@ ticked m moment = record {
 
 -- a tick settles at its moment, an import at that of the last tick
 abbrev pub step : Building → Machine → Event → Machine
-step b m (Command panel number content) = record {
-  places = places_after b m.places panel content;
-  answers = with_number m.answers panel number (answer_to b m.places panel content);
-  shown = m.shown;
-  imported = m.imported;
-  last_tick = m.last_tick;
+step building machine (Command panel number content) = record {
+  places = places_after building machine.places panel content;
+  answers = with_number machine.answers panel number (answer_to building machine.places panel content);
+  shown = machine.shown;
+  imported = machine.imported;
+  last_tick = machine.last_tick;
 }
-step b m (Tick moment) = ticked (settled b m (local_of b (Some moment))) moment
-step b m (Import rows) = let now = with_rows b m rows in settled b now (local_of b now.last_tick)
+step building machine (Tick moment) = ticked (settled building machine (local_of building (Some moment))) moment
+step building machine (Import rows) = let now = with_rows building machine rows in settled building now (local_of building now.last_tick)
 
 abbrev pub run : Building → Machine → List Event → Machine
-run b m [] = m
-run b m (event ∷ events) = run b (step b m event) events
+run building machine [] = machine
+run building machine (event ∷ events) = run building (step building machine event) events

@@ -17,14 +17,14 @@ use Rattle.texts.specs.Steps.{◌>>=◌, where_holds}
 
 -- the tick that an object tells
 unfoldable pub tick_in : Data → Option Delivery
-tick_in d = option_map Tick (lone_integer (codes "tick") d)
+tick_in object = option_map Tick (lone_integer (codes "tick") object)
 
 -- the text of the holiday list that an object tells
 unfoldable pub list_in : Data → Option (List ℕ)
-list_in d = do
-  ms ← as_object d
-  text ← get (codes "import") d >>= as_str
-  where_holds (has_only (codes "import" ∷ []) ms) text
+list_in object = do
+  members ← as_object object
+  text ← get (codes "import") object >>= as_str
+  where_holds (has_only (codes "import" ∷ []) members) text
 
 abbrev pub import_with : Result (List CalendarEntry) ImportFault → Told
 import_with (Ok rows) = told.Delivery (Import rows)
@@ -32,8 +32,8 @@ import_with (Err fault) = told.RefusedImport fault
 
 -- the import of a holiday list's rows, for the calendars of a building; or the fault of the list
 unfoldable pub import_of : Building → List ℕ → Told
-import_of b list = import_with (holidays_in (calendar_of b.calendars) (records_of list))
+import_of building list = import_with (holidays_in (calendar_of building.calendars) (records_of list))
 
 -- what an object with a holiday list tells
 unfoldable pub import_in : Building → Data → Option Told
-import_in b d = option_map (import_of b) (list_in d)
+import_in building object = option_map (import_of building) (list_in object)

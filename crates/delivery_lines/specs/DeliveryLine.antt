@@ -17,21 +17,21 @@ abbrev pub json_of : List ℕ → Option Data
 json_of bytes = text_of bytes >>= read
 
 abbrev pub delivery_with : Option Data → Data → Option Delivery
-delivery_with None d = tick_in d
-delivery_with (Some panel) d = panel_delivery_in d
+delivery_with None object = tick_in object
+delivery_with (Some panel) object = panel_delivery_in object
 
 -- an object with the key `panel` tells what a panel sends or nothing, another one a tick or nothing
 unfoldable pub delivery_in : Data → Option Delivery
-delivery_in d = delivery_with (get (codes "panel") d) d
+delivery_in object = delivery_with (get (codes "panel") object) object
 
 abbrev pub told_with : Building → Data → Option Delivery → Option Told
-told_with b d None = import_in b d
-told_with b d (Some delivery) = Some (told.Delivery delivery)
+told_with building object None = import_in building object
+told_with building object (Some delivery) = Some (told.Delivery delivery)
 
 -- what an object tells: a delivery without a holiday list, or an import; each kind has its own keys, and no other
 unfoldable pub told_in : Building → Data → Option Told
-told_in b d = told_with b d (delivery_in d)
+told_in building object = told_with building object (delivery_in object)
 
 -- what a line tells; an import is one of entries for calendars of the building
 unfoldable pub told_of : Building → List ℕ → Option Told
-told_of b line = json_of line >>= told_in b
+told_of building line = json_of line >>= told_in building

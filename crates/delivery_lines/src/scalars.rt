@@ -11,7 +11,7 @@ use texts::name_of;
 
 /// The integer that a token is, where it is one of 64 bits.
 pub(crate) fn integer_of(token: &Token<'_>) -> Option<i64>
-    ensures { IfSome result (λ z. told_by integer_in (token_of token.now) ≡ Some z) }
+    ensures { IfSome result (λ number. told_by integer_in (token_of token.now) ≡ Some number) }
 {
     match token {
         Token::Number(text) => written_integer(text),
@@ -43,7 +43,7 @@ pub(crate) fn value_of(token: &Token<'_>) -> Option<Option<i64>>
 /// The integer that the text of a number writes, where it is one of 64 bits.
 #[tactic(auto, unfolding(serde_json::specs::Read::number_of))]
 fn written_integer(text: &str) -> Option<i64>
-    ensures { IfSome result (λ z. written_integer text.now ≡ Some z) }
+    ensures { IfSome result (λ number. written_integer text.now ≡ Some number) }
 {
     let bytes = text.as_bytes();
     if has_minus(bytes) {
@@ -61,7 +61,7 @@ fn has_minus(bytes: &[u8]) -> bool
 }
 
 fn from_zero(numeral: &Numeral<'_>) -> Option<i64>
-    ensures { IfSome result (λ z. signed_integer false numeral.now ≡ Some z) }
+    ensures { IfSome result (λ number. signed_integer false numeral.now ≡ Some number) }
 {
     let natural = numeral.to_u64()?;
     if natural <= i64::MAX as u64 {
@@ -72,7 +72,7 @@ fn from_zero(numeral: &Numeral<'_>) -> Option<i64>
 }
 
 fn below_zero(numeral: &Numeral<'_>) -> Option<i64>
-    ensures { IfSome result (λ z. signed_integer true numeral.now ≡ Some z) }
+    ensures { IfSome result (λ number. signed_integer true numeral.now ≡ Some number) }
 {
     let integer = numeral.to_i64(true)?;
     if integer < 0 { Some(integer) } else { None }

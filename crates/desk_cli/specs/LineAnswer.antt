@@ -15,36 +15,37 @@ use Rattle.delivery_lines.specs.declared.told.Told.TheVariants as told
 use Rattle.delivery_lines.specs.ReplyText.{refusal_line, reply_line}
 use Rattle.holidays.specs.declared.import_fault.ImportFault.{ImportFault}
 
--- where a delivery d after the list E has no answer: after a want of memory the store holds the tables of E, or
--- those of E and d; after a failure it leaves the one or the other
+-- where a delivery after earlier ones has no answer: after a want of memory the store holds the tables of the earlier
+-- ones, or those with this one; after a failure it leaves the one or the other
 abbrev pub LeavesDelivery : Building → List Delivery → Delivery → StoreFault → Standing → Type 0
-LeavesDelivery b E d NoMemory now = Holds b E now ⊎ Holds b (E ++ d ∷ []) now
-LeavesDelivery b E d Failed now = LeavesEither b E (E ++ d ∷ []) now
-LeavesDelivery b E d Shut now = Unit {0}
-LeavesDelivery b E d BadRow now = ⊥
+LeavesDelivery building earlier delivery NoMemory now = Holds building earlier now ⊎ Holds building (earlier ++ delivery ∷ []) now
+LeavesDelivery building earlier delivery Failed now = LeavesEither building earlier (earlier ++ delivery ∷ []) now
+LeavesDelivery building earlier delivery Shut now = Unit {0}
+LeavesDelivery building earlier delivery BadRow now = ⊥
 
--- on the line of a delivery d after the list E: the text of the definition's reply, and the tables of E and d
+-- on the line of a delivery after earlier ones: the text of the definition's reply, and the tables with this one
 abbrev pub AnswersDelivery : Building → List Delivery → Delivery → Result (Vec ℕ Global) LineFault → Standing
     → Type 0
-AnswersDelivery b E d (Ok text) now = (text.items ≡ reply_line (reply b E d)) × Holds b (E ++ d ∷ []) now
-AnswersDelivery b E d (Err NotDelivery) now = ⊥
-AnswersDelivery b E d (Err (NotDone fault)) now = LeavesDelivery b E d fault now
+AnswersDelivery building earlier delivery (Ok text) now =
+    (text.items ≡ reply_line (reply building earlier delivery)) × Holds building (earlier ++ delivery ∷ []) now
+AnswersDelivery building earlier delivery (Err NotDelivery) now = ⊥
+AnswersDelivery building earlier delivery (Err (NotDone fault)) now = LeavesDelivery building earlier delivery fault now
 
 -- on the line of an import whose holiday list is at fault: the text of its refusal, or a want of memory, and the
--- tables of E
+-- tables of the earlier ones
 abbrev pub AnswersRefused : Building → List Delivery → ImportFault → Result (Vec ℕ Global) LineFault → Standing
     → Type 0
-AnswersRefused b E refused (Ok text) now = (text.items ≡ refusal_line refused) × Holds b E now
-AnswersRefused b E refused (Err NotDelivery) now = ⊥
-AnswersRefused b E refused (Err (NotDone fault)) now = (fault ≡ NoMemory) × Holds b E now
+AnswersRefused building earlier refused (Ok text) now = (text.items ≡ refusal_line refused) × Holds building earlier now
+AnswersRefused building earlier refused (Err NotDelivery) now = ⊥
+AnswersRefused building earlier refused (Err (NotDone fault)) now = (fault ≡ NoMemory) × Holds building earlier now
 
--- on another line: no answer, and the tables of E
+-- on another line: no answer, and the tables of the earlier ones
 abbrev pub AnswersOther : Building → List Delivery → Result (Vec ℕ Global) LineFault → Standing → Type 0
-AnswersOther b E (Ok text) now = ⊥
-AnswersOther b E (Err fault) now = Holds b E now
+AnswersOther building earlier (Ok text) now = ⊥
+AnswersOther building earlier (Err fault) now = Holds building earlier now
 
 abbrev pub AnswersLine : Building → List Delivery → Option Told → Result (Vec ℕ Global) LineFault → Standing
     → Type 0
-AnswersLine b E (Some (told.Delivery d)) answered now = AnswersDelivery b E d answered now
-AnswersLine b E (Some (told.RefusedImport refused)) answered now = AnswersRefused b E refused answered now
-AnswersLine b E None answered now = AnswersOther b E answered now
+AnswersLine building earlier (Some (told.Delivery delivery)) answered now = AnswersDelivery building earlier delivery answered now
+AnswersLine building earlier (Some (told.RefusedImport refused)) answered now = AnswersRefused building earlier refused answered now
+AnswersLine building earlier None answered now = AnswersOther building earlier answered now

@@ -40,24 +40,25 @@ is_empty_line line = bytes_eq line [] || bytes_eq line (13 ∷ [])
 
 -- what the lines tell, without the empty ones, where each of the others tells something
 abbrev pub told_by : Building → List (List ℕ) → Option (List Told)
-told_by b [] = Some []
-told_by b (line ∷ lines) = if is_empty_line line then told_by b lines
-    else (told_of b line >>= (λ one. option_map (λ others. one ∷ others) (told_by b lines)))
+told_by building [] = Some []
+told_by building (line ∷ lines) = if is_empty_line line then told_by building lines
+    else (told_of building line >>= (λ one. option_map (λ others. one ∷ others) (told_by building lines)))
 
 -- the deliveries among it: an import whose holiday list is at fault is none
 abbrev pub deliveries_in : List Told → List Delivery
 deliveries_in [] = []
-deliveries_in (of.Delivery d ∷ told) = d ∷ deliveries_in told
+deliveries_in (of.Delivery delivery ∷ told) = delivery ∷ deliveries_in told
 deliveries_in (of.RefusedImport refused ∷ told) = deliveries_in told
 
 -- ---- what is printed
 
--- what is answered after the list E: each delivery its reply, after those before it, and each list at fault its
--- refusal
+-- what is answered after earlier deliveries: each delivery its reply, after those before it, and each list at fault
+-- its refusal
 abbrev pub answers_to : Building → List Delivery → List Told → List ℕ
-answers_to b E [] = []
-answers_to b E (of.Delivery d ∷ told) = reply_line (reply b E d) ++ answers_to b (E ++ d ∷ []) told
-answers_to b E (of.RefusedImport refused ∷ told) = refusal_line refused ++ answers_to b E told
+answers_to building earlier [] = []
+answers_to building earlier (of.Delivery delivery ∷ told) =
+    reply_line (reply building earlier delivery) ++ answers_to building (earlier ++ delivery ∷ []) told
+answers_to building earlier (of.RefusedImport refused ∷ told) = refusal_line refused ++ answers_to building earlier told
 
 -- the line of a point that the building has
 abbrev pub state_line : List ℕ → Option PointState → List ℕ
@@ -65,18 +66,19 @@ state_line name None = []
 state_line name (Some state) = point_line name state.present state.priority
 
 abbrev pub line_of_point : Building → Tables → Point → List ℕ
-line_of_point b now point =
-    state_line point.name (state_of (now.places point.name) (point_named b.points point.name))
+line_of_point building now point =
+    state_line point.name (state_of (now.places point.name) (point_named building.points point.name))
 
 abbrev pub point_lines : Building → Tables → List ℕ
-point_lines b now = flat_map (line_of_point b now) b.points
+point_lines building now = flat_map (line_of_point building now) building.points
 
--- after the list E what the lines tell was answered, and the tables are those of E and the deliveries among it
-pub record Prints (b : Building) (E : List Delivery) (lines : List (List ℕ)) (old new : Option (List ℕ)) (now : Content) : Type 0 where
+-- after earlier deliveries what the lines tell was answered, and the tables are those with the deliveries among it
+pub record Prints (building : Building) (earlier : List Delivery) (lines : List (List ℕ)) (old new : Option (List ℕ))
+    (now : Content) : Type 0 where
   pub told : List Told
-  pub told_is : told_by b lines ≡ Some told
-  pub printed : Appends old new (answers_to b E told)
-  pub holds : now ≡ sound (tables b (E ++ deliveries_in told))
+  pub told_is : told_by building lines ≡ Some told
+  pub printed : Appends old new (answers_to building earlier told)
+  pub holds : now ≡ sound (tables building (earlier ++ deliveries_in told))
 
 -- the file is a building, each line of the list tells something, and what was printed is what they are answered
 -- and then the points as their deliveries leave them
@@ -90,28 +92,29 @@ pub record Replays (file list : List ℕ) (old new : Option (List ℕ)) : Type 0
 
 -- ---- what is printed at most, whatever the end
 
--- after the list E a beginning of what the first lines are answered was printed
-pub record PrintsStart (b : Building) (E : List Delivery) (lines : List (List ℕ)) (old new : Option (List ℕ)) : Type 0 where
+-- after earlier deliveries a beginning of what the first lines are answered was printed
+pub record PrintsStart (building : Building) (earlier : List Delivery) (lines : List (List ℕ))
+    (old new : Option (List ℕ)) : Type 0 where
   pub first : List (List ℕ)
   pub others : List (List ℕ)
   pub told : List Told
   pub cut : lines ≡ first ++ others
-  pub told_is : told_by b first ≡ Some told
-  pub printed : AppendsStart old new (answers_to b E told)
+  pub told_is : told_by building first ≡ Some told
+  pub printed : AppendsStart old new (answers_to building earlier told)
 
 -- each line tells something, and a beginning of what they are answered and the points was printed
-pub record PrintsAllLines (b : Building) (lines : List (List ℕ)) (old new : Option (List ℕ)) : Type 0 where
+pub record PrintsAllLines (building : Building) (lines : List (List ℕ)) (old new : Option (List ℕ)) : Type 0 where
   pub told : List Told
-  pub told_is : told_by b lines ≡ Some told
-  pub printed : AppendsStart old new (answers_to b [] told ++ point_lines b (tables b (deliveries_in told)))
+  pub told_is : told_by building lines ≡ Some told
+  pub printed : AppendsStart old new (answers_to building [] told ++ point_lines building (tables building (deliveries_in told)))
 
 -- nothing was printed; or the file is a building, and a beginning of what the first lines are answered was
 -- printed, or of what all of them are and the points
 abbrev pub PrintsNoMore : List ℕ → List ℕ → Option (List ℕ) → Option (List ℕ) → Type 0
 PrintsNoMore file list old new =
     Keeps old new
-    ⊎ ((b : Building) × (building_of file ≡ Ok (contents_of b))
-    × (PrintsStart b [] (lines_of list) old new ⊎ PrintsAllLines b (lines_of list) old new))
+    ⊎ ((building : Building) × (building_of file ≡ Ok (contents_of building))
+    × (PrintsStart building [] (lines_of list) old new ⊎ PrintsAllLines building (lines_of list) old new))
 
 -- whatever reader a call may open, it has these bytes left
 abbrev pub Opens : {R : Type 0} → (R → Type 0) → (R → Option (List ℕ)) → List ℕ → Type 0

@@ -128,15 +128,15 @@ fn print_replies<'a, S: Store + Drop, D: Read + Drop, W: Write>(
     mut reader: BufReader<D>,
     out: &mut W,
 ) -> Result<(), RunFault<'a>>
-    ensures prints { OnOk result ((bytes : List ℕ) (E : List a_delivery) → (S.standing desk.new.store).is_honest
+    ensures prints { OnOk result ((bytes : List ℕ) (earlier : List a_delivery) → (S.standing desk.new.store).is_honest
         → reader_remaining D.remaining reader ≡ Some bytes
-        → Holds desk.old.building E (S.standing desk.old.store)
-        → Prints desk.old.building E (lines_of bytes) (W.contents out.old) (W.contents out.new)
+        → Holds desk.old.building earlier (S.standing desk.old.store)
+        → Prints desk.old.building earlier (lines_of bytes) (W.contents out.old) (W.contents out.new)
         (S.standing desk.new.store).content) }
-    ensures no_more { (bytes : List ℕ) (E : List a_delivery) → (S.standing desk.new.store).is_honest
+    ensures no_more { (bytes : List ℕ) (earlier : List a_delivery) → (S.standing desk.new.store).is_honest
         → reader_remaining D.remaining reader ≡ Some bytes
-        → Holds desk.old.building E (S.standing desk.old.store)
-        → PrintsStart desk.old.building E (lines_of bytes) (W.contents out.old) (W.contents out.new) }
+        → Holds desk.old.building earlier (S.standing desk.old.store)
+        → PrintsStart desk.old.building earlier (lines_of bytes) (W.contents out.old) (W.contents out.new) }
     ensures honest { (S.standing desk.new.store).is_honest → (S.standing desk.old.store).is_honest }
     ensures building { desk.new.building ≡ desk.old.building }
 {
@@ -168,13 +168,13 @@ fn print_reply_and_flush<'a, S: Store + Drop, W: Write>(
     waits: bool,
     out: &mut W,
 ) -> Result<(), RunFault<'a>>
-    ensures prints { OnOk result ((E : List a_delivery) → (S.standing desk.new.store).is_honest
-        → Holds desk.old.building E (S.standing desk.old.store)
-        → Prints desk.old.building E (line.now ∷ []) (W.contents out.old) (W.contents out.new)
+    ensures prints { OnOk result ((earlier : List a_delivery) → (S.standing desk.new.store).is_honest
+        → Holds desk.old.building earlier (S.standing desk.old.store)
+        → Prints desk.old.building earlier (line.now ∷ []) (W.contents out.old) (W.contents out.new)
         (S.standing desk.new.store).content) }
-    ensures no_more { (E : List a_delivery) → (S.standing desk.new.store).is_honest
-        → Holds desk.old.building E (S.standing desk.old.store)
-        → PrintsStart desk.old.building E (line.now ∷ []) (W.contents out.old) (W.contents out.new) }
+    ensures no_more { (earlier : List a_delivery) → (S.standing desk.new.store).is_honest
+        → Holds desk.old.building earlier (S.standing desk.old.store)
+        → PrintsStart desk.old.building earlier (line.now ∷ []) (W.contents out.old) (W.contents out.new) }
     ensures honest { (S.standing desk.new.store).is_honest → (S.standing desk.old.store).is_honest }
     ensures building { desk.new.building ≡ desk.old.building }
 {
@@ -191,13 +191,13 @@ fn print_reply<'a, S: Store + Drop, W: Write>(
     line: &[u8],
     out: &mut W,
 ) -> Result<(), RunFault<'a>>
-    ensures prints { OnOk result ((E : List a_delivery) → (S.standing desk.new.store).is_honest
-        → Holds desk.old.building E (S.standing desk.old.store)
-        → Prints desk.old.building E (line.now ∷ []) (W.contents out.old) (W.contents out.new)
+    ensures prints { OnOk result ((earlier : List a_delivery) → (S.standing desk.new.store).is_honest
+        → Holds desk.old.building earlier (S.standing desk.old.store)
+        → Prints desk.old.building earlier (line.now ∷ []) (W.contents out.old) (W.contents out.new)
         (S.standing desk.new.store).content) }
-    ensures no_more { (E : List a_delivery) → (S.standing desk.new.store).is_honest
-        → Holds desk.old.building E (S.standing desk.old.store)
-        → PrintsStart desk.old.building E (line.now ∷ []) (W.contents out.old) (W.contents out.new) }
+    ensures no_more { (earlier : List a_delivery) → (S.standing desk.new.store).is_honest
+        → Holds desk.old.building earlier (S.standing desk.old.store)
+        → PrintsStart desk.old.building earlier (line.now ∷ []) (W.contents out.old) (W.contents out.new) }
     ensures honest { (S.standing desk.new.store).is_honest → (S.standing desk.old.store).is_honest }
     ensures building { desk.new.building ≡ desk.old.building }
 {

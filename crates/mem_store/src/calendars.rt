@@ -71,8 +71,9 @@ impl Calendars {
     fn make_slot(&mut self, calendar: &Name, text: &String) -> Result<(), AllocError>
         requires { IsSome (calendar_at self.old calendar.now) }
         ensures room { OnOk result (IsSome (calendar_slot self.new calendar.now (string_bytes text.now))) }
-        ensures stays { (q t : Text) → IsSome (calendar_slot self.old q t) → IsSome (calendar_slot self.new q t) }
-        ensures same { (q t : Text) → imported_of self.new q t ≡ imported_of self.old q t }
+        ensures stays { (named said : Text) → IsSome (calendar_slot self.old named said)
+            → IsSome (calendar_slot self.new named said) }
+        ensures same { (named said : Text) → imported_of self.new named said ≡ imported_of self.old named said }
     {
         match self.tables.get_mut(calendar) {
             Some(table) => table.make_room(text),

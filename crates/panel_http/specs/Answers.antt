@@ -30,26 +30,26 @@ use Rattle.panel_http.specs.declared.unanswered.Unanswered.TheVariants.{NoMemory
 -- ---- what is said
 
 abbrev pub told_said : Building → List Delivery → BodyTold → Said
-told_said b earlier (told.Delivery delivery) = reply_said (reply b earlier delivery)
-told_said b earlier told.NoPanel = reply_said reply_of.NoPanel
-told_said b earlier (told.RefusedImport refused) = import_refused_said refused
+told_said building earlier (told.Delivery delivery) = reply_said (reply building earlier delivery)
+told_said building earlier told.NoPanel = reply_said reply_of.NoPanel
+told_said building earlier (told.RefusedImport refused) = import_refused_said refused
 
 abbrev pub state_said : Text → Option PointState → Said
 state_said name None = no_point_said
 state_said name (Some state) = point_said name state.places state.present state.priority
 
 abbrev pub IsPointSaid : Building → Tables → Option Text → Said → Type 0
-IsPointSaid b now None said = said ≡ no_point_said
-IsPointSaid b now (Some name) said = said ≡ state_said name (state_of (now.places name) (point_named b.points name))
+IsPointSaid building now None said = said ≡ no_point_said
+IsPointSaid building now (Some name) said = said ≡ state_said name (state_of (now.places name) (point_named building.points name))
 
 -- to a request, over the tables of the deliveries before it
 abbrev pub IsSaid : Building → List Delivery → Request → Said → Type 0
-IsSaid b earlier (Refused refusal) said = said ≡ refusal_said refusal
-IsSaid b earlier (Told it) said = said ≡ told_said b earlier it
-IsSaid b earlier (Point name) said = IsPointSaid b (tables b earlier) name said
-IsSaid b earlier (Report None) said = said ≡ no_day_said
-IsSaid b earlier (Report (Some day)) said = (imported : Text → List Text) → Tells (tables b earlier).imported imported
-    → said ≡ report_said (report_text b imported (tables b earlier).places day)
+IsSaid building earlier (Refused refusal) said = said ≡ refusal_said refusal
+IsSaid building earlier (Told it) said = said ≡ told_said building earlier it
+IsSaid building earlier (Point name) said = IsPointSaid building (tables building earlier) name said
+IsSaid building earlier (Report None) said = said ≡ no_day_said
+IsSaid building earlier (Report (Some day)) said = (imported : Text → List Text) → Tells (tables building earlier).imported imported
+    → said ≡ report_said (report_text building imported (tables building earlier).places day)
 
 -- ---- what is left
 
@@ -67,13 +67,13 @@ after earlier (Report day) = earlier
 
 -- a store that has failed in this call is shut, and opened again it holds the one or the other; one that was shut
 -- before holds what it held
-pub record HasFailed (b : Building) (earlier later : List Delivery) (old now : Standing) : Type 0 where
+pub record HasFailed (building : Building) (earlier later : List Delivery) (old now : Standing) : Type 0 where
   pub is_shut : IsTrue now.is_shut
   pub risen : HasRisen old.failures now.failures
-  pub leaves : LeavesEither b earlier later now
+  pub leaves : LeavesEither building earlier later now
 
 abbrev pub StoreEnds : Building → List Delivery → List Delivery → Standing → Standing → Type 0
-StoreEnds b earlier later old now = HasFailed b earlier later old now ⊎ (IsTrue old.is_shut × Holds b earlier now)
+StoreEnds building earlier later old now = HasFailed building earlier later old now ⊎ (IsTrue old.is_shut × Holds building earlier now)
 
 abbrev pub of_fault : StoreFault → Unanswered
 of_fault fault.NoMemory = NoMemory
@@ -83,12 +83,12 @@ of_fault fault.BadRow = Store
 
 -- without an answer
 abbrev pub Leaves : Building → List Delivery → List Delivery → Unanswered → Standing → Standing → Type 0
-Leaves b earlier later NoMemory old now = Holds b earlier now
-Leaves b earlier later NoReply old now = Holds b later now
-Leaves b earlier later Store old now = StoreEnds b earlier later old now
+Leaves building earlier later NoMemory old now = Holds building earlier now
+Leaves building earlier later NoReply old now = Holds building later now
+Leaves building earlier later Store old now = StoreEnds building earlier later old now
 
 -- a request is answered
 abbrev pub Answers : Building → List Delivery → Request → Result Response Unanswered → Standing → Standing → Type 0
-Answers b earlier request (Ok response) old now =
-    (said : Said) × Says said response × IsSaid b earlier request said × Holds b (after earlier request) now
-Answers b earlier request (Err unanswered) old now = Leaves b earlier (after earlier request) unanswered old now
+Answers building earlier request (Ok response) old now =
+    (said : Said) × Says said response × IsSaid building earlier request said × Holds building (after earlier request) now
+Answers building earlier request (Err unanswered) old now = Leaves building earlier (after earlier request) unanswered old now

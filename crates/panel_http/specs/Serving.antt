@@ -29,51 +29,56 @@ IsOf said code text = (code ≡ said.status) × (text ≡ response_text said)
 -- ---- what is told, and what the store holds then
 
 -- the response of the definitions to what the bytes ask, and the tables with what they deliver
-pub record Responds (b : Building) (earlier : List Delivery) (bytes : Text) (code : StatusCode) (text : Text) (now : Standing) : Type 0 where
+pub record Responds (building : Building) (earlier : List Delivery) (bytes : Text) (code : StatusCode) (text : Text)
+    (now : Standing) : Type 0 where
   pub request : Request
-  pub is_request : IsRequest b bytes request
+  pub is_request : IsRequest building bytes request
   pub said : Said
-  pub is_said : IsSaid b earlier request said
+  pub is_said : IsSaid building earlier request said
   pub is_told : IsOf said code text
-  pub holds : Holds b (after earlier request) now
+  pub holds : Holds building (after earlier request) now
 
 -- memory was refused, and nothing is delivered
-pub record LacksMemory (b : Building) (earlier : List Delivery) (code : StatusCode) (text : Text) (now : Standing) : Type 0 where
+pub record LacksMemory (building : Building) (earlier : List Delivery) (code : StatusCode) (text : Text)
+    (now : Standing) : Type 0 where
   pub is_told : IsOf no_memory_said code text
-  pub holds : Holds b earlier now
+  pub holds : Holds building earlier now
 
 -- the store failed in this call, or was shut
-pub record LacksStore (b : Building) (earlier : List Delivery) (bytes : Text) (code : StatusCode) (text : Text) (old now : Standing) : Type 0 where
+pub record LacksStore (building : Building) (earlier : List Delivery) (bytes : Text) (code : StatusCode) (text : Text)
+    (old now : Standing) : Type 0 where
   pub request : Request
-  pub is_request : IsRequest b bytes request
+  pub is_request : IsRequest building bytes request
   pub is_told : IsOf store_said code text
-  pub ends : StoreEnds b earlier (after earlier request) old now
+  pub ends : StoreEnds building earlier (after earlier request) old now
 
 abbrev pub Tells : Building → List Delivery → Text → StatusCode → Text → Standing → Standing → Type 0
-Tells b earlier bytes code text old now =
-    Responds b earlier bytes code text now
-    ⊎ (LacksMemory b earlier code text now ⊎ LacksStore b earlier bytes code text old now)
+Tells building earlier bytes code text old now =
+    Responds building earlier bytes code text now
+    ⊎ (LacksMemory building earlier code text now ⊎ LacksStore building earlier bytes code text old now)
 
 -- nothing is told, and the tables are those with what the bytes deliver
-pub record IsSilent (b : Building) (earlier : List Delivery) (bytes : Text) (now : Standing) : Type 0 where
+pub record IsSilent (building : Building) (earlier : List Delivery) (bytes : Text) (now : Standing) : Type 0 where
   pub request : Request
-  pub is_request : IsRequest b bytes request
-  pub holds : Holds b (after earlier request) now
+  pub is_request : IsRequest building bytes request
+  pub holds : Holds building (after earlier request) now
 
 -- ---- what is written
 
 -- One request: a response was written whole; or a write failed, and a beginning of one was; or a read failed, or
 -- there was no byte; or memory for the response was refused. Of the reader the counts of failures before and after,
 -- of the writer what it holds and its counts, and how the store stands.
-abbrev pub Serves : Building → List Delivery → Text → ℕ → ℕ → Option Text → Option Text → ℕ → ℕ → Standing → Standing → Served → Type 0
-Serves b earlier bytes read_before read_after held holds before now old new (Answered code) =
-    (0 < length bytes) × (text : Text) × Appends held holds text × Tells b earlier bytes code text old new
-Serves b earlier bytes read_before read_after held holds before now old new ReplyLost =
-    (0 < length bytes) × (code : StatusCode) × (text : Text) × Lost held holds text before now × Tells b earlier bytes code text old new
-Serves b earlier bytes read_before read_after held holds before now old new NoRequest =
-    (Rises read_before read_after ⊎ (bytes ≡ [])) × Keeps held holds × Holds b earlier new
-Serves b earlier bytes read_before read_after held holds before now old new NoReply =
-    (0 < length bytes) × Keeps held holds × IsSilent b earlier bytes new
+abbrev pub Serves : Building → List Delivery → Text → ℕ → ℕ → Option Text → Option Text → ℕ → ℕ → Standing → Standing
+    → Served → Type 0
+Serves building earlier bytes read_before read_after held holds before now old new (Answered code) =
+    (0 < length bytes) × (text : Text) × Appends held holds text × Tells building earlier bytes code text old new
+Serves building earlier bytes read_before read_after held holds before now old new ReplyLost =
+    (0 < length bytes) × (code : StatusCode) × (text : Text) × Lost held holds text before now
+    × Tells building earlier bytes code text old new
+Serves building earlier bytes read_before read_after held holds before now old new NoRequest =
+    (Rises read_before read_after ⊎ (bytes ≡ [])) × Keeps held holds × Holds building earlier new
+Serves building earlier bytes read_before read_after held holds before now old new NoReply =
+    (0 < length bytes) × Keeps held holds × IsSilent building earlier bytes new
 
 -- ---- how an answer is written
 

@@ -68,9 +68,9 @@ tick_body body = json_of body >>= tick_told
 -- What a body tells to a route, for a building: a JSON object, or to the imports a holiday list. A route of GET takes
 -- no body.
 unfoldable pub body_told : Building → routes.Asked → List ℕ → Option BodyTold
-body_told b (routes.Commands panel) body = command_body panel body
-body_told b (routes.Skip panel) body = skip_body panel body
-body_told b routes.Tick body = tick_body body
-body_told b routes.Imports body = Some (of_import (import_of b body))
-body_told b (routes.Point point) body = None
-body_told b (routes.Report date) body = None
+body_told building (routes.Commands panel) body = command_body panel body
+body_told building (routes.Skip panel) body = skip_body panel body
+body_told building routes.Tick body = tick_body body
+body_told building routes.Imports body = Some (of_import (import_of building body))
+body_told building (routes.Point point) body = None
+body_told building (routes.Report date) body = None

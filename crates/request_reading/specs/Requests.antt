@@ -31,58 +31,58 @@ told_or_refused (Some told) = Told told
 
 -- what a request to a route asks, by its body
 abbrev pub IsTold : Building → routes.Asked → List ℕ → Request → Type 0
-IsTold b (routes.Point part) body request = request ≡ Point (named part)
-IsTold b (routes.Report part) body request = (told : Option Date) × (request ≡ Report told) × IsDay part told
-IsTold b (routes.Commands part) body request = request ≡ told_or_refused (body_told b (routes.Commands part) body)
-IsTold b (routes.Skip part) body request = request ≡ told_or_refused (body_told b (routes.Skip part) body)
-IsTold b routes.Tick body request = request ≡ told_or_refused (body_told b routes.Tick body)
-IsTold b routes.Imports body request = request ≡ told_or_refused (body_told b routes.Imports body)
+IsTold building (routes.Point part) body request = request ≡ Point (named part)
+IsTold building (routes.Report part) body request = (told : Option Date) × (request ≡ Report told) × IsDay part told
+IsTold building (routes.Commands part) body request = request ≡ told_or_refused (body_told building (routes.Commands part) body)
+IsTold building (routes.Skip part) body request = request ≡ told_or_refused (body_told building (routes.Skip part) body)
+IsTold building routes.Tick body request = request ≡ told_or_refused (body_told building routes.Tick body)
+IsTold building routes.Imports body request = request ≡ told_or_refused (body_told building routes.Imports body)
 
 -- ---- by the head
 
 -- the body is the first bytes after the head, or the input ended inside it (H5)
 abbrev pub IsAsked : Building → RouteAndLength → List ℕ → Request → Type 0
-IsAsked b (route, size) after request =
-    ((size ≤ length after) × IsTold b route (take size after) request)
+IsAsked building (route, size) after request =
+    ((size ≤ length after) × IsTold building route (take size after) request)
     ⊎ ((length after < size) × (request ≡ Refused CutBody))
 
 -- what a head asks, with what comes after it; H2, no route and H4 come before that is looked at
 abbrev pub IsAskedBy : Building → Result RouteAndLength Refusal → List ℕ → Request → Type 0
-IsAskedBy b (Ok asked) after request = IsAsked b asked after request
-IsAskedBy b (Err refusal) after request = request ≡ Refused refusal
+IsAskedBy building (Ok asked) after request = IsAsked building asked after request
+IsAskedBy building (Err refusal) after request = request ≡ Refused refusal
 
 -- ---- by the bytes
 
 -- an input begins with a head and asks what that asks, or it has none (H1)
-pub record IsOfHead (b : Building) (bytes : List ℕ) (request : Request) : Type 0 where
+pub record IsOfHead (building : Building) (bytes : List ℕ) (request : Request) : Type 0 where
   pub head : RequestHead
   pub after : List ℕ
   pub is_head : IsHead bytes head after
-  pub asks : IsAskedBy b (route_asked head) after request
+  pub asks : IsAskedBy building (route_asked head) after request
 
 abbrev pub IsRequest : Building → List ℕ → Request → Type 0
-IsRequest b bytes request = IsOfHead b bytes request ⊎ (HasNoHead bytes × (request ≡ Refused NoHead))
+IsRequest building bytes request = IsOfHead building bytes request ⊎ (HasNoHead bytes × (request ≡ Refused NoHead))
 
 -- ---- what is read
 
 -- a reading is so, or memory was refused, or a read failed
 abbrev pub Asks : Building → RouteAndLength → List ℕ → Result Request Unread → Type 0
-Asks b asked after (Ok request) = IsAsked b asked after request
-Asks b asked after (Err NoInput) = ⊥
-Asks b asked after (Err Lost) = ⊤
-Asks b asked after (Err NoMemory) = ⊤
+Asks building asked after (Ok request) = IsAsked building asked after request
+Asks building asked after (Err NoInput) = ⊥
+Asks building asked after (Err Lost) = ⊤
+Asks building asked after (Err NoMemory) = ⊤
 
 abbrev pub AsksBy : Building → RequestHead → List ℕ → Result Request Unread → Type 0
-AsksBy b head after (Ok request) = IsAskedBy b (route_asked head) after request
-AsksBy b head after (Err NoInput) = ⊥
-AsksBy b head after (Err Lost) = ⊤
-AsksBy b head after (Err NoMemory) = ⊤
+AsksBy building head after (Ok request) = IsAskedBy building (route_asked head) after request
+AsksBy building head after (Err NoInput) = ⊥
+AsksBy building head after (Err Lost) = ⊤
+AsksBy building head after (Err NoMemory) = ⊤
 
 abbrev pub Reads : Building → List ℕ → Result Request Unread → Type 0
-Reads b bytes (Ok request) = (0 < length bytes) × IsRequest b bytes request
-Reads b bytes (Err NoInput) = bytes ≡ []
-Reads b bytes (Err Lost) = ⊤
-Reads b bytes (Err NoMemory) = 0 < length bytes
+Reads building bytes (Ok request) = (0 < length bytes) × IsRequest building bytes request
+Reads building bytes (Err NoInput) = bytes ≡ []
+Reads building bytes (Err Lost) = ⊤
+Reads building bytes (Err NoMemory) = 0 < length bytes
 
 -- the reader's count has risen where a read failed, and else stayed
 abbrev pub Counts : ℕ → ℕ → Result Request Unread → Type 0

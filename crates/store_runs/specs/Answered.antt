@@ -17,24 +17,26 @@ use Rattle.store.specs.declared.open_fault.OpenFault.{OpenFault}
 abbrev pub Opens : {S : Type 0} → (Result S OpenFault → Type 0) → (S → Type 0) → Type 0
 Opens {S} may_open IsSuch = (opened : Result S OpenFault) → may_open opened → IfOk opened IsSuch
 
--- after the list E the reply of the definition was printed, and the store holds the tables of E and this delivery
-pub record Answers (b : Building) (E : List Delivery) (delivery : Delivery) (left : Standing) (old new : Option (List ℕ)) : Type 0 where
-  pub printed : Appends old new (reply_line (reply b E delivery))
-  pub holds : Holds b (E ++ delivery ∷ []) left
+-- after earlier deliveries the reply of the definition was printed, and the store holds the tables with this delivery
+pub record Answers (building : Building) (earlier : List Delivery) (delivery : Delivery) (left : Standing)
+    (old new : Option (List ℕ)) : Type 0 where
+  pub printed : Appends old new (reply_line (reply building earlier delivery))
+  pub holds : Holds building (earlier ++ delivery ∷ []) left
 
 abbrev pub IsTick : ℤ → Building → Delivery → Type 0
-IsTick at b delivery = delivery ≡ Tick at
+IsTick at building delivery = delivery ≡ Tick at
 
 -- the bytes are a holiday list for the building, and the delivery is its import
 abbrev pub IsImport : List ℕ → Building → Delivery → Type 0
-IsImport bytes b delivery = import_of b bytes ≡ told.Delivery delivery
+IsImport bytes building delivery = import_of building bytes ≡ told.Delivery delivery
 
 -- The file is a building, and the delivery that is asked of it was answered: after whatever list of deliveries the store
 -- that was opened holds the tables of.
-pub record IsAnswered {S : Type 0} (standing : S → Standing) (may_open : Result S OpenFault → Type 0) (IsAsked : Building → Delivery → Type 0) (file : List ℕ) (left : S) (old new : Option (List ℕ)) : Type 0 where
+pub record IsAnswered {S : Type 0} (standing : S → Standing) (may_open : Result S OpenFault → Type 0)
+    (IsAsked : Building → Delivery → Type 0) (file : List ℕ) (left : S) (old new : Option (List ℕ)) : Type 0 where
   pub building : Building
   pub building_is : building_of file ≡ Ok (contents_of building)
   pub delivery : Delivery
   pub asked : IsAsked building delivery
-  pub answers : (E : List Delivery) → Opens may_open (λ store. Holds building E (standing store)) → (standing left).is_honest
-      → Answers building E delivery (standing left) old new
+  pub answers : (earlier : List Delivery) → Opens may_open (λ store. Holds building earlier (standing store))
+      → (standing left).is_honest → Answers building earlier delivery (standing left) old new

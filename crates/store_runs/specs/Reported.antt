@@ -15,18 +15,20 @@ use Rattle.store.specs.Tables.{Text}
 use Rattle.store.specs.declared.open_fault.OpenFault.{OpenFault}
 use Rattle.store_runs.specs.Answered.{Opens}
 
--- the report over the tables of the list E was printed, and the store holds them still
-pub record Reports (b : Building) (E : List Delivery) (day : Date) (left : Standing) (old new : Option (List ℕ)) : Type 0 where
-  pub printed : (imported : Text → List Text) → Tells (tables b E).imported imported
-      → Appends old new (report_text b imported (tables b E).places day)
-  pub holds : Holds b E left
+-- the report over the tables of earlier deliveries was printed, and the store holds them still
+pub record Reports (building : Building) (earlier : List Delivery) (day : Date) (left : Standing)
+    (old new : Option (List ℕ)) : Type 0 where
+  pub printed : (imported : Text → List Text) → Tells (tables building earlier).imported imported
+      → Appends old new (report_text building imported (tables building earlier).places day)
+  pub holds : Holds building earlier left
 
 -- The file is a building, the text spells a day, and the report of that day was printed: over whatever list of deliveries
 -- the store that was opened holds the tables of.
-pub record IsReported {S : Type 0} (standing : S → Standing) (may_open : Result S OpenFault → Type 0) (date : Text) (file : List ℕ) (left : S) (old new : Option (List ℕ)) : Type 0 where
+pub record IsReported {S : Type 0} (standing : S → Standing) (may_open : Result S OpenFault → Type 0) (date : Text)
+    (file : List ℕ) (left : S) (old new : Option (List ℕ)) : Type 0 where
   pub building : Building
   pub building_is : building_of file ≡ Ok (contents_of building)
   pub day : Date
   pub day_is : SpellsDay date day
-  pub reports : (E : List Delivery) → Opens may_open (λ store. Holds building E (standing store)) → (standing left).is_honest
-      → Reports building E day (standing left) old new
+  pub reports : (earlier : List Delivery) → Opens may_open (λ store. Holds building earlier (standing store))
+      → (standing left).is_honest → Reports building earlier day (standing left) old new

@@ -3,7 +3,7 @@ ghost use Rattle.std.specs.Prelude.{◌≡◌, false};
 ghost use Rattle.sqlite.specs.Held.{state};
 ghost use Rattle.store_sql.specs.Asking.{Asks, FindsNone, IsAskable, Joins};
 
-use crate::looking::look;
+use sql_rows::look;
 use sqlite::{Alter, Connection, Error};
 
 /// Whether the answer of a query is empty.

@@ -12,7 +12,6 @@ pub use sql_store::SqlStore;
 
 mod asking;
 mod early;
-mod looking;
 mod making;
 mod own_rows;
 mod raising;

@@ -8,7 +8,7 @@ ghost use Rattle.store_sql.specs.Fitting.{AreNumbered, IsAlone};
 ghost use Rattle.store_sql.specs.Own.{TellsOf};
 
 use crate::asking::{finds_none, neither_finds};
-use crate::looking::look;
+use sql_rows::look;
 use sqlite::{Alter, Connection, Error};
 
 fn desk_is_alone<S: Alter>(connection: &mut Connection<S>) -> Result<bool, Error>

@@ -5,13 +5,13 @@ use Rattle.window.specs.Taken.{Taken, content_at, front}
 
 -- a content under its number, before others
 abbrev pub and_at : ℕ → Option Content → List NumberedContent → List NumberedContent
-and_at n None rest = rest
-and_at n (Some content) rest = record { number = n; content = content } ∷ rest
+and_at number None rest = rest
+and_at number (Some content) rest = record { number = number; content = content } ∷ rest
 
--- the contents that were accepted under k numbers from n on, in rising order
+-- the contents that were accepted under so many numbers from one on, in rising order
 abbrev pub contents_from : ℕ → Taken → ℕ → List NumberedContent
-contents_from zero t n = []
-contents_from (suc k) t n = and_at n (content_at t n) (contents_from k t (n + 1))
+contents_from zero taken number = []
+contents_from (suc count) taken number = and_at number (content_at taken number) (contents_from count taken (number + 1))
 
 -- the commands that are acted on as what was accepted grows: those that the front passes
 unfoldable pub applied : Taken → Taken → List NumberedContent

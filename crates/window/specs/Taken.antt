@@ -20,42 +20,46 @@ opening = record { accepted = []; upto = 1 }
 
 -- the content that stands under a number
 abbrev pub content_in : List NumberedContent → ℕ → Option Content
-content_in [] n = None
-content_in (entry ∷ entries) n = if entry.number == n then Some entry.content else content_in entries n
+content_in [] number = None
+content_in (entry ∷ entries) number = if entry.number == number then Some entry.content else content_in entries number
 
 abbrev pub content_at : Taken → ℕ → Option Content
-content_at t n = content_in t.accepted n
+content_at earlier number = content_in earlier.accepted number
 
 abbrev pub is_key : Taken → ℕ → Bool
-is_key t n = is_some (content_at t n)
+is_key earlier number = is_some (content_at earlier number)
 
--- the first of k numbers from n on under which nothing stands, or the one after them
+-- the first of so many numbers from one on under which nothing stands, or the one after them
 abbrev pub missing_from : ℕ → List NumberedContent → ℕ → ℕ
-missing_from zero entries n = n
-missing_from (suc k) entries n = if is_some (content_in entries n) then missing_from k entries (n + 1) else n
+missing_from zero entries number = number
+missing_from (suc count) entries number =
+    if is_some (content_in entries number) then missing_from count entries (number + 1) else number
 
 -- the least number, at or above `upto`, that is no key: `front_is_least_missing` proves that it is
 unfoldable pub front : Taken → ℕ
-front t = missing_from (length t.accepted) t.accepted t.upto
+front earlier = missing_from (length earlier.accepted) earlier.accepted earlier.upto
 
 -- a command is accepted under a number that is no key, from the front on, within the window
 abbrev pub accepts : Taken → ℕ → Bool
-accepts t n = not (is_key t n) && (nat_le (front t) n && nat_lt n (front t + window))
+accepts earlier number =
+    not (is_key earlier number) && (nat_le (front earlier) number && nat_lt number (front earlier + window))
 
 -- a skip is accepted where it moves the front, by at most the window
 abbrev pub accepts_skip : Taken → ℕ → Bool
-accepts_skip t u = nat_lt (front t) u && nat_le u (front t + window)
+accepts_skip earlier upto = nat_lt (front earlier) upto && nat_le upto (front earlier + window)
 
 abbrev pub with_command : Taken → ℕ → Content → Taken
-with_command t n content =
-    record { accepted = record { number = n; content = content } ∷ t.accepted; upto = t.upto }
+with_command earlier number content =
+    record { accepted = record { number = number; content = content } ∷ earlier.accepted; upto = earlier.upto }
 
 -- what is accepted after one ask
 unfoldable pub take : Taken → Ask → Taken
-take t (Command n content) = if accepts t n then with_command t n content else t
-take t (Skip u) = if accepts_skip t u then record { accepted = t.accepted; upto = max t.upto u } else t
+take earlier (Command number content) =
+    if accepts earlier number then with_command earlier number content else earlier
+take earlier (Skip upto) =
+    if accepts_skip earlier upto then record { accepted = earlier.accepted; upto = max earlier.upto upto } else earlier
 
 -- what is accepted after a list of asks, in the order in which they came
 abbrev pub taken : Taken → List Ask → Taken
-taken t [] = t
-taken t (ask ∷ asks) = taken (take t ask) asks
+taken earlier [] = earlier
+taken earlier (ask ∷ asks) = taken (take earlier ask) asks
