@@ -74,7 +74,8 @@ pub distinct_pushed : (n : List ℕ) (names : List (List ℕ)) → are_distinct 
 distinct_pushed n [] distinct new = refl
 distinct_pushed n (first ∷ names) distinct new =
     let other : bytes_eq n first ≡ false = nat_list_eq_equiv.symm n first ∙ fails-left (bytes_eq first n) (is_among n names) new in
-    let rest : are_distinct (names ++ n ∷ []) ≡ true = distinct_pushed n names (holds-right (not (is_among first names)) (are_distinct names) distinct)
+    let rest : are_distinct (names ++ n ∷ []) ≡ true =
+    distinct_pushed n names (holds-right (not (is_among first names)) (are_distinct names) distinct)
     (fails-right (bytes_eq first n) (is_among n names) new) in
     ap₂ (λ x y. not x && y) (among-pushed first n names other) rest
     ∙ ap (λ x. x && true) (holds-left (not (is_among first names)) (are_distinct names) distinct)

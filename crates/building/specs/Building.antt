@@ -33,7 +33,8 @@ contents_of building = record {
 
 -- no name stands twice in its section; defaults lie in their kinds; what panels and schedules name exists, and what a schedule may write lies in
 -- the kind of each of its points; nothing is written at 6
-pub record IsSound (points : List Point) (panels : List Panel) (calendars : List NamedCalendar) (schedules : List NamedSchedule) : Type 0 where
+pub record IsSound (points : List Point) (panels : List Panel) (calendars : List NamedCalendar) (schedules : List NamedSchedule) :
+    Type 0 where
   pub distinct_points : IsTrue (are_distinct (map (λ (point : Point). point.name) points))
   pub distinct_panels : IsTrue (are_distinct (map (λ (panel : Panel). panel.name) panels))
   pub distinct_calendars : IsTrue (are_distinct (map (λ (calendar : NamedCalendar). calendar.name) calendars))

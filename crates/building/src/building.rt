@@ -53,9 +53,7 @@ impl Model for Building {
       schedules = building.schedules;
     } };
 
-    ghost invariant = {
-        λ building. IsSound building.points building.panels building.calendars building.schedules
-    };
+    ghost invariant = { λ building. IsSound building.points building.panels building.calendars building.schedules };
 }
 
 impl Building {

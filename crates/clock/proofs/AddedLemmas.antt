@@ -10,7 +10,8 @@ use Rattle.std.proofs.Common.{bytes_eq, inl, inr}
 use Rattle.store.specs.declared.change.ImportedEntry.{ImportedEntry}
 use Rattle.store.specs.Tables.{Text}
 
-pub texts_for-append : (calendar : Text) (xs ys : List ImportedEntry) → texts_for calendar (xs ++ ys) ≡ texts_for calendar xs ++ texts_for calendar ys
+pub texts_for-append : (calendar : Text) (xs ys : List ImportedEntry)
+    → texts_for calendar (xs ++ ys) ≡ texts_for calendar xs ++ texts_for calendar ys
 texts_for-append calendar [] ys = refl
 texts_for-append calendar (x ∷ xs) ys = elim (cases_Bool (bytes_eq x.calendar calendar)) [
   | inl here ↦ let more = texts_for-append calendar xs ys in rw (here, more) refl
@@ -33,7 +34,8 @@ added-cons b imported row rest old new is =
     ∙ (append_assoc old items (added b (with_items imported (old ++ items)) rest)
     ∙ ap (λ texts. old ++ (items ++ added b texts rest)) (sym (with_items-append imported old items)))
 
-pub added-more : (b : Building) (imported : Text → List Text) (rows : List CalendarEntry) (i : ℕ) (row : CalendarEntry) (old new all : List ImportedEntry)
+pub added-more : (b : Building) (imported : Text → List Text) (rows : List CalendarEntry) (i : ℕ) (row : CalendarEntry)
+    (old new all : List ImportedEntry)
     → drop i rows ≡ row ∷ drop (i + 1) rows → new ≡ old ++ added_by b (with_items imported old) row
     → old ++ added b (with_items imported old) (drop i rows) ≡ all
     → new ++ added b (with_items imported new) (drop (i + 1) rows) ≡ all

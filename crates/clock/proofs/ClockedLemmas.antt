@@ -26,18 +26,21 @@ use Rattle.store.specs.Standing.{Content, Standing}
 use Rattle.store.specs.Tables.{Text}
 
 -- the tables of a list tell what its machine has imported
-pub Tells-held : (b : Building) (E : List Delivery) (old : Standing) → Holds b E old → Tells old.content.tables.imported (machine b E).imported
+pub Tells-held : (b : Building) (E : List Delivery) (old : Standing) → Holds b E old
+    → Tells old.content.tables.imported (machine b E).imported
 Tells-held b E old held = subst (λ (c : Content). Tells c.tables.imported (machine b E).imported) (sym held) (Tells-tables b E)
 
 shown-held : (b : Building) (E : List Delivery) (old : Standing) → Holds b E old → old.content.tables.shown ≡ (machine b E).shown
 shown-held b E old held = ap (λ (c : Content). c.tables.shown) held ∙ tables-shown b E
 
 -- the last tick that is read is the last one of the list
-pub last-held : (b : Building) (E : List Delivery) (old : Standing) → Holds b E old → (last : Option ℤ) → last ≡ old.content.tables.last_tick
+pub last-held : (b : Building) (E : List Delivery) (old : Standing) → Holds b E old → (last : Option ℤ)
+    → last ≡ old.content.tables.last_tick
     → last ≡ last_tick_of b E
 last-held b E old held last is = is ∙ (ap (λ (c : Content). c.tables.last_tick) held ∙ tables-last_tick b E)
 
-pub last_of-held : (b : Building) (E : List Delivery) (old : Standing) → Holds b E old → old.content.tables.last_tick ≡ (machine b E).last_tick
+pub last_of-held : (b : Building) (E : List Delivery) (old : Standing) → Holds b E old
+    → old.content.tables.last_tick ≡ (machine b E).last_tick
 last_of-held b E old held = ap (λ (c : Content). c.tables.last_tick) held ∙ (tables-last_tick b E ∙ sym (machine-last_tick b E))
 
 -- rows of which none is refused have their calendars
@@ -54,14 +57,16 @@ refused-cons test row rows = by (test row) refl
 some-refused : (test : CalendarEntry → Bool) (rows : List CalendarEntry)
     → nat_lt (position_or_len (λ x. not (test x)) rows) (length rows) ≡ not (list_all test rows)
 some-refused test [] = refl
-some-refused test (row ∷ rows) = refused-cons test row rows ∙ (ap (λ b. not (test row) || b) (some-refused test rows) ∙ turned (test row) (list_all test rows))
+some-refused test (row ∷ rows) =
+    refused-cons test row rows ∙ (ap (λ b. not (test row) || b) (some-refused test rows) ∙ turned (test row) (list_all test rows))
   where
     turned : (a b : Bool) → (not a || not b) ≡ not (a && b)
     turned true b = refl
     turned false b = refl
 
 refused-at : (b : Building) (rows : List CalendarEntry) → is_some (refused_record b rows) ≡ not (list_all (has_calendar b) rows)
-refused-at b rows = by (nat_lt (position_or_len (λ row. not (has_calendar b row)) rows) (length rows)) refl ∙ some-refused (has_calendar b) rows
+refused-at b rows =
+    by (nat_lt (position_or_len (λ row. not (has_calendar b row)) rows) (length rows)) refl ∙ some-refused (has_calendar b) rows
   where
     by : (some : Bool) → nat_lt (position_or_len (λ row. not (has_calendar b row)) rows) (length rows) ≡ some
         → is_some (refused_record b rows) ≡ nat_lt (position_or_len (λ row. not (has_calendar b row)) rows) (length rows)
@@ -90,7 +95,8 @@ module _ (b : Building) (E : List Delivery) (old : Standing) (held : Holds b E o
   settles-held : (items : List ImportedEntry) (local : Option LocalTime) (last : Option ℤ) (change : Change)
       → Settled-over b old items local last change
       → Settles b (with_items (machine b E).imported items) (machine b E).shown local items last change
-  settles-held items local last change settles = subst (λ (shown : Shown). Settles b (with_items (machine b E).imported items) shown local items last change)
+  settles-held items local last change settles =
+      subst (λ (shown : Shown). Settles b (with_items (machine b E).imported items) shown local items last change)
       (shown-held b E old held) (settles (machine b E).imported (Tells-held b E old held))
 
   module _ (moment : ℤ) (local : LocalTime) (change : Change) (is_at : local_at b.zone moment ≡ Some local)

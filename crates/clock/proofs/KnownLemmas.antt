@@ -26,7 +26,8 @@ same-read a b e = cc
 pub same-spelled : (test : Bool) (a b : Entry) → IsEntry a → IsEntry b → (test ≡ true) ↔ (a ≡ b) → test ≡ bytes_eq (spelling a) (spelling b)
 same-spelled test a b is_a is_b same = both_ways test (bytes_eq (spelling a) (spelling b))
     (λ yes. (bytes_eq-Decides (spelling a) (spelling b)).1 (ap spelling (same.0 yes)))
-    (λ alike. same.1 (same-read a b (sym (reading-text a is_a) ∙ (ap reading ((bytes_eq-Decides (spelling a) (spelling b)).0 alike) ∙ reading-text b is_b))))
+    (λ alike. same.1 (same-read a b (sym (reading-text a is_a)
+    ∙ (ap reading ((bytes_eq-Decides (spelling a) (spelling b)).0 alike) ∙ reading-text b is_b))))
 
 -- the texts of entries
 kept-texts : (entry : Entry) (kept : List Entry)
@@ -49,7 +50,8 @@ items-known : (calendar : Text) (items : List ImportedEntry) (entry : Entry)
     ≡ list_any (bytes_eq (spelling entry)) (texts_for calendar items)
 items-known calendar [] entry = refl
 items-known calendar (item ∷ items) entry = elim (cases_Bool (bytes_eq item.calendar calendar)) [
-  | inl here ↦ rw here (ap₂ (λ a b. a || b) (nat_list_eq_equiv.symm (spelling item.entry) (spelling entry)) (items-known calendar items entry))
+  | inl here ↦ rw here (ap₂ (λ a b. a || b) (nat_list_eq_equiv.symm (spelling item.entry) (spelling entry))
+      (items-known calendar items entry))
   | inr apart ↦ rw apart (items-known calendar items entry)
 ]
 

@@ -148,7 +148,8 @@ cut_at-some mark (b ∷ text) before after e =
     by_test (starts_with nat_eq (b ∷ text) mark) refl e (cut_at-some mark text)
   where
     by_test : (test : Bool) → starts_with nat_eq (b ∷ text) mark ≡ test
-        → cond {A = Option (Text × Text)} test (Some ([], drop (length mark) (b ∷ text))) (after_byte b (cut_at mark text)) ≡ Some (before, after)
+        → cond {A = Option (Text × Text)} test (Some ([], drop (length mark) (b ∷ text))) (after_byte b (cut_at mark text))
+        ≡ Some (before, after)
         → ((x y : Text) → cut_at mark text ≡ Some (x, y) → text ≡ x ++ (mark ++ y)) → b ∷ text ≡ before ++ (mark ++ after)
     by_test true is e whole =
         append-starts_with (b ∷ text) mark is

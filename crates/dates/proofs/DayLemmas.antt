@@ -20,7 +20,11 @@ IsDay-is_day y m d e =
     let month = is_day-month y m d e in
     let day = is_day-day y m d e in (
       (omega (arith, signed_arith), omega (arith, signed_arith)),
-      (is_day-year y m d e, (omega (arith, signed_arith), omega (arith, signed_arith)), (omega (arith, signed_arith), omega (arith, signed_arith))),
+      (
+        is_day-year y m d e,
+        (omega (arith, signed_arith), omega (arith, signed_arith)),
+        (omega (arith, signed_arith), omega (arith, signed_arith)),
+      ),
     )
 
 pub is_day-IsDay : (y m d : ℕ) → IsDay (pos y) m d → is_day y m d ≡ true
@@ -61,7 +65,8 @@ unfolding day_of
 day_of-none y m d e = ap (option_map (day_with y m d)) (passed-none (is_day y m d) e)
 
 -- what `Day::new` answers
-pub day_of-new : (y m d : ℕ) (r : Option Date) → (IsSome r ↔ IsDay (pos y) m d) → IfSome r (IsYmd (pos y) (pos m) (pos d)) → r ≡ day_of y m d
+pub day_of-new : (y m d : ℕ) (r : Option Date) → (IsSome r ↔ IsDay (pos y) m d) → IfSome r (IsYmd (pos y) (pos m) (pos d))
+    → r ≡ day_of y m d
 day_of-new y m d None exists value = by_test (is_day y m d) refl
   where
     by_test : (test : Bool) → is_day y m d ≡ test → None ≡ day_of y m d

@@ -43,7 +43,8 @@ use Rattle.dates.proofs.FieldTexts.{weekday_at-some, weekdays_at-some, weeks_at-
 
 -- ---- a step that answers
 
-then-ok : {A B : Type 0} (r : Result A EntryFault) (f : A → Result B EntryFault) (y : B) → (r >>= f) ≡ Ok y → (x : A) × (r ≡ Ok x) × (f x ≡ Ok y)
+then-ok : {A B : Type 0} (r : Result A EntryFault) (f : A → Result B EntryFault) (y : B) → (r >>= f) ≡ Ok y
+    → (x : A) × (r ≡ Ok x) × (f x ≡ Ok y)
 then-ok (Ok x) f y e = (x, refl, e)
 then-ok (Err fault) f y e = let bad : ⊥ = cc in absurd bad
 
@@ -85,7 +86,8 @@ three_same mark p x y z ex ey ez = rw (ex, ey, ez) refl
 abbrev IsDateFields : DateFields → Type 0
 IsDateFields f = AreYears f.year × AreMonths f.months × AreMonthDays f.days
 
-date_fields_at-ok : (text : Text) (f : DateFields) → date_fields_at text ≡ Ok f → (text ≡ date_fields_text f.year f.months f.days) × IsDateFields f
+date_fields_at-ok : (text : Text) (f : DateFields) → date_fields_at text ≡ Ok f
+    → (text ≡ date_fields_text f.year f.months f.days) × IsDateFields f
 unfolding date_fields_at
 date_fields_at-ok text f e =
     let parts = field-ok (parts_at (codes "-") text) fault.Shape _ f e in
@@ -157,7 +159,8 @@ unfolding full_date_at one_day
 full_date_at-ok text day e = by_test (is_some (cut_at (codes "/") text)) e
   where
     by_test : (test : Bool)
-        → cond {A = Result Date EntryFault} test (Err fault.Shape) (date_fields_at text >>= λ date. one_day date.year date.months date.days) ≡ Ok day
+        → cond {A = Result Date EntryFault} test (Err fault.Shape)
+        (date_fields_at text >>= λ date. one_day date.year date.months date.days) ≡ Ok day
         → (text ≡ day_text day) × IsOfYears day
     by_test true e = let bad : ⊥ = cc in absurd bad
     by_test false e =
@@ -214,7 +217,11 @@ week_n_day_at-ok text w e =
     let made : WeekNDay = record { months = months.0; week = weeks.0; weekday = weekdays.0 } in
     let same : made ≡ w = cc in
     let P : WeekNDay → Type 0 = λ w. (codes "wnd:" ++ text ≡ week_n_day_text w) × IsWeekNDay w in
-    subst P same (ap (λ t. codes "wnd:" ++ t) (parts_at-some (codes ":") text parts.0 parts.1 ∙ three_same (codes ":") parts.0 _ _ _ m.0 k d), m.1)
+    subst P same (
+      ap (λ t. codes "wnd:" ++ t) (parts_at-some (codes ":") text parts.0 parts.1
+          ∙ three_same (codes ":") parts.0 _ _ _ m.0 k d),
+      m.1,
+    )
 
 without_prefix-some : (mark text rest : Text) → without_prefix mark text ≡ Some rest → text ≡ mark ++ rest
 unfolding without_prefix
@@ -232,7 +239,8 @@ unfolding dates_at spelling
 dates_at-ok text e h = by_cut (cut_at (codes "..") text) refl h
   where
     by_cut : (cut : Option (Text × Text)) → cut_at (codes "..") text ≡ cut
-        → option_map_or (λ ends. range_at ends.0 ends.1 >>= λ r. Ok (entry.Range r)) cut (pattern_at text >>= λ p. Ok (entry.Pattern p)) ≡ Ok e
+        → option_map_or (λ ends. range_at ends.0 ends.1 >>= λ r. Ok (entry.Range r)) cut
+        (pattern_at text >>= λ p. Ok (entry.Pattern p)) ≡ Ok e
         → Spells text e
     by_cut None is h =
         let p = then-ok (pattern_at text) (λ p. Ok (entry.Pattern p)) e h in

@@ -151,7 +151,8 @@ pub date_fields_at-text : (y : Option ℕ) (m : Months) (d : MonthDays) → AreY
 unfolding date_fields_at
 date_fields_at-text y m d hy hm hd =
     rw (
-      parts_at-text 45 (years_text y) (months_text m) (month_days_text d) (lacks-years 45 dash y) (lacks-months 45 dash m) (lacks-month_days 45 dash d),
+      parts_at-text 45 (years_text y) (months_text m) (month_days_text d) (lacks-years 45 dash y) (lacks-months 45 dash m)
+          (lacks-month_days 45 dash d),
       years_at-text y hy,
       months_at-text m hm,
       month_days_at-text d hd,
@@ -165,7 +166,11 @@ pattern_at-fields y m d None hy hm hd =
     rw (append-nil text, cut_at-absent 47 [] text (lacks-date_fields 47 slash (omega arith) y m d), date_fields_at-text y m d hy hm hd) refl
 pattern_at-fields y m d (Some w) hy hm hd =
     let text = date_fields_text y m d in
-    rw (cut_at-lacking 47 [] text (weekday_text w) (lacks-date_fields 47 slash (omega arith) y m d), date_fields_at-text y m d hy hm hd, weekday_at-text w) refl
+    rw (
+      cut_at-lacking 47 [] text (weekday_text w) (lacks-date_fields 47 slash (omega arith) y m d),
+      date_fields_at-text y m d hy hm hd,
+      weekday_at-text w,
+    ) refl
 
 pub pattern_at-text : (p : Pattern) → IsPattern p → pattern_at (pattern_text p) ≡ Ok p
 pattern_at-text p h = pattern_at-fields p.year p.months p.days p.weekday h.0 h.1 h.2
@@ -180,7 +185,11 @@ IsDay-parts day h =
     let m = day.month_in in
     let d = day.day_in in (
       h,
-      (day.year_in, (omega (arith, signed_arith, m), omega (arith, signed_arith, m)), (omega (arith, signed_arith, d), omega (arith, signed_arith, d))),
+      (
+        day.year_in,
+        (omega (arith, signed_arith, m), omega (arith, signed_arith, m)),
+        (omega (arith, signed_arith, d), omega (arith, signed_arith, d)),
+      ),
     )
 
 -- and the day is the day of its parts
@@ -202,7 +211,8 @@ full_date_at-text day h =
     let same = year_number day.year h.0 in
     rw (
       cut_at-absent 47 [] (day_text day) (lacks-date_fields 47 slash (omega arith) y m d),
-      date_fields_at-text y m d (omega (arith, signed_arith), omega (arith, signed_arith)) day.month_in (omega (arith, day.day_in), omega (arith, day.day_in)),
+      date_fields_at-text y m d (omega (arith, signed_arith), omega (arith, signed_arith)) day.month_in
+          (omega (arith, day.day_in), omega (arith, day.day_in)),
       day_of-parts day h,
     ) refl
 
@@ -222,7 +232,8 @@ week_n_day_at-fields : (m : Months) (k : Option Week) (w : Option Weekday) → A
 unfolding week_n_day_at
 week_n_day_at-fields m k w h =
     rw (
-      parts_at-text 58 (months_text m) (weeks_text k) (weekdays_text w) (lacks_colon-months m h) (lacks_colon-weeks k) (lacks_colon-weekdays w),
+      parts_at-text 58 (months_text m) (weeks_text k) (weekdays_text w) (lacks_colon-months m h) (lacks_colon-weeks k)
+          (lacks_colon-weekdays w),
       months_at-text m h,
       weeks_at-text k,
       weekdays_at-text w,

@@ -22,7 +22,8 @@ schedule_lines-same day cs ds s same =
 pub all_lines-same : (day : Date) (cs ds : List Calendar) (schedules : List NamedSchedule) → hold_on day cs ≡ hold_on day ds
     → flat_map (schedule_lines cs day) schedules ≡ flat_map (schedule_lines ds day) schedules
 all_lines-same day cs ds schedules same =
-    ap (λ (lines : NamedSchedule → List ℕ). flat_map lines schedules) (fun_ext (λ (s : NamedSchedule). schedule_lines-same day cs ds s same))
+    ap (λ (lines : NamedSchedule → List ℕ). flat_map lines schedules)
+    (fun_ext (λ (s : NamedSchedule). schedule_lines-same day cs ds s same))
 
 -- nothing is imported beside what is
 pub with_items-none : (imported : Text → List Text) → with_items imported [] ≡ imported

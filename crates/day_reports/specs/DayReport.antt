@@ -17,4 +17,5 @@ line_of_point places point =
 -- over what is imported and what the places hold
 abbrev pub report_text : Building → (Text → List Text) → (Text → Places) → Date → Text
 report_text building imported places day =
-    day_line day ++ (flat_map (schedule_lines (calendars_of building imported) day) building.schedules ++ flat_map (line_of_point places) building.points)
+    day_line day ++ (flat_map (schedule_lines (calendars_of building imported) day) building.schedules
+    ++ flat_map (line_of_point places) building.points)

@@ -51,7 +51,8 @@ pub tables-clock : (b : Building) (E : List Delivery) (d : Delivery) → asked d
 tables-clock b E d none =
     tables-is b (E ++ d ∷ []) ∙ (λ i. tables-at (machine-clock b E d none i) (λ q. taken-unasked b q E d none i))
 
-tables-no_event : (b : Building) (E : List Delivery) (d : Delivery) → asked d ≡ None → clock_event b E d ≡ [] → tables b (E ++ d ∷ []) ≡ tables b E
+tables-no_event : (b : Building) (E : List Delivery) (d : Delivery) → asked d ≡ None → clock_event b E d ≡ []
+    → tables b (E ++ d ∷ []) ≡ tables b E
 tables-no_event b E d none quiet =
     tables-clock b E d none ∙ ap (λ events. tables-at (run b (machine b E) events) (λ q. taken_by b q E)) quiet ∙ sym (tables-is b E)
 
@@ -85,9 +86,11 @@ commanded-by b E panel d = applied (taken_by b panel E) (taken_by b panel (E ++ 
 last_tick-acted : (b : Building) (E : List Delivery) (d : Delivery) (m : Machine) → m.last_tick ≡ last_tick_of b E
     → (run b m (acted_on b E d)).last_tick ≡ later_of (last_tick_of b E) (moment_of b d)
 last_tick-acted b E (delivery_of.Command panel number content) m last =
-    ap (λ events. (run b m events).last_tick) (acted_on-sent b E (delivery_of.Command panel number content) tt) ∙ (last_tick-run b m panel (commanded-by b E panel (delivery_of.Command panel number content)) ∙ last)
+    ap (λ events. (run b m events).last_tick) (acted_on-sent b E (delivery_of.Command panel number content) tt)
+    ∙ (last_tick-run b m panel (commanded-by b E panel (delivery_of.Command panel number content)) ∙ last)
 last_tick-acted b E (delivery_of.Skip panel upto) m last =
-    ap (λ events. (run b m events).last_tick) (acted_on-sent b E (delivery_of.Skip panel upto) tt) ∙ (last_tick-run b m panel (commanded-by b E panel (delivery_of.Skip panel upto)) ∙ last)
+    ap (λ events. (run b m events).last_tick) (acted_on-sent b E (delivery_of.Skip panel upto) tt)
+    ∙ (last_tick-run b m panel (commanded-by b E panel (delivery_of.Skip panel upto)) ∙ last)
 last_tick-acted b E (delivery_of.Tick moment) m last =
     ap (λ events. (run b m events).last_tick) (acted_on-clock b E (delivery_of.Tick moment) refl)
     ∙ (last_tick-event b m moment (is_moment b moment && is_later (last_tick_of b E) moment)
@@ -97,7 +100,8 @@ last_tick-acted b E (delivery_of.Import rows) m last =
     ap (λ events. (run b m events).last_tick) (acted_on-clock b E (delivery_of.Import rows) refl)
     ∙ (last_tick-import b m rows (list_all (has_calendar b) rows) ∙ last)
 
-last_tick_of-push : (b : Building) (E : List Delivery) (d : Delivery) → last_tick_of b (E ++ d ∷ []) ≡ later_of (last_tick_of b E) (moment_of b d)
+last_tick_of-push : (b : Building) (E : List Delivery) (d : Delivery)
+    → last_tick_of b (E ++ d ∷ []) ≡ later_of (last_tick_of b E) (moment_of b d)
 last_tick_of-push b E d = fold-append (λ last delivery. later_of last (moment_of b delivery)) None E (d ∷ [])
 
 last_tick-after : (b : Building) (E ds : List Delivery) (m : Machine) → m.last_tick ≡ last_tick_of b E
@@ -138,11 +142,13 @@ Tells-item table imported item tells calendar text = elim (cases_Bool (bytes_eq 
 
 texts_for-more : (calendar : Text) (item : ImportedEntry) (items : List ImportedEntry)
     → texts_for calendar (item ∷ []) ++ texts_for calendar items ≡ texts_for calendar (item ∷ items)
-texts_for-more calendar item items = elim (cases_Bool (bytes_eq item.calendar calendar)) [ inl here ↦ rw here refl | inr apart ↦ rw apart refl ]
+texts_for-more calendar item items =
+    elim (cases_Bool (bytes_eq item.calendar calendar)) [ inl here ↦ rw here refl | inr apart ↦ rw apart refl ]
 
 pub Tells-items : (table : Text → Text → Bool) (imported : Text → List Text) (items : List ImportedEntry) → Tells table imported
     → Tells (with_each with_imported items table) (with_items imported items)
-Tells-items table imported [] tells calendar text = tells calendar text ∙ ap (list_any (bytes_eq text)) (sym (append-nil (imported calendar)))
+Tells-items table imported [] tells calendar text =
+    tells calendar text ∙ ap (list_any (bytes_eq text)) (sym (append-nil (imported calendar)))
 Tells-items table imported (item ∷ items) tells calendar text =
     Tells-items (with_imported item table) (with_items imported (item ∷ [])) items (Tells-item table imported item tells) calendar text
     ∙ ap (list_any (bytes_eq text)) (append_assoc (imported calendar) (texts_for calendar (item ∷ [])) (texts_for calendar items)
@@ -221,10 +227,13 @@ pub tables-refused : (b : Building) (E : List Delivery) (rows : List CalendarEnt
 tables-refused b E rows not_all = tables-no_event b E (delivery_of.Import rows) refl (rw not_all refl)
 
 imported-tables : (b : Building) (E : List Delivery) (items : List ImportedEntry)
-    → with_each with_imported items (tables b E).imported ≡ (λ calendar text. list_any (bytes_eq text) (with_items (machine b E).imported items calendar))
-imported-tables b E items = λ i calendar text. Tells-items (tables b E).imported (machine b E).imported items (Tells-tables b E) calendar text i
+    → with_each with_imported items (tables b E).imported
+    ≡ (λ calendar text. list_any (bytes_eq text) (with_items (machine b E).imported items calendar))
+imported-tables b E items =
+    λ i calendar text. Tells-items (tables b E).imported (machine b E).imported items (Tells-tables b E) calendar text i
 
-pub tables-imported : (b : Building) (E : List Delivery) (rows : List CalendarEntry) (change : Change) → list_all (has_calendar b) rows ≡ true
+pub tables-imported : (b : Building) (E : List Delivery) (rows : List CalendarEntry) (change : Change)
+    → list_all (has_calendar b) rows ≡ true
     → let m = machine b E in
     let items = added b m.imported rows in
     Settles b (with_items m.imported items) m.shown (local_of b m.last_tick) items None change

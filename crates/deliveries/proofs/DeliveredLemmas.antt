@@ -25,16 +25,19 @@ Delivers-read b E d BadRow old new reads honest held =
     absurd (false≢true (sym (reads.bad_row honest refl) ∙ ap (λ (c : Content). c.is_sound) held))
 
 -- a delivery that changes nothing
-pub Delivers-read_only : (b : Building) (E : List Delivery) (d : Delivery) (given : Reply) (old new : Standing) → Reads None old new → new.is_honest
+pub Delivers-read_only : (b : Building) (E : List Delivery) (d : Delivery) (given : Reply) (old new : Standing) → Reads None old new
+    → new.is_honest
     → Holds b E old → given ≡ reply b E d → tables b (E ++ d ∷ []) ≡ tables b E → Delivers b E d (Ok given) new
 Delivers-read_only b E d given old new reads honest held said same = (said, reads.kept honest (λ e. cc) ∙ (held ∙ sym (ap sound same)))
 
-module _ (b : Building) (E : List Delivery) (d : Delivery) (change : Change) (first second third : Standing) (reads : Reads None first second)
+module _ (b : Building) (E : List Delivery) (d : Delivery) (change : Change) (first second third : Standing)
+    (reads : Reads None first second)
     (honest : third.is_honest) (held : Holds b E first) (makes : tables b (E ++ d ∷ []) ≡ with_change change (tables b E)) where
   made-after : (old content : Content) → old ≡ sound (tables b E) → Makes change old content → content ≡ sound (tables b (E ++ d ∷ []))
   made-after old content is made =
       let all : content.is_sound ≡ true = made.is_sound (ap (λ (c : Content). c.is_sound) is) in
-      let goal : content.tables ≡ tables b (E ++ d ∷ []) = made.tables ∙ (ap (λ (c : Content). with_change change c.tables) is ∙ sym makes) in
+      let goal : content.tables ≡ tables b (E ++ d ∷ []) =
+      made.tables ∙ (ap (λ (c : Content). with_change change c.tables) is ∙ sym makes) in
       λ i. record { tables = goal i; is_sound = all i }
 
   -- a commit behind reads that makes its change

@@ -34,9 +34,11 @@ events_after-push b earlier [] d = append-nil (acted_on b earlier d) ∙ ap (λ 
 events_after-push b earlier (x ∷ ds) d =
     ap (λ es. acted_on b earlier x ++ es) (events_after-push b (earlier ++ x ∷ []) ds d)
     ∙ sym (append_assoc (acted_on b earlier x) (events_after b (earlier ++ x ∷ []) ds) (acted_on b ((earlier ++ x ∷ []) ++ ds) d))
-    ∙ ap (λ before. (acted_on b earlier x ++ events_after b (earlier ++ x ∷ []) ds) ++ acted_on b before d) (append_assoc earlier (x ∷ []) ds)
+    ∙ ap (λ before. (acted_on b earlier x ++ events_after b (earlier ++ x ∷ []) ds) ++ acted_on b before d)
+    (append_assoc earlier (x ∷ []) ds)
 
 -- the machine after one delivery more
 pub machine-push : (b : Building) (E : List Delivery) (d : Delivery) → machine b (E ++ d ∷ []) ≡ run b (machine b E) (acted_on b E d)
 unfolding machine
-machine-push b E d = ap (run b opening_machine) (events_after-push b [] E d) ∙ run-append b opening_machine (events_after b [] E) (acted_on b E d)
+machine-push b E d =
+    ap (run b opening_machine) (events_after-push b [] E d) ∙ run-append b opening_machine (events_after b [] E) (acted_on b E d)

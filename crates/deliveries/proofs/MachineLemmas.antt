@@ -73,7 +73,8 @@ abbrev pub Rise : ℕ → List NumberedContent → Type 0
 Rise from [] = Unit {0}
 Rise from (entry ∷ entries) = (from ≤ entry.number) × Rise (entry.number + 1) entries
 
-pub content_in-below : (from number : ℕ) (entries : List NumberedContent) → Rise from entries → number < from → content_in entries number ≡ None
+pub content_in-below : (from number : ℕ) (entries : List NumberedContent) → Rise from entries → number < from
+    → content_in entries number ≡ None
 content_in-below from number [] rise below = refl
 content_in-below from number (entry ∷ entries) rise below =
     let least = rise.0 in
@@ -107,7 +108,8 @@ some_same : (x y : Content) → Some x ≡ Some y → x ≡ y
 some_same x y e = cc
 
 -- a number that is acted on has its content and the machine's answer
-pub rows-here : (b : Building) (m : Machine) (p : Text) (number from : ℕ) (content : Content) (entries : List NumberedContent) (row : Text → Rows)
+pub rows-here : (b : Building) (m : Machine) (p : Text) (number from : ℕ) (content : Content) (entries : List NumberedContent)
+    (row : Text → Rows)
     → Rise from entries → content_in entries number ≡ Some content
     → with_each with_row (answered_rows b m.places p entries) row p number
     ≡ Some (record { content = content; state = Answered ((run b m (events_of p entries)).answers p number) })
@@ -124,5 +126,6 @@ rows-here b m p number from content (entry ∷ entries) row rise found =
           ∙ ap (λ (c : Content). Some (record { content = c; state = Answered (answer_to b m.places p entry.content) })) is
           ∙ ap (λ answer. Some (record { content = content; state = Answered answer }))
           (sym (answers-apart b next p number entries none ∙ rw (bytes_eq-same p, same) refl)))
-      | inr apart ↦ rows-here b next p number (entry.number + 1) content entries _ rise.1 (content_in-rest entry entries number apart ∙ found)
+      | inr apart ↦ rows-here b next p number (entry.number + 1) content entries _ rise.1
+          (content_in-rest entry entries number apart ∙ found)
     ]

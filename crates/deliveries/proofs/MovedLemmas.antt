@@ -56,7 +56,8 @@ tables-moved-at b places p next entries park t = record {
   last_tick = t.last_tick;
 }
 
-moved-is : (b : Building) (p : Text) (plan : Plan) (t : Tables) → moved b p plan t ≡ tables-moved-at b t.places p plan.next plan.apply plan.park t
+moved-is : (b : Building) (p : Text) (plan : Plan) (t : Tables)
+    → moved b p plan t ≡ tables-moved-at b t.places p plan.next plan.apply plan.park t
 unfolding moved tables-moved-at rows-moved
 moved-is b p plan t = refl
 
@@ -70,7 +71,8 @@ module _ (b : Building) (E : List Delivery) (d : Delivery) (ask : asks.Ask) (ask
   abbrev after : asks.Taken
   after = asks.take before ask
 
-  next-asked : (q : Text) → asks.front (taken_by b q (E ++ d ∷ [])) ≡ cond (bytes_eq panel q) (asks.front after) (asks.front (taken_by b q E))
+  next-asked : (q : Text) → asks.front (taken_by b q (E ++ d ∷ []))
+      ≡ cond (bytes_eq panel q) (asks.front after) (asks.front (taken_by b q E))
   next-asked q = elim (cases_Bool (bytes_eq panel q)) [
     | inl same ↦ rw same (ap (λ p. asks.front (taken_by b p (E ++ d ∷ []))) (sym ((bytes_eq-Decides panel q).0 same))
         ∙ ap asks.front (taken-here b E d ask asking))
@@ -86,7 +88,8 @@ module _ (b : Building) (E : List Delivery) (d : Delivery) (ask : asks.Ask) (ask
   rows-of q number = elim (cases_Bool (bytes_eq panel q)) [
     | inl same ↦
         subst (λ p. row_at (taken_by b p (E ++ d ∷ [])) number (now.answers p number)
-        ≡ rows-moved b (machine b E).places panel (asks.front after) (applied before after) (parked_by before ask) (tables b E).row p number)
+        ≡ rows-moved b (machine b E).places panel (asks.front after) (applied before after) (parked_by before ask) (tables b E).row
+        p number)
         ((bytes_eq-Decides panel q).0 same)
         (ap (λ t. row_at t number (now.answers panel number)) (taken-here b E d ask asking)
         ∙ sym (rows-asked b (machine b E) panel before ask (tables b E).row number refl))
@@ -102,7 +105,9 @@ module _ (b : Building) (E : List Delivery) (d : Delivery) (ask : asks.Ask) (ask
       λ i. record {
         places = (ap (λ (m : Machine). m.places) machines ∙ places-run b (machine b E) panel (applied before after)) i;
         next = λ q. next-asked q i;
-        row = λ q number. (ap (λ (m : Machine). row_at (taken_by b q (E ++ d ∷ [])) number (m.answers q number)) machines ∙ rows-of q number) i;
+        row =
+            λ q number. (ap (λ (m : Machine). row_at (taken_by b q (E ++ d ∷ [])) number (m.answers q number)) machines
+            ∙ rows-of q number) i;
         shown = (ap (λ (m : Machine). m.shown) machines ∙ shown-run b (machine b E) panel (applied before after)) i;
         imported = λ calendar text. list_any (bytes_eq text)
             ((ap (λ (m : Machine). m.imported) machines ∙ imported-run b (machine b E) panel (applied before after)) i calendar);
@@ -117,7 +122,8 @@ module _ (b : Building) (E : List Delivery) (d : Delivery) (ask : asks.Ask) (ask
   pub tables-moved : (row : Option CommandRow) (plan : Plan) → Plans before ask row plan
       → tables b (E ++ d ∷ []) ≡ moved b panel plan (tables b E)
   tables-moved row plan plans =
-      tables-asked ∙ ((λ i. tables-moved-at b (sym places-tables i) panel (sym plans.next i) (sym plans.apply i) (sym plans.park i) (tables b E))
+      tables-asked ∙ ((λ i. tables-moved-at b (sym places-tables i) panel (sym plans.next i) (sym plans.apply i) (sym plans.park i)
+      (tables b E))
       ∙ sym (moved-is b panel plan (tables b E)))
 
 -- the reply
@@ -136,7 +142,8 @@ reply_on-other verdict.SkipDone next later z answer given other = refl
 reply_on-other verdict.Forgotten next later z answer given other = refl
 
 -- the first of contents by rising number has its answer
-first-answered : (b : Building) (m : Machine) (p : Text) (number : ℕ) (content : Content) (entries : List NumberedContent) → Rise number entries
+first-answered : (b : Building) (m : Machine) (p : Text) (number : ℕ) (content : Content) (entries : List NumberedContent)
+    → Rise number entries
     → asks.content_in entries number ≡ Some content
     → (run b m (events_of p entries)).answers p number ≡ first_answer b m.places p entries
 first-answered b m p number content [] rise found = absurd cc
@@ -202,7 +209,8 @@ told-answer b m p t (asks.Command number content) row next later z =
 -- the reply to a delivery, from its plan
 pub reply-moved : (b : Building) (E : List Delivery) (d : Delivery) (ask : asks.Ask) (plan : Plan) → Asks b d ask
     → let t = taken_by b (panel_of d) E in Plans t ask (row_asked ((tables b E).row (panel_of d)) ask) plan
-    → reply b E d ≡ reply_on plan.verdict (asks.front t) plan.next (number_told d) (first_answer b (tables b E).places (panel_of d) plan.apply)
+    → reply b E d ≡ reply_on plan.verdict (asks.front t) plan.next (number_told d)
+    (first_answer b (tables b E).places (panel_of d) plan.apply)
 reply-moved b E d ask plan asking plans =
     let p = panel_of d in
     let t = taken_by b p E in
@@ -212,4 +220,5 @@ reply-moved b E d ask plan asking plans =
     ∙ (λ i. reply_on (verdict_of t ask row) (asks.front t) (asks.front (taken-here b E d ask asking i)) z
     ((machine-asked b E d ask asking i).answers p (number_asked ask)))
     ∙ told-answer b (machine b E) p t ask row (asks.front t) (asks.front (asks.take t ask)) z
-    ∙ (λ i. reply_on (sym plans.verdict i) (asks.front t) (sym plans.next i) z (first_answer b (sym (places-tables b E d ask asking) i) p (sym plans.apply i)))
+    ∙ (λ i. reply_on (sym plans.verdict i) (asks.front t) (sym plans.next i) z
+    (first_answer b (sym (places-tables b E d ask asking) i) p (sym plans.apply i)))

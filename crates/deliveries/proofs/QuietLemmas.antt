@@ -77,7 +77,8 @@ tables-known b E rows distinct none = elim (cases_Bool (list_all (has_calendar b
       tables-clock b E (delivery_of.Import rows) refl
       ∙ (ap (λ happened. tables-at (run b m happened) (λ q. taken_by b q E)) (import-happens b E rows all)
       ∙ (ap (λ now. tables-at now (λ q. taken_by b q E))
-      (ap (λ now. settled b now (local_of b now.last_tick)) (with_rows-known b m rows none) ∙ settled-quiet b m (Quiet-machine b E distinct))
+      (ap (λ now. settled b now (local_of b now.last_tick)) (with_rows-known b m rows none)
+      ∙ settled-quiet b m (Quiet-machine b E distinct))
       ∙ sym (tables-is b E)))
   | inr not_all ↦ tables-refused b E rows not_all
 ]

@@ -58,7 +58,8 @@ LiesInRange-take t (asks.Command m content) within lies =
 LiesInRange-take t (asks.Skip upto) within lies =
     elim (cases_Bool (asks.accepts_skip t upto)) [
       | inl accepted ↦
-          let limit : (asks.take t (asks.Skip upto)).upto ≡ max t.upto upto = ap (λ (u : asks.Taken). u.upto) (take-skip_accepted t upto accepted) in
+          let limit : (asks.take t (asks.Skip upto)).upto ≡ max t.upto upto =
+          ap (λ (u : asks.Taken). u.upto) (take-skip_accepted t upto accepted) in
           let least = lies.least in
           let greatest = lies.greatest in
           record {
@@ -90,7 +91,8 @@ ask_command-is : (found : Option ℕ) (content : Content) (ask : asks.Ask) → (
 ask_command-is None content ask most e = absurd cc
 ask_command-is (Some n) content ask most e = let same : asks.Command n content ≡ ask = cc in subst IsInRange same (most n refl)
 
-ask_skip-is : (found : Option ℕ) (ask : asks.Ask) → ((n : ℕ) → found ≡ Some n → n ≤ LAST_NUMBER + 1) → ask_skip found ≡ Some ask → IsInRange ask
+ask_skip-is : (found : Option ℕ) (ask : asks.Ask) → ((n : ℕ) → found ≡ Some n → n ≤ LAST_NUMBER + 1) → ask_skip found ≡ Some ask
+    → IsInRange ask
 ask_skip-is None ask most e = absurd cc
 ask_skip-is (Some n) ask most e = let same : asks.Skip n ≡ ask = cc in subst IsInRange same (most n refl)
 
@@ -128,7 +130,8 @@ front_greatest b p ds =
     let lies = LiesInRange-taken b p asks.opening ds LiesInRange-opening in
     elim (cases_lt (LAST_NUMBER + 1) (asks.front t)) [
       | inl past ↦
-          absurd (false≢true (sym (lies.keys (LAST_NUMBER + 1) (omega arith)) ∙ (IsFront-front t).least (LAST_NUMBER + 1) lies.greatest past))
+          absurd (false≢true (sym (lies.keys (LAST_NUMBER + 1) (omega arith))
+          ∙ (IsFront-front t).least (LAST_NUMBER + 1) lies.greatest past))
       | inr within ↦ within
     ]
 

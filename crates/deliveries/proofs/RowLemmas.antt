@@ -127,7 +127,8 @@ module _ (b : Building) (m : Machine) (p : Text) (t : Taken) (ask : Ask) (row : 
       ∙ (held ∙ ap (option_map (row_of (front t) number (m.answers p number))) (kept-none t number (content_at-none t ask number none)))
   acted_on least below (Some content) found =
       let before : nat_lt (front new) number ≡ false = grind (arith, nat_tests) in
-      rows-here b m p number (front t) content (applied t new) row (Rise-applied t new) (content_in-applied t new number least below ∙ found)
+      rows-here b m p number (front t) content (applied t new) row (Rise-applied t new)
+      (content_in-applied t new number least below ∙ found)
       ∙ rw before refl
 
   below_front : number < front t → put p number ≡ option_map (row_of (front new) number answer) (content_at new number)
@@ -165,7 +166,8 @@ module _ (b : Building) (m : Machine) (p : Text) (t : Taken) (ask : Ask) (row : 
             parked-here p (Some entry) put number entry refl same
             ∙ sym (ap (option_map (row_of (front new) number answer)) (ap (content_at new) (sym same) ∙ is.here) ∙ rw above refl)
         | inr other ↦
-            let apart : (e : NumberedContent) → parked_by t ask ≡ Some e → e.number ≢ number = λ e is. other_entry e (sym is ∙ parked) other in
+            let apart : (e : NumberedContent) → parked_by t ask ≡ Some e → e.number ≢ number =
+            λ e is. other_entry e (sym is ∙ parked) other in
             parked-apart p (Some entry) put number (λ e is. apart e (parked ∙ is)) ∙ past_front past apart
       ]
     where
@@ -184,7 +186,8 @@ module _ (b : Building) (m : Machine) (p : Text) (t : Taken) (ask : Ask) (row : 
             let past = (IsParked-parked_by t ask entry parked).past in omega (arith, past, same, below))
             ∙ below_front below
         | inr above ↦ elim (cases_lt number (front new)) [
-          | inl below ↦ parked-apart p (parked_by t ask) put number (no_park-below below above) ∙ acted_on above below (content_at new number) refl
+          | inl below ↦ parked-apart p (parked_by t ask) put number (no_park-below below above)
+              ∙ acted_on above below (content_at new number) refl
           | inr past ↦ parked_at past (parked_by t ask) refl
         ]
       ]
@@ -202,14 +205,16 @@ rows-asked b m p t ask row number held =
     ]
 
 -- and of another one
-pub rows-of_others : (b : Building) (m : Machine) (p q : Text) (t other : Taken) (ask : Ask) (row : Text → Rows) (number : ℕ) → bytes_eq p q ≡ false
+pub rows-of_others : (b : Building) (m : Machine) (p q : Text) (t other : Taken) (ask : Ask) (row : Text → Rows) (number : ℕ)
+    → bytes_eq p q ≡ false
     → row q number ≡ row_at other number (m.answers q number)
     → without_rows (record { panel = p; number = front (take t ask) - remembered })
     (with_each with_row (answered_rows b m.places p (applied t (take t ask)) ++ parked_rows p (parked_by t ask)) row) q number
     ≡ row_at other number ((run b m (events_of p (applied t (take t ask)))).answers q number)
 rows-of_others b m p q t other ask row number apart held =
     let entries = applied t (take t ask) in
-    rw apart (ap (λ (rows : Text → Rows). rows q number) (with_each-append with_row (answered_rows b m.places p entries) (parked_rows p (parked_by t ask)) row)
+    rw apart (ap (λ (rows : Text → Rows). rows q number)
+    (with_each-append with_row (answered_rows b m.places p entries) (parked_rows p (parked_by t ask)) row)
     ∙ (parked-elsewhere p q (parked_by t ask) _ number apart
     ∙ (rows-elsewhere b m.places p q number entries row apart
     ∙ (held ∙ ap (row_at other number) (sym (answers-elsewhere b m p q number entries apart))))))

@@ -84,7 +84,8 @@ tables-same b E d sent same =
 
 pub asks-none : (b : Building) (q : Text) (d : Delivery) → asked d ≡ None → asks_of b q d ≡ []
 asks-none b q d none =
-    elim (bytes_eq (panel_of d) q && is_some (panel_named b q)) as (λ t. cond t (listed (asked d)) [] ≡ []) [ true ↦ ap listed none | false ↦ refl ]
+    elim (bytes_eq (panel_of d) q && is_some (panel_named b q)) as (λ t. cond t (listed (asked d)) [] ≡ [])
+    [ true ↦ ap listed none | false ↦ refl ]
 
 asks-unknown : (b : Building) (q : Text) (d : Delivery) → panel_named b (panel_of d) ≡ None → asks_of b q d ≡ []
 asks-unknown b q d unknown = elim (cases_Bool (bytes_eq (panel_of d) q)) [
@@ -107,9 +108,11 @@ reply-unknown b E d sent unknown = reply-sent b E d _ sent ∙ ap (reply_of_pane
 
 -- a delivery whose number is out of range
 pub tables-bad_number : (b : Building) (E : List Delivery) (d : Delivery) → IsSent d → asked d ≡ None → tables b (E ++ d ∷ []) ≡ tables b E
-tables-bad_number b E d sent none = tables-same b E d sent (λ q. taken_by-push b q E d ∙ ap (asks.taken (taken_by b q E)) (asks-none b q d none))
+tables-bad_number b E d sent none =
+    tables-same b E d sent (λ q. taken_by-push b q E d ∙ ap (asks.taken (taken_by b q E)) (asks-none b q d none))
 
-pub reply-bad_number : (b : Building) (E : List Delivery) (d : Delivery) (panel : Panel) → IsSent d → panel_named b (panel_of d) ≡ Some panel
+pub reply-bad_number : (b : Building) (E : List Delivery) (d : Delivery) (panel : Panel) → IsSent d
+    → panel_named b (panel_of d) ≡ Some panel
     → asked d ≡ None → reply b E d ≡ answer_of.BadNumber
 unfolding reply
 reply-bad_number b E d panel sent known none =
@@ -171,7 +174,8 @@ unfolding tables
 next-tables b E p = refl
 
 -- where an ask neither moves the front nor parks, the tables stay
-pub tables-unmoved : (b : Building) (E : List Delivery) (d : Delivery) (ask : asks.Ask) (row : Option CommandRow) (plan : Plan) → Asks b d ask
+pub tables-unmoved : (b : Building) (E : List Delivery) (d : Delivery) (ask : asks.Ask) (row : Option CommandRow) (plan : Plan)
+    → Asks b d ask
     → Plans (taken_by b (panel_of d) E) ask row plan → plan.next ≡ asks.front (taken_by b (panel_of d) E) → plan.park ≡ None
     → tables b (E ++ d ∷ []) ≡ tables b E
 tables-unmoved b E d ask row plan asking plans stays none = tables-same b E d (Asks-sent b d ask asking) same

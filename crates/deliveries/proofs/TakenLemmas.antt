@@ -32,7 +32,9 @@ content_at-none t (Command m content) number none =
     elim (cases_eq m number) [
       | inl same ↦ elim (cases_Bool (accepts t m)) [
         | inl accepted ↦
-            let here = subst (λ n. content_at (take t (Command m content)) n ≡ Some content) same (content_at-take_accepted t m content accepted) in
+            let here =
+            subst (λ n. content_at (take t (Command m content)) n ≡ Some content) same
+            (content_at-take_accepted t m content accepted) in
             absurd (some_none content (sym here ∙ none))
         | inr refused ↦ sym (ap (λ u. content_at u number) (take-refused t m content refused)) ∙ none
       ]
@@ -48,7 +50,8 @@ pub record IsParked (t : Taken) (ask : Ask) (entry : NumberedContent) : Type 0 w
 abbrev entry_of : ℕ → Content → NumberedContent
 entry_of number content = record { number = number; content = content }
 
-IsParked-accepted : (t : Taken) (m : ℕ) (content : Content) → accepts t m ≡ true → front t < m → IsParked t (Command m content) (entry_of m content)
+IsParked-accepted : (t : Taken) (m : ℕ) (content : Content) → accepts t m ≡ true → front t < m
+    → IsParked t (Command m content) (entry_of m content)
 IsParked-accepted t m content accepted past = record {
   stays = ap front (take-accepted t m content accepted) ∙ front-parked t m content past;
   past = past;

@@ -53,7 +53,8 @@ opening_machine = record {
 
 -- the least rule against a panel's content; a panel that the building lacks has no event
 abbrev pub rule_for : Building → Text → Content → Option Rule
-rule_for building panel content = option_map_or (λ found. rule_of building.points found content) (panel_named building panel) (Some NoSuchPoint)
+rule_for building panel content =
+    option_map_or (λ found. rule_of building.points found content) (panel_named building panel) (Some NoSuchPoint)
 
 -- the place that a permitted priority names
 abbrev pub place_of : ℤ → ℕ

@@ -32,7 +32,8 @@ answered_rows building places panel (entry ∷ entries) =
 
 abbrev pub parked_rows : Text → Option NumberedContent → List KeptRow
 parked_rows panel None = []
-parked_rows panel (Some entry) = record { panel = panel; number = entry.number; row = record { content = entry.content; state = Parked } } ∷ []
+parked_rows panel (Some entry) =
+    record { panel = panel; number = entry.number; row = record { content = entry.content; state = Parked } } ∷ []
 
 -- the rows that a plan puts
 abbrev pub rows_of : Building → (Text → Places) → Text → Plan → List KeptRow

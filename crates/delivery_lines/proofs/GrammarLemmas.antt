@@ -32,10 +32,12 @@ with_first k j d old e (Some p) = rw e
 -- a member more
 pub member_taken : (depth n : ℕ) (k : List ℕ) (ts s r : List Token) (t : Token) (d : Data) (old : Members) → 0 < n
     → read_key ts ≡ Some (Some k, s) → s ≡ t ∷ r → scalar_of t ≡ Some d
-    → converted (λ ms. of_members ms old) (json.members (value depth) n ts) ≡ converted (λ ms. of_members ms (put k d old)) (json.members (value depth) (n - 1) r)
+    → converted (λ ms. of_members ms old) (json.members (value depth) n ts)
+    ≡ converted (λ ms. of_members ms (put k d old)) (json.members (value depth) (n - 1) r)
 member_taken depth n k ts s r t d old some named one scalar =
     let found = scalar_json depth t r d scalar in
-    ap (converted (λ ms. of_members ms old)) (members_more (value depth) n k ts s r found.0 some named (ap (value depth) one ∙ found.1)) ∙ with_first k found.0 d old found.2 _
+    ap (converted (λ ms. of_members ms old)) (members_more (value depth) n k ts s r found.0 some named
+    (ap (value depth) one ∙ found.1)) ∙ with_first k found.0 d old found.2 _
 
 -- no member more
 pub members_over : (depth n : ℕ) (ts r : List Token) (old : Members) → length ts ≤ n → read_key ts ≡ Some (None, r)
@@ -62,5 +64,7 @@ whole_object (Some (js, r)) ms e =
 pub object_read : (text : List ℕ) (ts : List Token) (ms : Members) → tokens text ≡ token.begin_object ∷ ts
     → converted (λ js. of_members js no_members) (json.members (value 126) (length ts) ts) ≡ Some (ms, []) → read text ≡ Some (object ms)
 object_read text ts ms opened e =
-    let outer : value 127 (tokens text) ≡ parse_map json.object (json.members (value 126) (length ts) ts) = ap (value 127) opened ∙ value-begin_object 127 ts (omega arith) in
-    ap (λ o. option_and_then of_json (option_and_then (λ p. if_last p.0 p.1) o)) outer ∙ whole_object (json.members (value 126) (length ts) ts) ms e
+    let outer : value 127 (tokens text) ≡ parse_map json.object (json.members (value 126) (length ts) ts) =
+    ap (value 127) opened ∙ value-begin_object 127 ts (omega arith) in
+    ap (λ o. option_and_then of_json (option_and_then (λ p. if_last p.0 p.1) o)) outer
+    ∙ whole_object (json.members (value 126) (length ts) ts) ms e

@@ -36,7 +36,8 @@ found : {A : Type 0} (tells : Data → Option A) (o : Option Data) (a : A) → o
 found tells None a e = absurd (cc)
 found tells (Some d) a e = (d, refl, ap inside e)
 
-read_found : {A : Type 0} (tells : Data → Option A) (key : List ℕ) (ms : Members) (was : Option A) (a : A) → Reads tells key ms was → was ≡ Some a
+read_found : {A : Type 0} (tells : Data → Option A) (key : List ℕ) (ms : Members) (was : Option A) (a : A) → Reads tells key ms was
+    → was ≡ Some a
     → (d : Data) × (get_member key ms ≡ Some d) × (tells d ≡ Some a)
 read_found tells key ms was a reads is = found tells (get_member key ms) a (reads ∙ ap (option_map Some) is)
 
@@ -72,14 +73,18 @@ absent known q (member l v ms) unknown e =
 -- ---- the command
 
 abbrev numbered_content : ℤ → List ℕ → ℤ → Option ℤ → NumberedContent
-numbered_content number point priority value = record { number = number; content = record { point = point; priority = priority; value = value } }
+numbered_content number point priority value =
+    record { number = number; content = record { point = point; priority = priority; value = value } }
 
-told_in_turn : {A B C D E : Type 0} (n : Option A) (q : Option B) (p : Option C) (v : Option D) (f : A → B → C → D → E) (a : A) (b : B) (c : C) (d : D)
+told_in_turn : {A B C D E : Type 0} (n : Option A) (q : Option B) (p : Option C) (v : Option D) (f : A → B → C → D → E) (a : A)
+    (b : B) (c : C) (d : D)
     → n ≡ Some a → q ≡ Some b → p ≡ Some c → v ≡ Some d
-    → option_and_then (λ x. option_and_then (λ y. option_and_then (λ z. option_and_then (λ w. Some (f x y z w)) v) p) q) n ≡ Some (f a b c d)
+    → option_and_then (λ x. option_and_then (λ y. option_and_then (λ z. option_and_then (λ w. Some (f x y z w)) v) p) q) n
+    ≡ Some (f a b c d)
 told_in_turn n q p v f a b c d e g h i = rw (e, g, h, i)
 
-told_where : {A B C : Type 0} (p : Option A) (t : Option B) (test : Bool) (f : A → B → C) (a : A) (b : B) → p ≡ Some a → t ≡ Some b → test ≡ true
+told_where : {A B C : Type 0} (p : Option A) (t : Option B) (test : Bool) (f : A → B → C) (a : A) (b : B) → p ≡ Some a → t ≡ Some b
+    → test ≡ true
     → option_and_then (λ x. option_and_then (λ y. where_holds test (f x y)) t) p ≡ Some (f a b)
 told_where p t test f a b e g h = rw (e, g, h)
 
@@ -88,8 +93,13 @@ told_under : {A : Type 0} (tells : Data → Option A) (key : List ℕ) (ms : Mem
 told_under tells key ms was a reads is = let d = read_found tells key ms was a reads is in ap (option_and_then tells) d.1 ∙ d.2
 
 module _ (told : CommandMembers) (ms : Members) (is : IsReadAs told ms) where
-  numbered : (point : List ℕ) (number : ℤ) (value : Option ℤ) → told.number ≡ Some number → told.point ≡ Some point → told.value ≡ Some value
-      → numbered_in (object ms) ≡ Some (record { number = number; content = record { point = point; priority = unwrap_or told.priority (pos 16); value = value } })
+  numbered : (point : List ℕ) (number : ℤ) (value : Option ℤ) → told.number ≡ Some number → told.point ≡ Some point
+      → told.value ≡ Some value
+      → numbered_in (object ms) ≡ Some (record {
+        number = number;
+        content =
+            record { point = point; priority = unwrap_or told.priority (pos 16); value = value };
+      })
   unfolding numbered_in
   numbered point number value number_is point_is value_is =
       told_in_turn (option_and_then integer_in (get_member (codes "number") ms)) (option_and_then name_in (get_member (codes "point") ms))
@@ -102,23 +112,27 @@ module _ (told : CommandMembers) (ms : Members) (is : IsReadAs told ms) where
 
   pub command_told : (panel point : List ℕ) (number : ℤ) (value : Option ℤ) → told.panel ≡ Some panel → told.number ≡ Some number
       → told.point ≡ Some point → told.value ≡ Some value
-      → delivery_in (object ms) ≡ Some (Command panel number (record { point = point; priority = unwrap_or told.priority (pos 16); value = value }))
+      → delivery_in (object ms) ≡ Some (Command panel number
+      (record { point = point; priority = unwrap_or told.priority (pos 16); value = value }))
   unfolding delivery_in panel_delivery_in command_in
   command_told panel point number value panel_is number_is point_is value_is =
       let a = read_found name_in (codes "panel") ms told.panel panel is.panel panel_is in
       let g = absent command_keys (codes "skip") ms refl is.only in
       ap (λ o. delivery_with o (object ms)) a.1
       ∙ ap (λ o. panel_delivery_with o (object ms)) g
-      ∙ told_where (option_and_then name_in (get_member (codes "panel") ms)) (numbered_in (object ms)) (has_only command_keys ms) (λ p t. Command p t.number t.content)
+      ∙ told_where (option_and_then name_in (get_member (codes "panel") ms)) (numbered_in (object ms)) (has_only command_keys ms)
+      (λ p t. Command p t.number t.content)
       panel (numbered_content number point (unwrap_or told.priority (pos 16)) value)
-      (told_under name_in (codes "panel") ms told.panel panel is.panel panel_is) (numbered point number value number_is point_is value_is) is.only
+      (told_under name_in (codes "panel") ms told.panel panel is.panel panel_is)
+      (numbered point number value number_is point_is value_is) is.only
 
 -- ---- the line
 
 pub read_delivery : (line text : List ℕ) (d : Data) (command : Delivery) → text_of line ≡ Some text → read text ≡ Some d
     → delivery_in d ≡ Some command
     → option_and_then delivery_in (json_of line) ≡ Some command
-read_delivery line text d command e f g = ap (λ o. option_and_then delivery_in (option_and_then read o)) e ∙ ap (option_and_then delivery_in) f ∙ g
+read_delivery line text d command e f g =
+    ap (λ o. option_and_then delivery_in (option_and_then read o)) e ∙ ap (option_and_then delivery_in) f ∙ g
 
 told_by : (b : Building) (o : Option Data) (command : Delivery) → option_and_then delivery_in o ≡ Some command
     → option_and_then (told_in b) o ≡ Some (told.Delivery command)

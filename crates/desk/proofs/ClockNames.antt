@@ -50,7 +50,8 @@ module _ (b : Building) (q : Text) (missing : has_point b q ≡ false) where
         | inr apart ↦ rw apart (targets-outside value schedule targets parts.1)
       ]
 
-  has_targets : (schedule : NamedSchedule) → is_sound_schedule b.points b.calendars schedule ≡ true → list_all (has_point b) schedule.targets ≡ true
+  has_targets : (schedule : NamedSchedule) → is_sound_schedule b.points b.calendars schedule ≡ true
+      → list_all (has_point b) schedule.targets ≡ true
   has_targets schedule sound = (both-parts _ _ (both-parts _ _ sound).0).1
 
   cleared-outside : (now : Now) (shown : Shown) (schedule : NamedSchedule) → is_sound_schedule b.points b.calendars schedule ≡ true
@@ -71,23 +72,28 @@ module _ (b : Building) (q : Text) (missing : has_point b q ≡ false) where
       by true e = rw e (targets-outside (value_of now schedule) schedule schedule.targets (has_targets schedule sound))
       by false e = rw e refl
 
-  each-outside : (by : NamedSchedule → List PlaceValue) → ((schedule : NamedSchedule) → is_sound_schedule b.points b.calendars schedule ≡ true
+  each-outside : (by : NamedSchedule → List PlaceValue)
+      → ((schedule : NamedSchedule) → is_sound_schedule b.points b.calendars schedule ≡ true
       → list_any (names_point q) (by schedule) ≡ false) → (schedules : List NamedSchedule)
       → list_all (is_sound_schedule b.points b.calendars) schedules ≡ true → list_any (names_point q) (flat_map by schedules) ≡ false
   each-outside by outside [] sound = refl
   each-outside by outside (schedule ∷ schedules) sound =
-      let parts = both-parts (is_sound_schedule b.points b.calendars schedule) (list_all (is_sound_schedule b.points b.calendars) schedules) sound in
+      let parts =
+      both-parts (is_sound_schedule b.points b.calendars schedule) (list_all (is_sound_schedule b.points b.calendars) schedules)
+      sound in
       let here = outside schedule parts.0 in
       let rest = each-outside by outside schedules parts.1 in
       list_any-append (names_point q) (by schedule) (flat_map by schedules) ∙ rw (here, rest) refl
 
-  written-outside : (now : Now) (shown : Shown) (schedules : List NamedSchedule) → list_all (is_sound_schedule b.points b.calendars) schedules ≡ true
+  written-outside : (now : Now) (shown : Shown) (schedules : List NamedSchedule)
+      → list_all (is_sound_schedule b.points b.calendars) schedules ≡ true
       → list_any (names_point q) (written now shown schedules) ≡ false
   unfolding written
   written-outside now shown schedules sound =
       let cleared = each-outside (cleared_by now shown) (cleared-outside now shown) schedules sound in
       let put = each-outside (put_by now shown) (put-outside now shown) schedules sound in
-      list_any-append (names_point q) (flat_map (cleared_by now shown) schedules) (flat_map (put_by now shown) schedules) ∙ rw (cleared, put) refl
+      list_any-append (names_point q) (flat_map (cleared_by now shown) schedules) (flat_map (put_by now shown) schedules)
+      ∙ rw (cleared, put) refl
 
   writes-outside : (imported : Text → List Text) (shown : Shown) (local : Option LocalTime)
       → list_all (is_sound_schedule b.points b.calendars) b.schedules ≡ true
@@ -117,7 +123,8 @@ settled-no_schedule b q missing m (Some local) none = told-outside b q missing (
 
 -- ---- calendars
 
-got-apart : (test : NamedCalendar → Bool) (calendars : List NamedCalendar) (place : ℕ) (calendar : NamedCalendar) → list_any test calendars ≡ false
+got-apart : (test : NamedCalendar → Bool) (calendars : List NamedCalendar) (place : ℕ) (calendar : NamedCalendar)
+    → list_any test calendars ≡ false
     → slice_get calendars place ≡ Some calendar → test calendar ≡ false
 got-apart test [] place calendar none found = absurd cc
 got-apart test (first ∷ calendars) zero calendar none found =
@@ -139,7 +146,8 @@ module _ (b : Building) (q : Text) (missing : has_calendar b q ≡ false) where
     where
       by : (found : Option NamedCalendar) → slice_get b.calendars row.calendar.place ≡ found → texts_for q (added_by b imported row) ≡ []
       by None e = rw e refl
-      by (Some calendar) e = ap (λ calendar. texts_for q (added_to imported row.entry calendar)) e ∙ added_to-outside imported row.entry calendar
+      by (Some calendar) e =
+          ap (λ calendar. texts_for q (added_to imported row.entry calendar)) e ∙ added_to-outside imported row.entry calendar
           (got-apart (λ (c : NamedCalendar). bytes_eq c.name q) b.calendars row.calendar.place calendar missing e)
 
   added-outside : (imported : Text → List Text) (rows : List CalendarEntry) → texts_for q (added b imported rows) ≡ []

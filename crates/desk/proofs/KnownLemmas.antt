@@ -147,7 +147,8 @@ no_point b sound E q missing here = here (places-nothing b sound q missing E)
 shown-nothing : (b : Building) (q : Text) → has_schedule b q ≡ false → (events : List Event) (m : Machine) → m.shown q ≡ None
     → (run b m events).shown q ≡ None
 shown-nothing b q missing [] m none = none
-shown-nothing b q missing (Command p number content ∷ events) m none = shown-nothing b q missing events (step b m (Command p number content)) none
+shown-nothing b q missing (Command p number content ∷ events) m none =
+    shown-nothing b q missing events (step b m (Command p number content)) none
 shown-nothing b q missing (Tick moment ∷ events) m none =
     shown-nothing b q missing events (step b m (Tick moment)) (settled-no_schedule b q missing m (local_of b (Some moment)) none)
 shown-nothing b q missing (Import rows ∷ events) m none =
@@ -165,7 +166,8 @@ settled-imported b m local = refl
 imported-nothing : (b : Building) (q : Text) → has_calendar b q ≡ false → (events : List Event) (m : Machine) → m.imported q ≡ []
     → (run b m events).imported q ≡ []
 imported-nothing b q missing [] m none = none
-imported-nothing b q missing (Command p number content ∷ events) m none = imported-nothing b q missing events (step b m (Command p number content)) none
+imported-nothing b q missing (Command p number content ∷ events) m none =
+    imported-nothing b q missing events (step b m (Command p number content)) none
 imported-nothing b q missing (Tick moment ∷ events) m none =
     imported-nothing b q missing events (step b m (Tick moment)) ((λ i. settled-imported b m (local_of b (Some moment)) i q) ∙ none)
 imported-nothing b q missing (Import rows ∷ events) m none =
@@ -214,7 +216,8 @@ moment-ticked b (delivery_of.Import rows) = refl
 fold-ticked : (b : Building) (last : Option ℤ) (E : List Delivery) → IsTrue (is_ticked b last)
     → IsTrue (is_ticked b (fold (λ last delivery. later_of last (moment_of b delivery)) last E))
 fold-ticked b last [] was = was
-fold-ticked b last (d ∷ E) was = fold-ticked b (later_of last (moment_of b d)) E (later-ticked b last (moment_of b d) was (moment-ticked b d))
+fold-ticked b last (d ∷ E) was =
+    fold-ticked b (later_of last (moment_of b d)) E (later-ticked b last (moment_of b d) was (moment-ticked b d))
 
 pub suited-tables : (b : Building) → HasSoundSchedules b → (E : List Delivery) → Suits b (tables b E)
 suited-tables b sound E = record {

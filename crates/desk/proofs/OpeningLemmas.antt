@@ -125,13 +125,16 @@ Opens-unsuited b old new reads unsuited = record {
 }
 
 -- a name that the building lacks
-pub Opens-unknown : (b : Building) (old new : Standing) (names : Names) → Reads None old new → (new.is_honest → AreNames old.content.tables names)
+pub Opens-unknown : (b : Building) (old new : Standing) (names : Names) → Reads None old new
+    → (new.is_honest → AreNames old.content.tables names)
     → are_known b names ≡ false → Opens b (Some BadRow) old new
 Opens-unknown b old new names reads are unknown =
-    Opens-unsuited b old new reads (λ honest suits. false≢true (sym unknown ∙ names-known b old.content.tables names (are honest) suits.names))
+    Opens-unsuited b old new reads (λ honest suits. false≢true
+    (sym unknown ∙ names-known b old.content.tables names (are honest) suits.names))
 
 -- The names are the building's, and the last tick was read.
-module _ (b : Building) (first second third : Standing) (last : Option ℤ) (before : Reads None first second) (reads : Reads None second third)
+module _ (b : Building) (first second third : Standing) (last : Option ℤ) (before : Reads None first second)
+    (reads : Reads None second third)
     (value : third.is_honest → last ≡ second.content.tables.last_tick) where
   last-first : third.is_honest → last ≡ first.content.tables.last_tick
   last-first honest = value honest ∙ ap (λ (c : Content). c.tables.last_tick) (before.kept (reads.goes.honest honest) (λ e. cc))
@@ -164,4 +167,5 @@ module _ (b : Building) (first second third : Standing) (last : Option ℤ) (bef
 -- the last tick is not read
 pub Opens-unread : (b : Building) (fault : StoreFault) (first second third : Standing) → Reads None first second
     → Reads (Some fault) second third → Opens b (Some fault) first third
-Opens-unread b fault first second third before after = Opens-failed b fault first third (Reads-then (Some fault) first second third before after)
+Opens-unread b fault first second third before after =
+    Opens-failed b fault first third (Reads-then (Some fault) first second third before after)

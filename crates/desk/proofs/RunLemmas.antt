@@ -14,7 +14,8 @@ use Rattle.deliveries.specs.Tables.{tables}
 use Rattle.deliveries.specs.Delivered.{Delivers, Holds}
 use Rattle.desk.specs.Headline.{Ends, Stands}
 
-pub replies-push : (b : Building) (E ds : List Delivery) (d : Delivery) → replies b E (ds ++ d ∷ []) ≡ replies b E ds ++ reply b (E ++ ds) d ∷ []
+pub replies-push : (b : Building) (E ds : List Delivery) (d : Delivery)
+    → replies b E (ds ++ d ∷ []) ≡ replies b E ds ++ reply b (E ++ ds) d ∷ []
 replies-push b E [] d = ap (λ earlier. reply b earlier d ∷ []) (sym (append-nil E))
 replies-push b E (x ∷ ds) d =
     ap (λ rest. reply b E x ∷ rest) (replies-push b (E ++ x ∷ []) ds d
@@ -40,7 +41,8 @@ Stands-after fault first second third before after = record {
       record { content = later.content ∙ earlier.content; leaves = λ content left. earlier.leaves content (later.leaves content left) };
   goes_on = λ told. after.goes_on told ∙ before.goes_on (λ e. cc);
   steady = λ told. after.steady told ∙ before.steady (λ e. cc);
-  failed = λ told. let rises = after.failed told in (rises.0, subst (λ count. HasRisen count third.failures) (before.steady (λ e. cc)) rises.1);
+  failed =
+      λ told. let rises = after.failed told in (rises.0, subst (λ count. HasRisen count third.failures) (before.steady (λ e. cc)) rises.1);
   settled = λ was. after.settled;
 }
 
@@ -49,16 +51,19 @@ zero_or zero = inl refl
 zero_or (suc count) = inr (omega arith)
 
 -- a delivery of a run that fails
-pub ends-failed : (b : Building) (E ds : List Delivery) (d : Delivery) (count : ℕ) (fault : StoreFault) (old new : Standing) → count < length ds
+pub ends-failed : (b : Building) (E ds : List Delivery) (d : Delivery) (count : ℕ) (fault : StoreFault) (old new : Standing)
+    → count < length ds
     → take (count + 1) ds ≡ take count ds ++ d ∷ [] → (0 < count → old.is_shut ≡ false) → Goes (Some fault) old new
     → Delivers b (E ++ take count ds) d (Err fault) new → Ends b E ds count (Some fault) new
 ends-failed b E ds d count NoMemory old new within more opened goes delivered = (within, delivered)
-ends-failed b E ds d count Failed old new within more opened goes delivered = (within, λ content left. either content (delivered content left))
+ends-failed b E ds d count Failed old new within more opened goes delivered =
+    (within, λ content left. either content (delivered content left))
   where
     further : tables b ((E ++ take count ds) ++ d ∷ []) ≡ tables b (E ++ take (count + 1) ds)
     further = ap (tables b) (append_assoc E (take count ds) (d ∷ []) ∙ ap (λ rest. E ++ rest) (sym more))
 
-    either : (content : Content) → (content ≡ sound (tables b (E ++ take count ds))) ⊎ (content ≡ sound (tables b ((E ++ take count ds) ++ d ∷ [])))
+    either : (content : Content) → (content ≡ sound (tables b (E ++ take count ds)))
+        ⊎ (content ≡ sound (tables b ((E ++ take count ds) ++ d ∷ [])))
         → (content ≡ sound (tables b (E ++ take count ds))) ⊎ (content ≡ sound (tables b (E ++ take (count + 1) ds)))
     either content (inl same) = inl same
     either content (inr same) = inr (same ∙ ap sound further)

@@ -12,7 +12,8 @@ use Rattle.deliveries.specs.Reply.{replies}
 -- a run of which the first `count` deliveries were answered
 abbrev pub Ends : Building → List Delivery → List Delivery → ℕ → Option StoreFault → Standing → Type 0
 Ends building earlier deliveries count None now = (count ≡ length deliveries) × Holds building (earlier ++ deliveries) now
-Ends building earlier deliveries count (Some NoMemory) now = (count < length deliveries) × Holds building (earlier ++ take count deliveries) now
+Ends building earlier deliveries count (Some NoMemory) now =
+    (count < length deliveries) × Holds building (earlier ++ take count deliveries) now
 Ends building earlier deliveries count (Some Failed) now =
     (count < length deliveries) × LeavesEither building (earlier ++ take count deliveries) (earlier ++ take (count + 1) deliveries) now
 Ends building earlier deliveries count (Some Shut) now = (count ≡ 0) × Holds building earlier now
@@ -20,7 +21,8 @@ Ends building earlier deliveries count (Some BadRow) now = ⊥
 
 -- A run: the replies are the definition's for a beginning of the list, in order; the tables are those of what
 -- came before and that beginning.
-pub record Runs (building : Building) (earlier deliveries : List Delivery) (told : List Reply) (fault : Option StoreFault) (now : Standing) : Type 0 where
+pub record Runs (building : Building) (earlier deliveries : List Delivery) (told : List Reply) (fault : Option StoreFault)
+    (now : Standing) : Type 0 where
   pub count : ℕ
   pub within : count ≤ length deliveries
   pub replies_are : told ≡ replies building earlier (take count deliveries)

@@ -50,7 +50,8 @@ answers_to-append b E (of.RefusedImport refused ∷ ts) us =
 pub told_by-append : (b : Building) (ls ms : List (List ℕ)) (ds es : List Told) → told_by b ls ≡ Some ds → told_by b ms ≡ Some es
     → told_by b (ls ++ ms) ≡ Some (ds ++ es)
 told_by-append b [] ms ds es p q = q ∙ ap (λ (ts : List Told). Some (ts ++ es)) (same_Some _ _ p)
-told_by-append b (l ∷ ls) ms ds es p q = step (is_empty_line l) (told_of b l) (told_by b ls) (told_by b (ls ++ ms)) p (λ ts e. told_by-append b ls ms ts es e q)
+told_by-append b (l ∷ ls) ms ds es p q =
+    step (is_empty_line l) (told_of b l) (told_by b ls) (told_by b (ls ++ ms)) p (λ ts e. told_by-append b ls ms ts es e q)
   where
     step : (empty : Bool) (one : Option Told) (rest all : Option (List Told))
         → cond empty rest (option_and_then (λ d. option_map (λ ts. d ∷ ts) rest) one) ≡ Some ds
@@ -99,13 +100,16 @@ strip_last-one : (x : ℕ) (b : Bool) → (x == 10) ≡ b → strip_last 10 (x �
 strip_last-one x b e = ap (λ t. cond t [] (x ∷ [])) e
 
 some_taken : (y : ℕ) (ys : List ℕ) → 0 < length (take_through 10 (y ∷ ys))
-some_taken y ys = elim (y == 10) as (λ b. 0 < length (cond b (y ∷ []) (y ∷ take_through 10 ys))) [ true ↦ omega arith | false ↦ omega arith ]
+some_taken y ys =
+    elim (y == 10) as (λ b. 0 < length (cond b (y ∷ []) (y ∷ take_through 10 ys))) [ true ↦ omega arith | false ↦ omega arith ]
 
 next_line : (x : ℕ) (xs : List ℕ) → lines_of (x ∷ xs) ≡ strip_last 10 (take_through 10 (x ∷ xs)) ∷ lines_of (drop_through 10 (x ∷ xs))
-next_line x [] = elim (x == 10) as (λ b. (x == 10) ≡ b → lines_of (x ∷ []) ≡ strip_last 10 (take_through 10 (x ∷ [])) ∷ lines_of (drop_through 10 (x ∷ []))) [
-  | true ↦ λ e. rw e (ap (λ l. l ∷ []) (sym (strip_last-one x true e)))
-  | false ↦ λ e. rw e (ap (λ l. l ∷ []) (sym (strip_last-one x false e)))
-] refl
+next_line x [] =
+    elim (x == 10) as (λ b. (x == 10) ≡ b
+    → lines_of (x ∷ []) ≡ strip_last 10 (take_through 10 (x ∷ [])) ∷ lines_of (drop_through 10 (x ∷ []))) [
+      | true ↦ λ e. rw e (ap (λ l. l ∷ []) (sym (strip_last-one x true e)))
+      | false ↦ λ e. rw e (ap (λ l. l ∷ []) (sym (strip_last-one x false e)))
+    ] refl
 next_line x (y ∷ ys) = elim (x == 10) as (λ b. (x == 10) ≡ b → lines_of (x ∷ y ∷ ys) ≡ strip_last 10 (take_through 10 (x ∷ y ∷ ys))
     ∷ lines_of (drop_through 10 (x ∷ y ∷ ys))) [
       | true ↦ λ e. rw e (ap (λ l. l ∷ lines_of (y ∷ ys)) (sym (strip_last-one x true e)))
@@ -113,7 +117,8 @@ next_line x (y ∷ ys) = elim (x == 10) as (λ b. (x == 10) ≡ b → lines_of (
           (sym (strip_last-cons x (take_through 10 (y ∷ ys)) (some_taken y ys))))
     ] refl
 
-lines_of-next : (xs : List ℕ) → 0 < length (take_through 10 xs) → lines_of xs ≡ strip_last 10 (take_through 10 xs) ∷ lines_of (drop_through 10 xs)
+lines_of-next : (xs : List ℕ) → 0 < length (take_through 10 xs)
+    → lines_of xs ≡ strip_last 10 (take_through 10 xs) ∷ lines_of (drop_through 10 xs)
 lines_of-next [] h = absurd (omega arith)
 lines_of-next (x ∷ xs) h = next_line x xs
 
@@ -134,7 +139,13 @@ Progress-start b E bytes left old now left_is holds = record {
   rest = bytes;
   left_is = left_is;
   lines_are = refl;
-  prints = record { told = []; told_is = refl; printed = Appends-nothing old; holds = holds ∙ ap (λ list. sound (tables b list)) (sym (append-nil E)) };
+  prints =
+      record {
+        told = [];
+        told_is = refl;
+        printed = Appends-nothing old;
+        holds = holds ∙ ap (λ list. sound (tables b list)) (sym (append-nil E));
+      };
 }
 
 pub Progress-end : (b : Building) (E : List Delivery) (bytes : List ℕ) (left old new : Option (List ℕ)) (now : Content)
@@ -146,10 +157,12 @@ Progress-end b E bytes left old new now p end =
 -- the next line that was read, and those after it
 pub lines_of-left : (b : Building) (E : List Delivery) (bytes line : List ℕ) (left old new : Option (List ℕ)) (now : Content)
     → (p : Progress b E bytes left old new now)
-    → IfSome left (λ xs. line ≡ take_through 10 xs) → 0 < length line → lines_of p.rest ≡ strip_last 10 line ∷ lines_of (drop_through 10 p.rest)
+    → IfSome left (λ xs. line ≡ take_through 10 xs) → 0 < length line
+    → lines_of p.rest ≡ strip_last 10 line ∷ lines_of (drop_through 10 p.rest)
 lines_of-left b E bytes line left old new now p reads some =
     let line_is : line ≡ take_through 10 p.rest = subst (λ o. IfSome o (λ xs. line ≡ take_through 10 xs)) p.left_is reads in
-    lines_of-next p.rest (subst (λ l. 0 < length l) line_is some) ∙ ap (λ l. strip_last 10 l ∷ lines_of (drop_through 10 p.rest)) (sym line_is)
+    lines_of-next p.rest (subst (λ l. 0 < length l) line_is some)
+    ∙ ap (λ l. strip_last 10 l ∷ lines_of (drop_through 10 p.rest)) (sym line_is)
 
 -- one more line was read and printed
 pub Progress-line : (b : Building) (E : List Delivery) (bytes line : List ℕ) (left after old mid new : Option (List ℕ)) (now then : Content)
@@ -163,13 +176,16 @@ Progress-line b E bytes line left after old mid new now then p reads drops some 
       passed = p.passed ++ strip_last 10 line ∷ [];
       rest = drop_through 10 p.rest;
       left_is = after_is;
-      lines_are = p.lines_are ∙ ap (λ ls. p.passed ++ ls) next ∙ sym (append_assoc p.passed (strip_last 10 line ∷ []) (lines_of (drop_through 10 p.rest)));
+      lines_are =
+          p.lines_are ∙ ap (λ ls. p.passed ++ ls) next
+          ∙ sym (append_assoc p.passed (strip_last 10 line ∷ []) (lines_of (drop_through 10 p.rest)));
       prints = Prints-Prints b E p.passed (strip_last 10 line ∷ []) old mid new now then p.prints
           (prints (E ++ deliveries_in p.prints.told) p.prints.holds);
     }
 
 -- what is printed stays printed
-pub Replays-Keeps : (file list : List ℕ) (old mid new : Option (List ℕ)) → Replays file list old mid → Keeps mid new → Replays file list old new
+pub Replays-Keeps : (file list : List ℕ) (old mid new : Option (List ℕ)) → Replays file list old mid → Keeps mid new
+    → Replays file list old new
 Replays-Keeps file list old mid new r kept = record {
   building = r.building;
   told = r.told;
@@ -207,7 +223,8 @@ points-then b b' t t' ps i p name line shown b_is t_is ps_are within name_is lin
     ap (flat_map (line_of_point b t)) (take_more b.points i p within) ∙ flat_map-append (line_of_point b t) (take i b.points) (q ∷ [])
     ∙ ap (λ l. flat_map (line_of_point b t) (take i b.points) ++ l) (append-nil (line_of_point b t q) ∙ sym this)
 
-pub Prints-same : (b b' : Building) (E : List Delivery) (line line' : List ℕ) (old new : Option (List ℕ)) (now : Content) → b ≡ b' → line ≡ line'
+pub Prints-same : (b b' : Building) (E : List Delivery) (line line' : List ℕ) (old new : Option (List ℕ)) (now : Content) → b ≡ b'
+    → line ≡ line'
     → Prints b E (line ∷ []) old new now → Prints b' E (line' ∷ []) old new now
 Prints-same b b' E line line' old new now b_is line_is prints =
     subst (λ c. Prints c E (line' ∷ []) old new now) b_is (subst (λ l. Prints b E (l ∷ []) old new now) line_is prints)

@@ -56,7 +56,8 @@ first-of_more b E lines more old new part = record {
 
 -- some lines, and the first of others
 pub first-after : (b : Building) (E : List Delivery) (lines more : List (List ℕ)) (old mid new : Option (List ℕ)) (now : Content)
-    → (prints : Prints b E lines old mid now) → PrintsStart b (E ++ deliveries_in prints.told) more mid new → PrintsStart b E (lines ++ more) old new
+    → (prints : Prints b E lines old mid now) → PrintsStart b (E ++ deliveries_in prints.told) more mid new
+    → PrintsStart b E (lines ++ more) old new
 first-after b E lines more old mid new now prints part = record {
   first = lines ++ part.first;
   others = part.others;
@@ -69,7 +70,8 @@ first-after b E lines more old mid new now prints part = record {
 }
 
 -- what a line is answered
-answered_whole : (b : Building) (E : List Delivery) (line text : List ℕ) (answered : Vec ℕ Global) (old new : Option (List ℕ)) (now : Standing)
+answered_whole : (b : Building) (E : List Delivery) (line text : List ℕ) (answered : Vec ℕ Global) (old new : Option (List ℕ))
+    (now : Standing)
     (told : Option Told)
     → is_empty_line line ≡ false → told_of b line ≡ told → AnswersLine b E told (Ok answered) now → text ≡ answered.items
     → Appends old new text → Prints b E (line ∷ []) old new now.content
@@ -87,7 +89,8 @@ answered_whole b E line text answered old new now (Some (of.RefusedImport refuse
   holds = answers.1 ∙ ap (λ list. sound (tables b list)) (sym (append-nil E));
 }
 
-pub Prints-answered : (b : Building) (E : List Delivery) (line text : List ℕ) (answered : Vec ℕ Global) (old new : Option (List ℕ)) (now : Standing)
+pub Prints-answered : (b : Building) (E : List Delivery) (line text : List ℕ) (answered : Vec ℕ Global) (old new : Option (List ℕ))
+    (now : Standing)
     → is_empty_line line ≡ false → AnswersLine b E (told_of b line) (Ok answered) now → text ≡ answered.items → Appends old new text
     → Prints b E (line ∷ []) old new now.content
 Prints-answered b E line text answered old new now some answers is printed = answered_whole b E line text answered old new now
@@ -116,7 +119,8 @@ replied b E line text answered old new now (Some (of.RefusedImport refused)) som
   printed = start-longer old new (refusal_line refused) [] (subst (λ t. AppendsStart old new t) (is ∙ answers.0) start);
 }
 
-pub first-replied : (b : Building) (E : List Delivery) (line text : List ℕ) (answered : Vec ℕ Global) (old new : Option (List ℕ)) (now : Standing)
+pub first-replied : (b : Building) (E : List Delivery) (line text : List ℕ) (answered : Vec ℕ Global) (old new : Option (List ℕ))
+    (now : Standing)
     → is_empty_line line ≡ false → AnswersLine b E (told_of b line) (Ok answered) now → text ≡ answered.items → AppendsStart old new text
     → PrintsStart b E (line ∷ []) old new
 first-replied b E line text answered old new now some answers is start = replied b E line text answered old new now
@@ -165,7 +169,8 @@ no_more-lines file list b b' old mid new file_is same part kept = inr (
 
 pub no_more-points : (file list : List ℕ) (b b' b'' : Building) (old mid new last : Option (List ℕ)) (now : Content)
     → building_of file ≡ Ok (contents_of b) → b' ≡ b
-    → Prints b' [] (lines_of list) old mid now → b'' ≡ b' → AppendsStart mid new (point_lines b'' now.tables) → Keeps new last → PrintsNoMore file list old last
+    → Prints b' [] (lines_of list) old mid now → b'' ≡ b' → AppendsStart mid new (point_lines b'' now.tables) → Keeps new last
+    → PrintsNoMore file list old last
 no_more-points file list b b' b'' old mid new last now file_is same prints still points kept = inr (
   b',
   file_is ∙ ap (λ (building : Building). Ok (contents_of building)) (sym same),
@@ -191,6 +196,15 @@ no_more-Keeps file list old mid new said kept = ⊎_elim
     (λ nothing. inl (Keeps-Keeps old mid new nothing kept))
     (λ some. ⊎_elim
     (λ first. no_more-lines file list some.0 some.0 old mid new some.1 refl first kept)
-    (λ all. inr (some.0, some.1, inr (record { told = all.told; told_is = all.told_is; printed = start-Keeps old mid new _ all.printed kept })))
+    (λ all. inr (
+      some.0,
+      some.1,
+      inr (record {
+        told = all.told;
+        told_is = all.told_is;
+        printed = start-Keeps old mid new _
+            all.printed kept;
+      }),
+    ))
     some.2)
     said

@@ -31,7 +31,8 @@ pub written-more : (text written rest : List ℕ) (n : ℕ) (old mid new : Optio
     → text ≡ written ++ rest → Appends old mid written → Appends mid new (take n rest)
     → (more : List ℕ) × (text ≡ more ++ take (length rest - n) (drop n rest)) × Appends old new more
 written-more text written rest n old mid new within is before now =
-    let left : take (length rest - n) (drop n rest) ≡ drop n rest = take_all (length rest - n) (drop n rest) (omega (arith, length-drop n rest)) in (
+    let left : take (length rest - n) (drop n rest) ≡ drop n rest =
+    take_all (length rest - n) (drop n rest) (omega (arith, length-drop n rest)) in (
       written ++ take n rest,
       is ∙ ap (λ xs. written ++ xs) (sym (take-append-drop n rest)) ∙ sym (append_assoc written (take n rest) (drop n rest))
           ∙ ap (λ xs. (written ++ take n rest) ++ xs) (sym left),
@@ -46,7 +47,8 @@ start-nothing a text = ([], text, refl, Appends-nothing a)
 pub start-whole : (a b : Option (List ℕ)) (text : List ℕ) → Appends a b text → AppendsStart a b text
 start-whole a b text whole = (text, [], sym (append-nil text), whole)
 
-pub start-after : (a b c : Option (List ℕ)) (text more : List ℕ) → Appends a b text → AppendsStart b c more → AppendsStart a c (text ++ more)
+pub start-after : (a b c : Option (List ℕ)) (text more : List ℕ) → Appends a b text → AppendsStart b c more
+    → AppendsStart a c (text ++ more)
 start-after a b c text more whole start = (
   text ++ start.0,
   start.1,

@@ -14,19 +14,21 @@ unfolding building_of tree_of
 building_of-long xs e = rw e refl
 
 pub building_of-taken : (bytes : List ℕ) (c : Contents) → building_of (take 1_048_577 bytes) ≡ Ok c → building_of bytes ≡ Ok c
-building_of-taken bytes c e = elim (nat_le (length bytes) 1_048_577) as (λ t. nat_le (length bytes) 1_048_577 ≡ t → building_of bytes ≡ Ok c) [
-  | true ↦ λ short. ap building_of (sym (take_all 1_048_577 bytes (leb-true (length bytes) 1_048_577 short))) ∙ e
-  | false ↦ λ long.
-      let more : 1_048_577 < length bytes = leb-false (length bytes) 1_048_577 long in
-      let full : length (take 1_048_577 bytes) ≡ 1_048_577 = length-take-le 1_048_577 bytes (omega arith) in
-      let fault = building_of-long (take 1_048_577 bytes) (ap (λ n. nat_le n longest_file) full) in
-      let bad : Err (fault_at top_location key.File BeyondLimit) ≡ Ok c = sym fault ∙ e in cc
-] refl
+building_of-taken bytes c e =
+    elim (nat_le (length bytes) 1_048_577) as (λ t. nat_le (length bytes) 1_048_577 ≡ t → building_of bytes ≡ Ok c) [
+      | true ↦ λ short. ap building_of (sym (take_all 1_048_577 bytes (leb-true (length bytes) 1_048_577 short))) ∙ e
+      | false ↦ λ long.
+          let more : 1_048_577 < length bytes = leb-false (length bytes) 1_048_577 long in
+          let full : length (take 1_048_577 bytes) ≡ 1_048_577 = length-take-le 1_048_577 bytes (omega arith) in
+          let fault = building_of-long (take 1_048_577 bytes) (ap (λ n. nat_le n longest_file) full) in
+          let bad : Err (fault_at top_location key.File BeyondLimit) ≡ Ok c = sym fault ∙ e in cc
+    ] refl
 
 -- the bytes that are read where a reader gives its first
 pub taken_bytes : {R : Type 0} (remaining : R → Option (List ℕ)) (limit : ℕ) (inner reader : R) (bytes start buf : List ℕ)
     → limit ≡ 1_048_577 → inner ≡ reader → start ≡ []
-    → remaining reader ≡ Some bytes → IfSome (option_map (take limit) (remaining inner)) (λ xs. buf ≡ start ++ xs) → buf ≡ take 1_048_577 bytes
+    → remaining reader ≡ Some bytes → IfSome (option_map (take limit) (remaining inner)) (λ xs. buf ≡ start ++ xs)
+    → buf ≡ take 1_048_577 bytes
 taken_bytes remaining limit inner reader bytes start buf limit_is inner_is start_is known read =
     let first = subst (λ r. IfSome (option_map (take limit) (remaining r)) (λ xs. buf ≡ start ++ xs)) inner_is read in
     let then : buf ≡ start ++ take limit bytes = subst (λ o. IfSome (option_map (take limit) o) (λ xs. buf ≡ start ++ xs)) known first in

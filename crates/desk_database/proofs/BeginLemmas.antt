@@ -77,7 +77,8 @@ on_the_way image valid (inr made) =
       | inl new ↦
           let whole : AreWhole 1024 made.0 = subst (AreWhole 1024) made.1.shows (trimmed_whole 1024 made.1.stored made.1.whole) in
           let empty = new_is_empty 1024 made.0 whole new in
-          let ours : IsOurs 1024 true [] made.0 = record { file = empty.0; numbered = λ _. record { listed = empty.1; spaced = refl; ordered = refl } } in
+          let ours : IsOurs 1024 true [] made.0 =
+          record { file = empty.0; numbered = λ _. record { listed = empty.1; spaced = refl; ordered = refl } } in
           ∣ empty_database image made.0 valid made.1 ours ∣₁
       | inr fresh ↦ ∥∥₁_map fresh (λ it. empty_database image made.0 valid made.1 it.0)
     ])
@@ -138,7 +139,8 @@ module _ {D : Type 0} {g : disk.Ghosts D} (old new : Files D) (log : OnlyReads g
   leaves_then (left.Store now) h = λ found may. let it = h found may in
       (subst (λ image. AreFoundIn image found) seen it.0, λ db held. it.1 db (subst (λ image. HoldsDatabase image db) (sym seen) held))
 
-  pub clean_before : (fresh : Unopened D g) → files_of fresh ≡ (new.log, new.db) → IsTrue (state_of fresh).is_clean → AreClean g new.log new.db
+  pub clean_before : (fresh : Unopened D g) → files_of fresh ≡ (new.log, new.db) → IsTrue (state_of fresh).is_clean
+      → AreClean g new.log new.db
   clean_before fresh files clean = sym ((pool_files fresh.pool).1 ∙ ap (λ f. are_clean g f.0 f.1) files) ∙ clean
 
   -- and what a beginning of them leaves

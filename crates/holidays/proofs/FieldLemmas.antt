@@ -2,7 +2,8 @@
 use Rattle.std.proofs.Common.{◌≡◌, ℕ, zero, suc, ◌+◌, List, [], ◌∷◌, drop, Some, None, refl, sym, ap, ◌∙◌, arith}
 use Rattle.csv.specs.Records.{field_at}
 
-pub drop_field : (fields : List (List ℕ)) (i : ℕ) (field : List ℕ) → field_at fields i ≡ Some field → drop i fields ≡ field ∷ drop (i + 1) fields
+pub drop_field : (fields : List (List ℕ)) (i : ℕ) (field : List ℕ) → field_at fields i ≡ Some field
+    → drop i fields ≡ field ∷ drop (i + 1) fields
 unfolding field_at
 drop_field [] i field e = absurd (cc e)
 drop_field (first ∷ rest) zero field e = let same : first ≡ field = (cc) in ap (λ f. f ∷ rest) same

@@ -93,7 +93,8 @@ record_takes : (cfg : Config) (s : State) (xs : List ℕ) (p : Read)
 unfolding next_record
 record_takes cfg s [] p rests e = absurd (cc (rw rests at e))
 record_takes cfg s (c ∷ rest) p rests e =
-    by (is_end (step cfg s c).1) e (record_rests cfg (step cfg s c).0 (fields_after (step cfg s c).1 [] []) (field_after (step cfg s c).1 c []) rest p)
+    by (is_end (step cfg s c).1) e (record_rests cfg (step cfg s c).0 (fields_after (step cfg s c).1 [] [])
+    (field_after (step cfg s c).1 c []) rest p)
   where
     later : Option Read
     later = next_record cfg (step cfg s c).0 (fields_after (step cfg s c).1 [] []) (field_after (step cfg s c).1 c []) rest
@@ -126,7 +127,8 @@ reached_all cfg (suc n) s xs [] s2 ys h end few = rw (h.0, h.1, end) refl
 reached_all cfg (suc n) s xs (r ∷ rs) s2 ys (p, next, is, more) end few =
     rw (next, is) (ap (λ rest. p.0 ∷ rest) (reached_all cfg n p.1 p.2 rs s2 ys more end (omega arith)))
 
-pub are_records : (xs : List ℕ) (rs : List (List (List ℕ))) → AreRecords default_config st.StartRecord xs rs → rs ≡ records default_config xs
+pub are_records : (xs : List ℕ) (rs : List (List (List ℕ))) → AreRecords default_config st.StartRecord xs rs
+    → rs ≡ records default_config xs
 are_records xs rs (s2, ys, reached, end) =
     let few = few_records default_config st.StartRecord xs rs s2 ys refl reached in
     sym (reached_all default_config (length xs + 1) st.StartRecord xs rs s2 ys reached end (omega arith))

@@ -109,7 +109,8 @@ days_to_9999 =
 far_year : (day : ℤ) → pos 2_932_532 ≤ℤ day → is_local_year (year_of_day day) ≡ false
 far_year day h =
     let days = nonneg_abs (day +ℤ pos 4_371_953) (omega (arith, signed_arith)) in
-    let years = years_at_least 20000 19_999 (unsigned_abs (day +ℤ pos 4_371_953)) (omega arith) (omega (arith, signed_arith, days_to_9999)) in
+    let years =
+    years_at_least 20000 19_999 (unsigned_abs (day +ℤ pos 4_371_953)) (omega arith) (omega (arith, signed_arith, days_to_9999)) in
     not_local (year_of_day day) (omega (arith, signed_arith))
   where
     not_local : (y : ℤ) → pos 2154 <ℤ y → is_local_year y ≡ false

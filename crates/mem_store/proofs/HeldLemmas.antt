@@ -23,7 +23,8 @@ pub by_bytes : {A : Type 0} (v w : Option A) (key q : List ℕ) (now : Option A)
 by_bytes v w key q now is = rw (is_eq-slice_cmp key q) at is
 
 -- what holds of an entry before and after, where one entry changes
-pub changed_at : {A : Type 0} (P : Option A → Option A → Type 0) (was : Option A) (v : A) (key q : List ℕ) (old : List ℕ → Option A) (now : Option A)
+pub changed_at : {A : Type 0} (P : Option A → Option A → Type 0) (was : Option A) (v : A) (key q : List ℕ) (old : List ℕ → Option A)
+    (now : Option A)
     → old key ≡ was → now ≡ cond (bytes_eq key q) (Some v) (old q) → (key ≡ q → P was (Some v)) → ((o : Option A) → P o o) → P (old q) now
 changed_at P was v key q old now there is here elsewhere =
     elim (cases_Bool (bytes_eq key q)) [
@@ -36,7 +37,8 @@ changed_at P was v key q old now there is here elsewhere =
           subst (λ n. P (old q) n) (sym is_old) (elsewhere (old q))
     ]
 
-pub changed : {A : Type 0} (P : Option A → Option A → Type 0) (was : Option A) (v : A) (key q : List ℕ) (old : List ℕ → Option A) (now : Option A)
+pub changed : {A : Type 0} (P : Option A → Option A → Type 0) (was : Option A) (v : A) (key q : List ℕ) (old : List ℕ → Option A)
+    (now : Option A)
     → old key ≡ was → now ≡ cond (bytes_eq key q) (Some v) (old q) → P was (Some v) → ((o : Option A) → P o o) → P (old q) now
 changed P was v key q old now there is here elsewhere = changed_at P was v key q old now there is (λ same. here) elsewhere
 
@@ -132,7 +134,8 @@ room-step P Q xs i item below is more so_far here k d within =
 -- ---- rows
 
 -- a row more without gap
-pub unbroken-step : (rows : Rows) (upto number : ℕ) (row : CommandRow) → ((n : ℕ) → upto ≤ n → n < number → IsSome (rows n)) → rows number ≡ Some row
+pub unbroken-step : (rows : Rows) (upto number : ℕ) (row : CommandRow) → ((n : ℕ) → upto ≤ n → n < number → IsSome (rows n))
+    → rows number ≡ Some row
     → (n : ℕ) → upto ≤ n → n < number + 1 → IsSome (rows n)
 unbroken-step rows upto number row so_far here n least below =
     elim (cases_order n number) [

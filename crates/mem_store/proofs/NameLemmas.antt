@@ -40,7 +40,8 @@ module _ {X : Type 0} (stands : X → Bool) where
       → AllByRecursion (λ k. bytes_eq x k ≡ false) (standing_keys stands es)
   apart x [] all = tt
   apart x (e ∷ es) all =
-      elim (stands e.1) as (λ b. AllByRecursion (λ k. bytes_eq x k ≡ false) (cond b (e.0 ∷ standing_keys stands es) (standing_keys stands es))) [
+      elim (stands e.1) as (λ b. AllByRecursion (λ k. bytes_eq x k ≡ false)
+      (cond b (e.0 ∷ standing_keys stands es) (standing_keys stands es))) [
         | true ↦ (all.0, apart x es all.1)
         | false ↦ apart x es all.1
       ]
@@ -58,7 +59,8 @@ module _ {X : Type 0} (stands : X → Bool) where
   not_found x [] all = refl
   not_found x (e ∷ es) all = rw all.0 (not_found x es all.1)
 
-  found_here : (text : Text) (e : Text × X) (rest : Option X) → bytes_eq text e.0 ≡ true → cond (bytes_eq text e.0) (Some e.1) rest ≡ Some e.1
+  found_here : (text : Text) (e : Text × X) (rest : Option X) → bytes_eq text e.0 ≡ true
+      → cond (bytes_eq text e.0) (Some e.1) rest ≡ Some e.1
   found_here text e rest equal = rw equal refl
 
   found_later : (text : Text) (e : Text × X) (rest : Option X) → bytes_eq text e.0 ≡ false → cond (bytes_eq text e.0) (Some e.1) rest ≡ rest
@@ -81,7 +83,8 @@ module _ {X : Type 0} (stands : X → Bool) where
               | true ↦ ((λ here. refl), (λ is. subst (λ x. Contains (x ∷ ks) text) same (contains_first text ks)))
               | false ↦ ((λ here. absurd (out here)), (λ is. absurd (false≢true is)))
             ] in
-            subst (λ o. Contains (standing_keys stands (e ∷ es)) text ↔ IsStanding stands o) (sym (found_here text e (lookup (bytes_eq text) es) equal)) this
+            subst (λ o. Contains (standing_keys stands (e ∷ es)) text ↔ IsStanding stands o)
+            (sym (found_here text e (lookup (bytes_eq text) es) equal)) this
         | inr unlike ↦
             let other : e.0 ≡ text → ⊥ = λ same. both_ways (bytes_eq text e.0) unlike ((bytes_eq-Decides text e.0).1 (sym same)) in
             let this : Contains (standing_keys stands (e ∷ es)) text ↔ IsStanding stands (lookup (bytes_eq text) es) =
@@ -89,7 +92,8 @@ module _ {X : Type 0} (stands : X → Bool) where
               | true ↦ ((λ here. later.0 (contains_other e.0 ks text other here)), (λ is. contains_rest e.0 ks text (later.1 is)))
               | false ↦ later
             ] in
-            subst (λ o. Contains (standing_keys stands (e ∷ es)) text ↔ IsStanding stands o) (sym (found_later text e (lookup (bytes_eq text) es) unlike)) this
+            subst (λ o. Contains (standing_keys stands (e ∷ es)) text ↔ IsStanding stands o)
+            (sym (found_later text e (lookup (bytes_eq text) es) unlike)) this
       ]
 
 -- the names that stand in a table, collected and then put in order

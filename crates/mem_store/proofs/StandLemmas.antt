@@ -22,7 +22,8 @@ use Rattle.mem_store.specs.Slots.{IsStanding, entry_slot, flatten, has_text}
 use Rattle.store.specs.Tables.{Text}
 
 -- where a look-up finds a key, some key passes each test that follows
-found_any : {K X : Type 0} (test pass : K → Bool) → ((k : K) → test k ≡ true → pass k ≡ true) → (es : List (K × X)) → IsSome (lookup test es)
+found_any : {K X : Type 0} (test pass : K → Bool) → ((k : K) → test k ≡ true → pass k ≡ true) → (es : List (K × X))
+    → IsSome (lookup test es)
     → list_any pass (keys_of es) ≡ true
 found_any test pass follows [] here = absurd (false≢true here)
 found_any test pass follows (e ∷ es) here =
@@ -65,7 +66,8 @@ second_of_two false b is = is
 same_number : (n k : ℕ) → is_eq (nat_cmp n k) ≡ true → n ≡ k
 same_number n k is = (Decides-eqb n k).0 (sym (unsigned_tied n k) ∙ is)
 
-pub panel_stands : (o : Option PanelTable) → IsStanding stands_panel o ↔ ((next_in o ≡ 1 → ⊥) ⊎ ((number : ℕ) × IsSome (flatten (slot_in o number))))
+pub panel_stands : (o : Option PanelTable)
+    → IsStanding stands_panel o ↔ ((next_in o ≡ 1 → ⊥) ⊎ ((number : ℕ) × IsSome (flatten (slot_in o number))))
 panel_stands None = (
   (λ none. absurd none),
   (λ either. elim either [
@@ -95,7 +97,8 @@ panel_stands (Some table) = (
 pub point_stands : (o : Option Places) → IsStanding stands_point o ↔ (unwrap_or o empty ≡ empty → ⊥)
 point_stands None = ((λ none. absurd none), (λ some. absurd (some refl)))
 point_stands (Some places) = (
-  (λ stands is. absurd (both_ways (len places == 0) (of_not (len places == 0) stands) ((Decides-eqb (len places) 0).1 (ap len is ∙ len-empty nat_cmp ℤ)))),
+  (λ stands is. absurd (both_ways (len places == 0) (of_not (len places == 0) stands)
+      ((Decides-eqb (len places) 0).1 (ap len is ∙ len-empty nat_cmp ℤ)))),
   (λ some. elim (cases_Bool (len places == 0)) [
     | inl none ↦ absurd (some (empty_of_len places ((Decides-eqb (len places) 0).0 none)))
     | inr not_none ↦ rw not_none refl
@@ -106,7 +109,8 @@ point_stands (Some places) = (
     of_not true e = absurd (false≢true e)
     of_not false e = refl
 
-pub calendar_stands : (o : Option CalendarTable) → IsStanding stands_calendar o ↔ ((text : Text) × IsTrue (is_some (flatten (text_slot o text))))
+pub calendar_stands : (o : Option CalendarTable)
+    → IsStanding stands_calendar o ↔ ((text : Text) × IsTrue (is_some (flatten (text_slot o text))))
 calendar_stands None = ((λ none. absurd none), (λ some. absurd (false≢true some.1)))
 calendar_stands (Some table) = (
   (λ stands.

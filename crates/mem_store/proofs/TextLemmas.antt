@@ -34,7 +34,8 @@ module _ {K X : Type 0} (f : K → Text) (stands : X → Bool) where
   unfolding IsStrictlySortedBy
   rises [] sorted = tt
   rises (e ∷ es) sorted =
-      elim (stands e.1) as (λ b. IsStrictlySortedBy (slice_cmp nat_cmp) (map f (cond b (e.0 ∷ standing_keys stands es) (standing_keys stands es)))) [
+      elim (stands e.1) as (λ b. IsStrictlySortedBy (slice_cmp nat_cmp)
+      (map f (cond b (e.0 ∷ standing_keys stands es) (standing_keys stands es)))) [
         | true ↦ (above (f e.0) es sorted.0, rises es sorted.1)
         | false ↦ rises es sorted.1
       ]
@@ -48,7 +49,8 @@ module _ {K X : Type 0} (f : K → Text) (stands : X → Bool) where
   not_found x [] all = refl
   not_found x (e ∷ es) all = rw all.0 (not_found x es all.1)
 
-  found_first : (text : Text) (e : K × X) (rest : Option X) → f e.0 ≡ text → cond (is_eq (slice_cmp nat_cmp text (f e.0))) (Some e.1) rest ≡ Some e.1
+  found_first : (text : Text) (e : K × X) (rest : Option X) → f e.0 ≡ text
+      → cond (is_eq (slice_cmp nat_cmp text (f e.0))) (Some e.1) rest ≡ Some e.1
   found_first text e rest same =
       let equal : bytes_eq text (f e.0) ≡ true = (bytes_eq-Decides text (f e.0)).1 (sym same) in
       rw (is_eq-slice_cmp text (f e.0), equal) refl
@@ -58,7 +60,8 @@ module _ {K X : Type 0} (f : K → Text) (stands : X → Bool) where
   found_later text e rest apart = rw (is_eq-slice_cmp text (f e.0), apart) refl
 
   abbrev Found : Text → List (K × X) → Type 0
-  Found text es = Contains (map f (standing_keys stands es)) text ↔ IsStanding stands (lookup (λ k. is_eq (slice_cmp nat_cmp text (f k))) es)
+  Found text es =
+      Contains (map f (standing_keys stands es)) text ↔ IsStanding stands (lookup (λ k. is_eq (slice_cmp nat_cmp text (f k))) es)
 
   finds_each : (es : List (K × X)) → IsStrictlySortedBy (λ x y. slice_cmp nat_cmp (f x) (f y)) (keys_of es) → (text : Text) → Found text es
   unfolding IsStrictlySortedBy
@@ -77,15 +80,20 @@ module _ {K X : Type 0} (f : K → Text) (stands : X → Bool) where
               | true ↦ ((λ here. refl), (λ is. subst (λ x. Contains (x ∷ map f ks) text) same (contains_first text (map f ks))))
               | false ↦ ((λ here. absurd (out here)), (λ is. absurd (false≢true is)))
             ] in
-            subst (λ o. Contains (map f (standing_keys stands (e ∷ es))) text ↔ IsStanding stands o) (sym (found_first text e (finds text es) (sym same))) this
+            subst (λ o. Contains (map f (standing_keys stands (e ∷ es))) text ↔ IsStanding stands o)
+            (sym (found_first text e (finds text es) (sym same))) this
         | inr apart ↦
             let other : f e.0 ≡ text → ⊥ = λ same. both_ways (bytes_eq text (f e.0)) apart ((bytes_eq-Decides text (f e.0)).1 (sym same)) in
             let this : Contains (map f (standing_keys stands (e ∷ es))) text ↔ IsStanding stands (finds text es) =
             elim (stands e.1) as (λ b. Contains (map f (cond b (e.0 ∷ ks) ks)) text ↔ IsStanding stands (finds text es)) [
-              | true ↦ ((λ here. later.0 (contains_other (f e.0) (map f ks) text other here)), (λ is. contains_rest (f e.0) (map f ks) text (later.1 is)))
+              | true ↦ (
+                (λ here. later.0 (contains_other (f e.0) (map f ks) text other here)),
+                (λ is. contains_rest (f e.0) (map f ks) text (later.1 is)),
+              )
               | false ↦ later
             ] in
-            subst (λ o. Contains (map f (standing_keys stands (e ∷ es))) text ↔ IsStanding stands o) (sym (found_later text e (finds text es) apart)) this
+            subst (λ o. Contains (map f (standing_keys stands (e ∷ es))) text ↔ IsStanding stands o)
+            (sym (found_later text e (finds text es) apart)) this
       ]
 
   -- the texts of the keys whose values stand
@@ -100,7 +108,8 @@ pub AreTexts-names : {X : Type 0} (stands : X → Bool) (names : List Text) (res
     → AreTexts (λ text. IsStanding stands (lookup (λ k. is_eq (slice_cmp nat_cmp text k)) es)) names
 AreTexts-names stands names rest es is none sorted =
     let whole : names ≡ standing_keys stands es = sym (append-nil names) ∙ ap (λ r. names ++ standing_keys stands r) (sym none) ∙ is in
-    subst (AreTexts (λ text. IsStanding stands (lookup (λ k. is_eq (slice_cmp nat_cmp text k)) es))) (map-id (standing_keys stands es) ∙ sym whole)
+    subst (AreTexts (λ text. IsStanding stands (lookup (λ k. is_eq (slice_cmp nat_cmp text k)) es)))
+    (map-id (standing_keys stands es) ∙ sym whole)
     (AreTexts-standing (λ x. x) stands es sorted)
 
 -- the same texts by another account of them
@@ -128,7 +137,8 @@ kept [] = []
 kept (e ∷ es) = option_to_list e.1 ++ kept es
 
 -- where each stands under its text, their texts are the keys' texts
-pub texts-kept : {K X : Type 0} (f : K → Text) (spell : X → Text) (es : List (K × Option X)) → All (λ e. IfSome e.1 (λ x. spell x ≡ f e.0)) es
+pub texts-kept : {K X : Type 0} (f : K → Text) (spell : X → Text) (es : List (K × Option X))
+    → All (λ e. IfSome e.1 (λ x. spell x ≡ f e.0)) es
     → map spell (kept es) ≡ map f (standing_keys is_some es)
 texts-kept f spell [] all = refl
 texts-kept f spell ((k, None) ∷ es) all = texts-kept f spell es (λ n d within. all (suc n) d (omega arith))

@@ -12,15 +12,18 @@ use Rattle.panel_commands.specs.declared.acting.Acted.{Acted}
 use Rattle.panel_commands.specs.Written.{answered_row, written, Acts}
 
 module _ (building : Building) (panel : Text) (held : Text → Places) (entries : List NumberedContent) (index : ℕ) (entry : NumberedContent)
-    (below : index < length entries) (is : entry ≡ get_or entries index entry) (old new : Acted) (acts : Acts building panel held entry old new) where
+    (below : index < length entries) (is : entry ≡ get_or entries index entry) (old new : Acted)
+    (acts : Acts building panel held entry old new) where
   left : drop index entries ≡ entry ∷ drop (index + 1) entries
   left = drop_more entries index entry below ∙ ap (λ (e : NumberedContent). e ∷ drop (index + 1) entries) (sym is)
 
-  pub rows_then : (all : List KeptRow) → old.rows.items ++ answered_rows building (written old.places.items held) panel (drop index entries) ≡ all
+  pub rows_then : (all : List KeptRow)
+      → old.rows.items ++ answered_rows building (written old.places.items held) panel (drop index entries) ≡ all
       → new.rows.items ++ answered_rows building (written new.places.items held) panel (drop (index + 1) entries) ≡ all
   rows_then all before =
       let row = answered_row panel entry (answer_to building (written old.places.items held) panel entry.content) in
-      ap₂ (λ (rows : List KeptRow) (places : Text → Places). rows ++ answered_rows building places panel (drop (index + 1) entries)) acts.rows acts.places
+      ap₂ (λ (rows : List KeptRow) (places : Text → Places). rows ++ answered_rows building places panel (drop (index + 1) entries))
+      acts.rows acts.places
       ∙ append_assoc old.rows.items (row ∷ []) _
       ∙ ap (λ rest. old.rows.items ++ answered_rows building (written old.places.items held) panel rest) (sym left)
       ∙ before

@@ -17,7 +17,8 @@ use Rattle.panel_commands.specs.declared.acting.Acted.{Acted}
 use Rattle.panel_commands.specs.Carried.{Becomes, Carries, IsChangeOf, first_told}
 use Rattle.panel_commands.specs.Written.{written}
 
-pub change-moved : (b : Building) (p : Text) (plan : Plan) (acted : Acted) (change : Change) (held : Tables) → IsChangeOf p plan acted change
+pub change-moved : (b : Building) (p : Text) (plan : Plan) (acted : Acted) (change : Change) (held : Tables)
+    → IsChangeOf p plan acted change
     → acted.rows.items ≡ answered_rows b held.places p plan.apply
     → written acted.places.items held.places ≡ places_after_each b held.places p plan.apply
     → with_change change held ≡ moved b p plan held
@@ -41,7 +42,8 @@ first_told-answered b held p (entry ∷ entries) = refl
 
 -- a read that tells a fault carries out nothing
 pub Carries-read : (b : Building) (p : Text) (plan : Plan) (result : Result Answer StoreFault) (fault : StoreFault) (old new : Standing)
-    → result_err result ≡ Some fault → (new.is_honest → IfOk result (λ answer. answer ≡ first_answer b old.content.tables.places p plan.apply))
+    → result_err result ≡ Some fault
+    → (new.is_honest → IfOk result (λ answer. answer ≡ first_answer b old.content.tables.places p plan.apply))
     → Reads (result_err result) old new → Carries b p plan result old new
 Carries-read b p plan result fault old new told answer reads = record {
   goes = reads.goes;
@@ -59,7 +61,8 @@ Carries-read b p plan result fault old new told answer reads = record {
     still going shut = cc
 
 -- a commit behind reads carries out the plan
-pub Carries-committed : (b : Building) (p : Text) (plan : Plan) (change : Change) (result : Result Answer StoreFault) (first second third : Standing)
+pub Carries-committed : (b : Building) (p : Text) (plan : Plan) (change : Change) (result : Result Answer StoreFault)
+    (first second third : Standing)
     → (third.is_honest → IfOk result (λ answer. answer ≡ first_answer b first.content.tables.places p plan.apply))
     → Reads None first second → Commits change (result_err result) second third
     → (third.is_honest → with_change change first.content.tables ≡ moved b p plan first.content.tables)

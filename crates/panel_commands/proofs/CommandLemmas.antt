@@ -37,7 +37,8 @@ unfolding rule_of breaks
 place_of-permitted points panel content e = first_three _ _ _ _ e
 
 -- a permitted content names a place
-pub names_a_place : (b : Building) (panel : Text) (content : Content) → rule_for b panel content ≡ None → names_no_place content.priority ≡ false
+pub names_a_place : (b : Building) (panel : Text) (content : Content) → rule_for b panel content ≡ None
+    → names_no_place content.priority ≡ false
 names_a_place b panel content e = under (panel_named b panel) e
   where
     under : (named : Option Panel) → option_map_or (λ p. rule_of b.points p content) named (Some NoSuchPoint) ≡ None
@@ -72,7 +73,8 @@ unfolding places_after
 places_after-permitted b places panel content e = rw e refl
 
 -- a value is written where a permitted content puts it
-pub written-permitted : (b : Building) (p : Text) (content : Content) (values : List PlaceValue) (held : Text → Places) → rule_for b p content ≡ None
+pub written-permitted : (b : Building) (p : Text) (content : Content) (values : List PlaceValue) (held : Text → Places)
+    → rule_for b p content ≡ None
     → written (values ++ record { point = content.point; priority = place_of content.priority; value = content.value } ∷ []) held
     ≡ places_after b (written values held) p content
 written-permitted b p content values held none =
@@ -83,12 +85,14 @@ written-permitted b p content values held none =
         → cond (bytes_eq content.point q) (put (places q) (place_of content.priority) content.value) (places q)
         ≡ places_under None places content q
     here places q = elim (cases_Bool (bytes_eq content.point q)) [
-      | inl same ↦ rw same (ap (λ point. put (places point) (place_of content.priority) content.value) (sym ((bytes_eq-Decides content.point q).0 same)))
+      | inl same ↦ rw same (ap (λ point. put (places point) (place_of content.priority) content.value)
+          (sym ((bytes_eq-Decides content.point q).0 same)))
       | inr apart ↦ rw apart refl
     ]
 
 -- the places of one point with what is written there
-pub written-at : (point : Text) (values : List PlaceValue) (held : Text → Places) → written values held point ≡ places_at point values (held point)
+pub written-at : (point : Text) (values : List PlaceValue) (held : Text → Places)
+    → written values held point ≡ places_at point values (held point)
 written-at point [] held = refl
 written-at point (item ∷ items) held = written-at point items (with_place item held)
 

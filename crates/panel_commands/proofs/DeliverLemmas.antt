@@ -108,7 +108,8 @@ module _ (b : Building) (E : List Delivery) (d : Delivery) (ask : asks.Ask) (pan
       λ i. record { tables = (becomes.tables_are ∙ moves) i; is_sound = all_sound i }
 
   -- a plan that is carried out
-  pub Delivers-carried : (answer : Answer) (old new : Standing) → Carries b panel.name plan (Ok answer) old new → new.is_honest → Holds b E old
+  pub Delivers-carried : (answer : Answer) (old new : Standing) → Carries b panel.name plan (Ok answer) old new → new.is_honest
+      → Holds b E old
       → Delivers b E d (Ok (reply_on plan.verdict next plan.next number answer)) new
   Delivers-carried answer old new carries honest held =
       let first = carries.answer honest in (

@@ -30,7 +30,8 @@ module _ (b : Building) (E : List Delivery) (p : Text) (next : ℕ) (held : Tabl
   rows-same = ap (λ (t : Tables). t.row p) same
 
   abbrev Plans-view : asks.Ask → Type 0
-  Plans-view ask = (list : List asks.Ask) → Shows view (asks.taken asks.opening list) ask → Plans (asks.taken asks.opening list) ask view.asked plan
+  Plans-view ask =
+      (list : List asks.Ask) → Shows view (asks.taken asks.opening list) ask → Plans (asks.taken asks.opening list) ask view.asked plan
 
   pub planned-command : (z : ℤ) (number : ℕ) (content : a_content) → number_upto LAST_NUMBER z ≡ Some number
       → Views (held.row p) next (held.row p number) (run_behind next number) view → Plans-view (asks.Command number content)

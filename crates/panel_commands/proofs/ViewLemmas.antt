@@ -25,7 +25,8 @@ rest_in (row ∷ rows) = rows
 first_past : (count : ℕ) (all : Rows) (from : ℕ) (first : NumberedRow) (rest : List NumberedRow) → first ∷ rest ≡ rows_from count all from
     → from ≤ first.number
 first_past zero all from first rest is = absurd cc
-first_past (suc count) all from first rest is = at (all from) (λ later. let past = first_past count all (from + 1) first rest later in omega (arith, past)) is
+first_past (suc count) all from first rest is =
+    at (all from) (λ later. let past = first_past count all (from + 1) first rest later in omega (arith, past)) is
   where
     at : (row : Option CommandRow) → (first ∷ rest ≡ rows_from count all (from + 1) → from ≤ first.number)
         → first ∷ rest ≡ row_before from row (rows_from count all (from + 1)) → from ≤ first.number
@@ -51,7 +52,8 @@ module _ (all : Rows) (number : ℕ) where
     where
       at : (row : Option CommandRow) → all number ≡ row → first ∷ rest ≡ row_before number row (rows_between all (number + 1) run.end)
           → (Some first.row ≡ all number) × IsRun all (number + 1) (number + 1) rest
-      at None none later = absurd (let past = first_past (run.end - (number + 1)) all (number + 1) first rest later in omega (arith, past, same))
+      at None none later =
+          absurd (let past = first_past (run.end - (number + 1)) all (number + 1) first rest later in omega (arith, past, same))
       at (Some row) some here =
           let it : Some first.row ≡ Some row = ap row_in here in
           let others : rest ≡ rows_between all (number + 1) run.end = ap rest_in here in

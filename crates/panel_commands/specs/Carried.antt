@@ -65,7 +65,8 @@ pub record Becomes (tables : Tables) (old new : Content) : Type 0 where
   pub is_sound : old.is_sound ≡ true → new.is_sound ≡ true
 
 -- what a plan's carrying out answers, and leaves
-pub record Carries (building : Building) (panel : Text) (plan : Plan) (result : Result Answer StoreFault) (old new : Standing) : Type 0 where
+pub record Carries (building : Building) (panel : Text) (plan : Plan) (result : Result Answer StoreFault) (old new : Standing) :
+    Type 0 where
   pub goes : Goes (result_err result) old new
   pub answer : new.is_honest → IfOk result (λ answer. answer ≡ first_answer building old.content.tables.places panel plan.apply)
   pub made : new.is_honest → result_err result ≡ None → Becomes (moved building panel plan old.content.tables) old.content new.content

@@ -12,7 +12,8 @@ use Rattle.deliveries.specs.Tables.{tables}
 use Rattle.std.specs.Prelude.{Some}
 
 -- a plan for what a delivery asks of a panel, after earlier deliveries
-pub record IsPlanned (building : Building) (earlier : List Delivery) (delivery : Delivery) (ask : Ask) (panel : Text) (next : ℕ) (number : ℤ)
+pub record IsPlanned (building : Building) (earlier : List Delivery) (delivery : Delivery) (ask : Ask) (panel : Text) (next : ℕ)
+    (number : ℤ)
     (plan : Plan) : Type 0 where
   pub of_panel : panel_of delivery ≡ panel
   pub asks_it : asked delivery ≡ Some ask

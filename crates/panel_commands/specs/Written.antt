@@ -19,14 +19,17 @@ written values places = with_each with_place values places
 
 -- the row of a command that was acted on
 abbrev pub answered_row : Text → NumberedContent → Answer → KeptRow
-answered_row panel entry answer = record { panel = panel; number = entry.number; row = record { content = entry.content; state = Answered answer } }
+answered_row panel entry answer =
+    record { panel = panel; number = entry.number; row = record { content = entry.content; state = Answered answer } }
 
 -- one point's places with the values that are written there
 abbrev pub places_at : Text → List PlaceValue → Places → Places
 places_at point [] places = places
-places_at point (item ∷ items) places = places_at point items (if bytes_eq item.point point then put places item.priority item.value else places)
+places_at point (item ∷ items) places =
+    places_at point items (if bytes_eq item.point point then put places item.priority item.value else places)
 
 -- one command is acted on: its row is added, and the places are those after it
 pub record Acts (building : Building) (panel : Text) (held : Text → Places) (entry : NumberedContent) (old new : Acted) : Type 0 where
-  pub rows : new.rows.items ≡ old.rows.items ++ answered_row panel entry (answer_to building (written old.places.items held) panel entry.content) ∷ []
+  pub rows : new.rows.items ≡ old.rows.items
+      ++ answered_row panel entry (answer_to building (written old.places.items held) panel entry.content) ∷ []
   pub places : written new.places.items held ≡ places_after building (written old.places.items held) panel entry.content

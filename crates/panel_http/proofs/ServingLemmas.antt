@@ -23,7 +23,8 @@ text_or default None = default
 text_or default (Some told) = told.1
 
 -- what an answer that is written tells
-tells : (b : Building) (earlier : List Delivery) (bytes : Text) (request : Request) (answer : Result Response Unanswered) (old now : Standing) (status : StatusCode) (text : Text)
+tells : (b : Building) (earlier : List Delivery) (bytes : Text) (request : Request) (answer : Result Response Unanswered)
+    (old now : Standing) (status : StatusCode) (text : Text)
     → IsRequest b bytes request → Answers b earlier request answer old now → written answer ≡ Some (status, text)
     → Tells b earlier bytes status text old now
 tells b earlier bytes request (Ok response) old now status text is answers told =
@@ -47,17 +48,20 @@ tells b earlier bytes request (Err unanswered.Store) old now status text is answ
     }))
 tells b earlier bytes request (Err unanswered.NoReply) old now status text is answers told = absurd (cc told)
 
-silent : (b : Building) (earlier : List Delivery) (bytes : Text) (request : Request) (answer : Result Response Unanswered) (old now : Standing)
+silent : (b : Building) (earlier : List Delivery) (bytes : Text) (request : Request) (answer : Result Response Unanswered)
+    (old now : Standing)
     → IsRequest b bytes request → Answers b earlier request answer old now → written answer ≡ None → IsSilent b earlier bytes now
 silent b earlier bytes request (Ok response) old now is answers told = absurd (cc told)
 silent b earlier bytes request (Err unanswered.NoMemory) old now is answers told = absurd (cc told)
 silent b earlier bytes request (Err unanswered.Store) old now is answers told = absurd (cc told)
-silent b earlier bytes request (Err unanswered.NoReply) old now is answers told = record { request = request; is_request = is; holds = answers }
+silent b earlier bytes request (Err unanswered.NoReply) old now is answers told =
+    record { request = request; is_request = is; holds = answers }
 
 -- an answer to a request, written
 pub serves-answer : (b : Building) (earlier : List Delivery) (bytes : Text) (request : Request) (answer : Result Response Unanswered)
     (read_before read_after : ℕ) (held holds : Option Text) (before after : ℕ) (old now : Standing) (served : Served)
-    → 0 < length bytes → IsRequest b bytes request → Answers b earlier request answer old now → Writes (written answer) held holds before after served
+    → 0 < length bytes → IsRequest b bytes request → Answers b earlier request answer old now
+    → Writes (written answer) held holds before after served
     → Serves b earlier bytes read_before read_after held holds before after old now served
 serves-answer b earlier bytes request answer rb ra held holds before after old now (Answered status) some is answers (text, told, appends) =
     (some, text, appends, tells b earlier bytes request answer old now status text is answers told)

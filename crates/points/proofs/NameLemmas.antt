@@ -18,4 +18,5 @@ third a b d all = grind arith
 pub name_is_utf8 : (text : List ℕ) → IsName text → IsUtf8 text
 name_is_utf8 text named = IsUtf8-from_ascii text (IsAscii-from_all text
     (All-weaker (λ byte. is_name_byte byte ≡ true) (λ byte. byte < 128) is_ascii-name_byte text
-    (AllPass-from_list_all is_name_byte text (third (nat_lt 0 (length text)) (nat_le (length text) 32) (list_all is_name_byte text) named))))
+    (AllPass-from_list_all is_name_byte text (third (nat_lt 0 (length text)) (nat_le (length text) 32) (list_all is_name_byte text)
+    named))))

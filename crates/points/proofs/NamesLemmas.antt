@@ -19,7 +19,8 @@ module _ {A : Type 0} (p : A → Bool) where
   is_some-position [] = refl
   is_some-position (x ∷ xs) = ap is_some (position_cons x xs) ∙ by (p x) (position p xs) (is_some-position xs)
     where
-      by : (b : Bool) (o : Option ℕ) → is_some o ≡ list_any p xs → is_some (cond b (Some 0) (option_map (λ k. 1 + k) o)) ≡ (b || list_any p xs)
+      by : (b : Bool) (o : Option ℕ) → is_some o ≡ list_any p xs
+          → is_some (cond b (Some 0) (option_map (λ k. 1 + k) o)) ≡ (b || list_any p xs)
       by true o e = refl
       by false None e = e
       by false (Some k) e = e

@@ -101,9 +101,11 @@ pub numbered-set : (row : List (Option ℤ)) (i : ℕ) (value : Option ℤ) → 
 numbered-set row i value h = same_map nat_cmp_total nat_cmp-IsAntisymmetric _ _ agree
   where
     agree : (q : ℕ)
-        → get (from_sorted {R = nat_cmp} (numbered 1 (set row i value))) q ≡ get (put (from_sorted {R = nat_cmp} (numbered 1 row)) (i + 1) value) q
+        → get (from_sorted {R = nat_cmp} (numbered 1 (set row i value))) q
+        ≡ get (put (from_sorted {R = nat_cmp} (numbered 1 row)) (i + 1) value) q
     agree zero = let apart : zero ≢ i + 1 = omega arith in
-        get-numbered_0 (set row i value) ∙ sym (get-put _ (i + 1) zero value ∙ passed _ _ _ (tied_apart zero (i + 1) apart) ∙ get-numbered_0 row)
+        get-numbered_0 (set row i value)
+        ∙ sym (get-put _ (i + 1) zero value ∙ passed _ _ _ (tied_apart zero (i + 1) apart) ∙ get-numbered_0 row)
     agree (suc k) = get-numbered (set row i value) k ∙ same_at row i value k h
         ∙ sym (get-put _ (i + 1) (suc k) value ∙ ap (cond (eq_by_cmp nat_cmp (suc k) (i + 1)) value) (get-numbered row k))
 
@@ -166,7 +168,8 @@ first_of-least (e ∷ es) q v d sorted found none =
       | inr apart ↦ elim apart [
         | inl less ↦
             let unequal : q ≢ e.0 = omega arith in
-            let missing = passed _ _ _ (tied_apart q e.0 unequal) ∙ find-below_all es q (below_all-less es q e.0 less (first_below _ _ sorted)) in
+            let missing =
+            passed _ _ _ (tied_apart q e.0 unequal) ∙ find-below_all es q (below_all-less es q e.0 less (first_below _ _ sorted)) in
             absurd (not_none v (sym found ∙ missing))
         | inr more ↦ absurd (not_none e.1 (sym (taken _ _ _ (tied_same e.0)) ∙ none e.0 more))
       ]
@@ -177,7 +180,8 @@ pub present_of-least : (places : Places) (q : ℕ) (v d : ℤ) → get places q 
     → (v, q) ≡ present_of places d
 unfolding present_of
 present_of-least places q v d found none =
-    sym (first_of-least (entries places) q v d (entries_sorted places) (sym (get-entries places q) ∙ found) (λ j h. sym (get-entries places j) ∙ none j h))
+    sym (first_of-least (entries places) q v d (entries_sorted places) (sym (get-entries places q) ∙ found)
+    (λ j h. sym (get-entries places j) ∙ none j h))
 
 first_of-empty : (es : List (ℕ × ℤ)) (d : ℤ) → ((j : ℕ) → find nat_cmp j es ≡ None) → first_of d es ≡ (d, 0)
 first_of-empty [] d none = refl

@@ -34,7 +34,8 @@ rows_between-next rows from end ordered =
 no_gap : (rows : Rows) (number : ℕ) → rows number ≡ None → is_some (rows number) ≡ true → ⊥
 no_gap rows number gap here = both_ways (is_some (rows number)) (ap is_some gap) here
 
-pub IsRun-end : (rows : Rows) (from upto : ℕ) (run other : List NumberedRow) (is : IsRun rows from upto run) (was : IsRun rows from upto other)
+pub IsRun-end : (rows : Rows) (from upto : ℕ) (run other : List NumberedRow) (is : IsRun rows from upto run)
+    (was : IsRun rows from upto other)
     → is.end ≡ was.end
 IsRun-end rows from upto run other is was =
     elim (cases_order is.end was.end) [

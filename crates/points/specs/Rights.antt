@@ -37,8 +37,11 @@ breaks points panel content NotGranted = not (is_granted panel content.point)
 breaks points panel content NoSuchPriority = names_no_place content.priority
 breaks points panel content ReservedPriority = int_eq content.priority (pos 6)
 breaks points panel content PriorityNotGranted = not (is_granted_at panel content.priority)
-breaks points panel content OutsideKind = option_map_or (λ point. is_outside point.kind content.value) (point_named points content.point) false
+breaks points panel content OutsideKind =
+    option_map_or (λ point. is_outside point.kind content.value) (point_named points content.point) false
 
 -- the least rule against the content
 unfoldable pub rule_of : List Point → Panel → Content → Option Rule
-rule_of points panel content = find (breaks points panel content) (NoSuchPoint ∷ NotGranted ∷ NoSuchPriority ∷ ReservedPriority ∷ PriorityNotGranted ∷ OutsideKind ∷ [])
+rule_of points panel content =
+    find (breaks points panel content) (NoSuchPoint ∷ NotGranted ∷ NoSuchPriority ∷ ReservedPriority ∷ PriorityNotGranted
+    ∷ OutsideKind ∷ [])

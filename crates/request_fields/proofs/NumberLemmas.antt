@@ -18,7 +18,8 @@ digits-same (d ∷ ds) = ap (λ b. is_ascii_digit d && b) (digits-same ds)
 
 digits-alone : (value : Text) → is_number value ≡ true → list_all is_ascii_digit value ≡ true
 digits-alone value number =
-    second_so (nat_le (length value) 9) _ (second_so (nat_lt 0 (length value)) (nat_le (length value) 9 && list_all is_ascii_digit value) number)
+    second_so (nat_le (length value) 9) _ (second_so (nat_lt 0 (length value))
+    (nat_le (length value) 9 && list_all is_ascii_digit value) number)
 
 digits-ascii : (ds : Text) → list_all is_ascii_digit ds ≡ true → IsAscii ds
 digits-ascii [] all = IsAscii-nil

@@ -34,7 +34,8 @@ taken_on before mid after a k n xs ys within fits first second =
 shorter_start : (front rest start more : List ℕ) → front ++ rest ≡ start ++ more → length start ≤ length front
     → front ≡ start ++ drop (length start) front
 shorter_start front rest start more same short =
-    starts_with_rest front start (sym (take-append-le (length start) front rest short) ∙ ap (take (length start)) same ∙ take-append_seam start more)
+    starts_with_rest front start (sym (take-append-le (length start) front rest short) ∙ ap (take (length start)) same
+    ∙ take-append_seam start more)
 
 -- the head that the parser found lies in what was read
 head_is_short : (buffer : List ℕ) (headers : List HeaderSpan) (found : FoundHead) (head : RequestHead) → found.filled ≤ 8_192

@@ -20,7 +20,8 @@ abbrev pub HasNoHead : List ℕ → Type 0
 HasNoHead bytes = (head : RequestHead) (rest : List ℕ) → ¬ (IsHead bytes head rest)
 
 -- the bytes begin with a head, the spans tell its parts, and what was read stands at the buffer's front
-pub record SeesHead (bytes : List ℕ) (after : Option (List ℕ)) (buffer : List ℕ) (headers : List HeaderSpan) (found : FoundHead) : Type 0 where
+pub record SeesHead (bytes : List ℕ) (after : Option (List ℕ)) (buffer : List ℕ) (headers : List HeaderSpan) (found : FoundHead) :
+    Type 0 where
   pub head : RequestHead
   pub rest : List ℕ
   pub is_head : IsHead bytes head rest

@@ -22,8 +22,10 @@ asks-by b head asked after (Err NoInput) same asks = asks
 asks-by b head asked after (Err Lost) same asks = tt
 asks-by b head asked after (Err NoMemory) same asks = tt
 
-pub asks-by-known : (b : Building) (head : RequestHead) (asked : RouteAndLength) (begun start : List ℕ) (left : Option (List ℕ)) (told : Result Request Unread)
-    → route_asked head ≡ Ok asked → begun ≡ start → IfSome left (λ l. Asks b asked (begun ++ l) told) → IfSome left (λ l. AsksBy b head (start ++ l) told)
+pub asks-by-known : (b : Building) (head : RequestHead) (asked : RouteAndLength) (begun start : List ℕ) (left : Option (List ℕ))
+    (told : Result Request Unread)
+    → route_asked head ≡ Ok asked → begun ≡ start → IfSome left (λ l. Asks b asked (begun ++ l) told)
+    → IfSome left (λ l. AsksBy b head (start ++ l) told)
 asks-by-known b head asked begun start None told same from asks = tt
 asks-by-known b head asked begun start (Some l) told same from asks = asks-by b head asked (start ++ l) told same (rw (sym from) asks)
 
@@ -39,7 +41,8 @@ reads-by b bytes after head (Err NoInput) some is asks = absurd asks
 reads-by b bytes after head (Err Lost) some is asks = tt
 reads-by b bytes after head (Err NoMemory) some is asks = some
 
-pub reads-head : (b : Building) (before now : Option (List ℕ)) (buffer : List ℕ) (headers : List HeaderSpan) (found : FoundHead) (told : Result Request Unread)
+pub reads-head : (b : Building) (before now : Option (List ℕ)) (buffer : List ℕ) (headers : List HeaderSpan) (found : FoundHead)
+    (told : Result Request Unread)
     → IfSome before (λ bytes. Sees bytes now buffer headers (Head found))
     → ((head : RequestHead) → IsRequestAt (take found.filled buffer) headers found.spans head
     → IfSome now (λ left. AsksBy b head (drop found.spans.len (take found.filled buffer) ++ left) told))

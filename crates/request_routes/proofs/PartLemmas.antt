@@ -29,7 +29,8 @@ abbrev part_or_none : List (Text × Text) → Text
 part_or_none [] = []
 part_or_none (pair ∷ rest) = pair.1
 
-ascii-walk : (pattern text target : Text) (names : List (ℕ × ℕ)) → IsAscii target → IsAscii (part_or_none (walk pattern text target names 0 0))
+ascii-walk : (pattern text target : Text) (names : List (ℕ × ℕ)) → IsAscii target
+    → IsAscii (part_or_none (walk pattern text target names 0 0))
 ascii-walk pattern text target [] ascii = IsAscii-nil
 ascii-walk pattern text target (name ∷ names) ascii = ascii-part target _ _ ascii
 

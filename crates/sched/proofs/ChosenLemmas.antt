@@ -15,7 +15,8 @@ module _ {A : Type 0} where
   list_all-follows : (one two : A → Bool) (xs : List A) → ((x : A) → one x ≡ true → two x ≡ true) → list_all one xs ≡ true
       → list_all two xs ≡ true
   list_all-follows one two [] follows all = refl
-  list_all-follows one two (x ∷ xs) follows all = and_from _ _ (follows x (and_parts _ _ all).0) (list_all-follows one two xs follows (and_parts _ _ all).1)
+  list_all-follows one two (x ∷ xs) follows all =
+      and_from _ _ (follows x (and_parts _ _ all).0) (list_all-follows one two xs follows (and_parts _ _ all).1)
 
   -- what one pass keeps of the best so far and the next element
   abbrev pub kept : (A → Bool) → (A → A → Bool) → Option A → A → Option A
@@ -83,12 +84,14 @@ module _ {A : Type 0} (passes : A → Bool) (gives_way : A → A → Bool) (sett
   }
 
   -- what gave way to it, or failed, does so to the next one
-  still_gives : (best x : A) → gives_way best x ≡ true → (q : A) → earlier passes gives_way best q ≡ true → earlier passes gives_way x q ≡ true
+  still_gives : (best x : A) → gives_way best x ≡ true → (q : A) → earlier passes gives_way best q ≡ true
+      → earlier passes gives_way x q ≡ true
   still_gives best x gives q e =
       ⊎_elim (λ fails. or_left _ _ fails) (λ gave. or_right _ _ (settles.onward q best x gave gives)) (or_cases _ _ e)
 
   -- and so does what it did not give way to
-  gives_at_last : (best x : A) → gives_way best x ≡ true → (q : A) → later passes gives_way best q ≡ true → earlier passes gives_way x q ≡ true
+  gives_at_last : (best x : A) → gives_way best x ≡ true → (q : A) → later passes gives_way best q ≡ true
+      → earlier passes gives_way x q ≡ true
   gives_at_last best x gives q e =
       ⊎_elim (λ fails. or_left _ _ fails) (λ stood. or_right _ _ (settles.past best q x (not-true _ stood) gives)) (or_cases _ _ e)
 
@@ -100,7 +103,8 @@ module _ {A : Type 0} (passes : A → Bool) (gives_way : A → A → Bool) (sett
     after = [];
     split = refl;
     passes_it = passed;
-    earlier_ones = ap (list_all (earlier passes gives_way x)) is.split ∙ list_all-append (earlier passes gives_way x) is.before (best ∷ is.after)
+    earlier_ones =
+        ap (list_all (earlier passes gives_way x)) is.split ∙ list_all-append (earlier passes gives_way x) is.before (best ∷ is.after)
         ∙ and_from _ _
         (list_all-follows (earlier passes gives_way best) (earlier passes gives_way x) is.before (still_gives best x gives) is.earlier_ones)
         (and_from _ _ (or_right _ _ gives)
@@ -138,7 +142,8 @@ module _ {A : Type 0} (passes : A → Bool) (gives_way : A → A → Bool) where
   not_later y best passed passed_best gives = rw (passed_best, gives) refl
 
   -- no element before the best is chosen
-  not_chosen : (before : List A) (y : A) (ys : List A) (best : A) (after : List A) → passes best ≡ true → earlier passes gives_way best y ≡ true
+  not_chosen : (before : List A) (y : A) (ys : List A) (best : A) (after : List A) → passes best ≡ true
+      → earlier passes gives_way best y ≡ true
       → is_chosen passes gives_way before y (ys ++ best ∷ after) ≡ false
   not_chosen before y ys best after passed_best gives =
       elim (cases_Bool (is_chosen passes gives_way before y (ys ++ best ∷ after))) [
@@ -156,7 +161,8 @@ module _ {A : Type 0} (passes : A → Bool) (gives_way : A → A → Bool) where
       → chosen_from passes gives_way before (ys ++ best ∷ after) ≡ Some best
   chosen_from-found before [] best after passed_best before_all after_all =
       let here : is_chosen passes gives_way before best after ≡ true =
-      and_from _ _ passed_best (and_from _ _ (ap (list_all (earlier passes gives_way best)) (sym (append-nil before)) ∙ before_all) after_all) in
+      and_from _ _ passed_best (and_from _ _ (ap (list_all (earlier passes gives_way best)) (sym (append-nil before)) ∙ before_all)
+      after_all) in
       rw here refl
   chosen_from-found before (y ∷ ys) best after passed_best before_all after_all =
       let gives = last_holds (earlier passes gives_way best) before y ys before_all in
@@ -179,7 +185,8 @@ module _ {A : Type 0} (passes : A → Bool) (gives_way : A → A → Bool) where
   unfolding chosen Best
   chosen-Best xs None is = chosen_from-none [] xs is
   chosen-Best xs (Some best) is =
-      ap (chosen_from passes gives_way []) is.split ∙ chosen_from-found [] is.before best is.after is.passes_it is.earlier_ones is.later_ones
+      ap (chosen_from passes gives_way []) is.split
+      ∙ chosen_from-found [] is.before best is.after is.passes_it is.earlier_ones is.later_ones
 
   -- the one pass finds the chosen element
   pub chosen-best_from : Settles gives_way → (xs : List A) → chosen passes gives_way xs ≡ best_from passes gives_way None xs
@@ -188,7 +195,8 @@ module _ {A : Type 0} (passes : A → Bool) (gives_way : A → A → Bool) where
 
   pub chosen-is_best : Settles gives_way → (xs : List A) → Best passes gives_way xs (chosen passes gives_way xs)
   unfolding Best AllFail
-  chosen-is_best settles xs = subst (Best passes gives_way xs) (sym (chosen-best_from settles xs)) (Best-all passes gives_way settles [] None xs refl)
+  chosen-is_best settles xs =
+      subst (Best passes gives_way xs) (sym (chosen-best_from settles xs)) (Best-all passes gives_way settles [] None xs refl)
 
 module _ {A : Type 0} (one two : A → Bool) (gives_way : A → A → Bool) where
   kept-agree : (best : Option A) (x : A) → one x ≡ two x → kept one gives_way best x ≡ kept two gives_way best x
@@ -208,7 +216,8 @@ module _ {A : Type 0} (one two : A → Bool) (gives_way : A → A → Bool) wher
       → (xs : List A) → list_all agree xs ≡ true
       → chosen one gives_way xs ≡ chosen two gives_way xs
   chosen-agree settles agree follows xs all =
-      chosen-best_from one gives_way settles xs ∙ best_from-agree agree follows None xs all ∙ sym (chosen-best_from two gives_way settles xs)
+      chosen-best_from one gives_way settles xs ∙ best_from-agree agree follows None xs all
+      ∙ sym (chosen-best_from two gives_way settles xs)
 
 -- what holds of an option's value, if it has one
 abbrev pub holds_if : {A : Type 0} → (A → Bool) → Option A → Bool

@@ -19,7 +19,8 @@ module _ {A : Type 0} where
   at_before (x ∷ before) rest zero below = refl
   at_before (x ∷ before) rest (suc k) below = at_before before rest k (omega (arith, below))
 
-  at_after : (before : List A) (x : A) (after : List A) (k : ℕ) → slice_get (before ++ x ∷ after) (suc (length before + k)) ≡ slice_get after k
+  at_after : (before : List A) (x : A) (after : List A) (k : ℕ)
+      → slice_get (before ++ x ∷ after) (suc (length before + k)) ≡ slice_get after k
   at_after [] x after k = let start : 0 + k ≡ k = omega arith in ap (λ n. slice_get (x ∷ after) (suc n)) start
   at_after (y ∷ before) x after k =
       let next : suc (length before) + k ≡ suc (length before + k) = omega arith in
@@ -53,7 +54,8 @@ module _ {A : Type 0} (passes : A → Bool) (gives_way : A → A → Bool) (Befo
         let cut : slice_get (is.before ++ x ∷ is.after) k ≡ Some y = ap (λ s. slice_get s k) (sym is.split) ∙ at in
         ⊎_elim
         (λ below. orders.gave y x k (length is.before) below
-        (else_of y _ passed (all_at (earlier passes gives_way x) is.before y k is.earlier_ones (sym (at_before is.before (x ∷ is.after) k below) ∙ cut))))
+        (else_of y _ passed (all_at (earlier passes gives_way x) is.before y k is.earlier_ones
+        (sym (at_before is.before (x ∷ is.after) k below) ∙ cut))))
         (λ from.
         let past = k - suc (length is.before) in
         let place : k ≡ suc (length is.before + past) = omega (arith, from, other) in

@@ -37,7 +37,8 @@ module _ (value : ℕ → Option ℤ) (c : ℕ) where
       ∙ (λ i. filter-below n (omega arith) i ++ filter-segment_at n true within i)
 
   filter-past : (k : ℕ) → filter (up_to c) (segments_below value (suc c + k)) ≡ segments_below value (suc c)
-  filter-past zero = let e : suc c + 0 ≡ suc c = omega arith in ap (λ n. filter (up_to c) (segments_below value n)) e ∙ filter-below (suc c) (omega arith)
+  filter-past zero =
+      let e : suc c + 0 ≡ suc c = omega arith in ap (λ n. filter (up_to c) (segments_below value n)) e ∙ filter-below (suc c) (omega arith)
   filter-past (suc k) =
       let e : suc c + suc k ≡ suc (suc c + k) = omega arith in
       let past : nat_le (suc c + k) c ≡ false = grind (arith, nat_tests) in

@@ -32,7 +32,8 @@ apart c x = not (x.time == c)
 
 all_apart : (list : List TimeValue) (c : ℕ) → is_among c (times_of list) ≡ false → list_all (apart c) list ≡ true
 all_apart [] c none = refl
-all_apart (x ∷ list) c none = and_from _ _ (not_from_false _ (or_parts (x.time == c) _ none).0) (all_apart list c (or_parts (x.time == c) _ none).1)
+all_apart (x ∷ list) c none =
+    and_from _ _ (not_from_false _ (or_parts (x.time == c) _ none).0) (all_apart list c (or_parts (x.time == c) _ none).1)
 
 latest-quiet : (list : List TimeValue) (c : ℕ) → is_among (suc c) (times_of list) ≡ false → latest list (suc c) ≡ latest list c
 unfolding latest
@@ -64,7 +65,8 @@ all_quiet : (calendars : List Calendar) (day : Date) (c : ℕ) (exceptions : Lis
     → is_among c (flat_map (exception_times calendars day) exceptions) ≡ false → list_all (quiet_at calendars day c) exceptions ≡ true
 all_quiet calendars day c [] none = refl
 all_quiet calendars day c (x ∷ xs) none =
-    let parts = sym (list_any-append (λ t. t == c) (exception_times calendars day x) (flat_map (exception_times calendars day) xs)) ∙ none in
+    let parts =
+    sym (list_any-append (λ t. t == c) (exception_times calendars day x) (flat_map (exception_times calendars day) xs)) ∙ none in
     and_from _ _ (not_from_false _ (or_parts (is_among c (exception_times calendars day x)) _ parts).0)
     (all_quiet calendars day c xs (or_parts (is_among c (exception_times calendars day x)) _ parts).1)
 
@@ -92,7 +94,8 @@ same_said calendars day c exceptions quiet =
     rw same (value_eq-same (list_value x.times c))) exceptions quiet
 
 same_value_of : (chosen : Option Exception) (c : ℕ) → holds_if (says_the_same c) chosen ≡ true
-    → option_and_then (λ (x : Exception). list_value x.times (suc c)) chosen ≡ option_and_then (λ (x : Exception). list_value x.times c) chosen
+    → option_and_then (λ (x : Exception). list_value x.times (suc c)) chosen
+    ≡ option_and_then (λ (x : Exception). list_value x.times c) chosen
 same_value_of None c e = refl
 same_value_of (Some x) c e = same_values _ _ e
 

@@ -86,7 +86,8 @@ module _ (value : ℕ → Option ℤ) where
   last_value-below zero = last_value-push [] (record { time = 0; value = value 0 })
   last_value-below (suc c) = elim (cases_Bool (value_eq (value c) (value (suc c)))) [
     | inl same ↦
-        let stays : segments_below value (suc (suc c)) ≡ segments_below value (suc c) = rw same (append-nil (segments_below value (suc c))) in
+        let stays : segments_below value (suc (suc c)) ≡ segments_below value (suc c) =
+        rw same (append-nil (segments_below value (suc c))) in
         ap last_value stays ∙ last_value-below c ∙ ap Some (same_values (value c) (value (suc c)) same)
     | inr other ↦
         let next : TimeValue = record { time = suc c; value = value (suc c) } in

@@ -108,9 +108,14 @@ schedule_of schedule calendars day time v None (Some w) none weekday is =
       λ null. none-some w (sym (is ∙ null)),
     ))
 schedule_of schedule calendars day time v None None none weekday is =
-    inr (inr (chosen-none_passes (speaks calendars day time) gives_way_to_lower IsHigher higher_orders schedule.exceptions none, weekday, is))
+    inr (inr (
+      chosen-none_passes (speaks calendars day time) gives_way_to_lower IsHigher higher_orders schedule.exceptions none,
+      weekday,
+      is,
+    ))
 
-by_exception : (schedule : Schedule) (calendars : List Calendar) (day : Date) (time : ℕ) (v : Option ℤ) → ByException schedule calendars day time v
+by_exception : (schedule : Schedule) (calendars : List Calendar) (day : Date) (time : ℕ) (v : Option ℤ)
+    → ByException schedule calendars day time v
     → schedule_value schedule calendars day time ≡ v
 unfolding exception_now schedule_value
 by_exception schedule calendars day time v by =
@@ -122,7 +127,8 @@ by_exception schedule calendars day time v by =
     ap (λ o. first_value (option_and_then (λ (y : Exception). list_value y.times time) o) rest) found
     ∙ some_first (list_value x.times time) rest says ∙ by.2
 
-no_exception : (schedule : Schedule) (calendars : List Calendar) (day : Date) (time : ℕ) → NonePasses (speaks calendars day time) schedule.exceptions
+no_exception : (schedule : Schedule) (calendars : List Calendar) (day : Date) (time : ℕ)
+    → NonePasses (speaks calendars day time) schedule.exceptions
     → schedule_value schedule calendars day time ≡ first_value (list_value (weekday_list schedule day) time) schedule.default
 unfolding exception_now schedule_value
 no_exception schedule calendars day time none =
@@ -130,13 +136,15 @@ no_exception schedule calendars day time none =
     ap (λ o. first_value (option_and_then (λ (y : Exception). list_value y.times time) o) rest)
     (none_passes-chosen (speaks calendars day time) gives_way_to_lower IsHigher higher_orders schedule.exceptions none)
 
-by_weekday : (schedule : Schedule) (calendars : List Calendar) (day : Date) (time : ℕ) (v : Option ℤ) → ByWeekday schedule calendars day time v
+by_weekday : (schedule : Schedule) (calendars : List Calendar) (day : Date) (time : ℕ) (v : Option ℤ)
+    → ByWeekday schedule calendars day time v
     → schedule_value schedule calendars day time ≡ v
 by_weekday schedule calendars day time v by =
     no_exception schedule calendars day time by.0
     ∙ ap (λ o. first_value o schedule.default) by.1 ∙ other_first v schedule.default by.2
 
-by_default : (schedule : Schedule) (calendars : List Calendar) (day : Date) (time : ℕ) (v : Option ℤ) → ByDefault schedule calendars day time v
+by_default : (schedule : Schedule) (calendars : List Calendar) (day : Date) (time : ℕ) (v : Option ℤ)
+    → ByDefault schedule calendars day time v
     → schedule_value schedule calendars day time ≡ v
 by_default schedule calendars day time v by =
     no_exception schedule calendars day time by.0 ∙ ap (λ o. first_value o schedule.default) by.1 ∙ by.2
@@ -144,6 +152,8 @@ by_default schedule calendars day time v by =
 pub schedule_value-cases : ValueIsByThreeCases
 unfolding schedule_value
 schedule_value-cases schedule calendars day time v = (
-  schedule_of schedule calendars day time v (exception_now calendars day time schedule.exceptions) (list_value (weekday_list schedule day) time) refl refl,
-  ⊎_elim (by_exception schedule calendars day time v) (⊎_elim (by_weekday schedule calendars day time v) (by_default schedule calendars day time v)),
+  schedule_of schedule calendars day time v (exception_now calendars day time schedule.exceptions)
+      (list_value (weekday_list schedule day) time) refl refl,
+  ⊎_elim (by_exception schedule calendars day time v)
+      (⊎_elim (by_weekday schedule calendars day time v) (by_default schedule calendars day time v)),
 )

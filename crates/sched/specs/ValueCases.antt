@@ -47,7 +47,8 @@ ByWeekday schedule calendars day time v =
 -- no list has a value other than NULL, and the default is the value
 abbrev pub ByDefault : Schedule → List Calendar → Date → ℕ → Option ℤ → Type 0
 ByDefault schedule calendars day time v =
-    NonePasses (speaks calendars day time) schedule.exceptions × (list_value (weekday_list schedule day) time ≡ None) × (schedule.default ≡ v)
+    NonePasses (speaks calendars day time) schedule.exceptions × (list_value (weekday_list schedule day) time ≡ None)
+    × (schedule.default ≡ v)
 
 -- the law of a list's value
 abbrev pub ListValueIsTheLatest : Type 0

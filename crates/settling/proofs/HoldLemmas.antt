@@ -45,7 +45,8 @@ any_at g x (y ∷ ys) found holds = elim (cases_Bool (bytes_eq x y)) [
   | inr apart ↦ or-right (g y) (list_any g ys) (any_at g x ys (ap (λ b. b || list_any (bytes_eq x) ys) (sym apart) ∙ found) holds)
 ]
 
-any_among : (g : Text → Bool) (xs ys : List Text) → ((text : Text) → list_any (bytes_eq text) xs ≡ true → list_any (bytes_eq text) ys ≡ true)
+any_among : (g : Text → Bool) (xs ys : List Text)
+    → ((text : Text) → list_any (bytes_eq text) xs ≡ true → list_any (bytes_eq text) ys ≡ true)
     → list_any g xs ≡ true → list_any g ys ≡ true
 any_among g [] ys among holds = absurd (false≢true holds)
 any_among g (x ∷ xs) ys among holds = elim (cases_Bool (g x)) [
@@ -90,7 +91,8 @@ cons-any : (day : Date) (read : Option Entry) (entries : List Entry)
 cons-any day None entries = refl
 cons-any day (Some entry) entries = refl
 
-entries_of-any : (day : Date) (texts : List Text) → list_any (λ entry. holds_on entry day) (entries_of texts) ≡ list_any (read_holds day) texts
+entries_of-any : (day : Date) (texts : List Text)
+    → list_any (λ entry. holds_on entry day) (entries_of texts) ≡ list_any (read_holds day) texts
 entries_of-any day [] = refl
 entries_of-any day (text ∷ texts) =
     cons-any day (result_ok (reading text)) (entries_of texts) ∙ ap (λ b. read_holds day text || b) (entries_of-any day texts)
@@ -99,7 +101,8 @@ kept-any : (day : Date) (kept : List Entry) → All IsEntry kept
     → list_any (λ entry. holds_on entry day) kept ≡ list_any (read_holds day) (map spelling kept)
 kept-any day [] all = refl
 kept-any day (entry ∷ kept) all =
-    ap₂ (λ a b. a || b) (sym (spelled_holds day entry (All-head IsEntry entry kept all))) (kept-any day kept (All-tail IsEntry entry kept all))
+    ap₂ (λ a b. a || b) (sym (spelled_holds day entry (All-head IsEntry entry kept all)))
+    (kept-any day kept (All-tail IsEntry entry kept all))
 
 -- what the store keeps for a calendar holds as what is imported
 kept-holds : (table : Text → Text → Bool) (imported : Text → List Text) (calendar : Text) (kept : List Entry) (day : Date)
@@ -111,7 +114,8 @@ kept-holds table imported calendar kept day are all tells =
     (λ member. contained-any text (map spelling kept) ((are.each text).1 (tells calendar text ∙ member))))
 
 items-hold : (calendar : Text) (day : Date) (items : List ImportedEntry) → All (λ (item : ImportedEntry). IsEntry item.entry) items
-    → list_any (λ item. bytes_eq item.calendar calendar && holds_on item.entry day) items ≡ list_any (read_holds day) (texts_for calendar items)
+    → list_any (λ item. bytes_eq item.calendar calendar && holds_on item.entry day) items
+    ≡ list_any (read_holds day) (texts_for calendar items)
 items-hold calendar day [] all = refl
 items-hold calendar day (item ∷ items) all = elim (cases_Bool (bytes_eq item.calendar calendar)) [
   | inl here ↦ rw here (ap₂ (λ a b. a || b) (sym (spelled_holds day item.entry first)) (items-hold calendar day items rest))

@@ -17,7 +17,8 @@ rest-first : {A : Type 0} (xs : List A) (i : ℕ) (x : A) → i < length xs → 
 rest-first xs i x within is = drop_more xs i x within ∙ ap (λ first. first ∷ drop (i + 1) xs) (sym is)
 
 -- one item more of a list whose items each add theirs, before what the rest add
-pub each-more : {A B : Type 0} (f : A → List B) (xs : List A) (i : ℕ) (x : A) (so_far more whole : List B) → i < length xs → x ≡ get_or xs i x
+pub each-more : {A B : Type 0} (f : A → List B) (xs : List A) (i : ℕ) (x : A) (so_far more whole : List B) → i < length xs
+    → x ≡ get_or xs i x
     → more ≡ so_far ++ f x → so_far ++ flat_map f (drop i xs) ≡ whole → more ++ flat_map f (drop (i + 1) xs) ≡ whole
 each-more f xs i x so_far more whole within is adds before =
     ap (λ all. all ++ flat_map f (drop (i + 1) xs)) adds
@@ -59,5 +60,7 @@ pub priority-first : (schedules : List NamedSchedule) (i : ℕ) (s : NamedSchedu
     → IsTrue (is_write_priority s.priority)
     × IsTrue (list_all (λ (schedule : NamedSchedule). is_write_priority schedule.priority) (drop (i + 1) schedules))
 priority-first schedules i s within is all =
-    let split = ap (list_all (λ (schedule : NamedSchedule). is_write_priority schedule.priority)) (sym (rest-first schedules i s within is)) ∙ all in
+    let split =
+    ap (list_all (λ (schedule : NamedSchedule). is_write_priority schedule.priority)) (sym (rest-first schedules i s within is))
+    ∙ all in
     (both-left (is_write_priority s.priority) _ split, both-right (is_write_priority s.priority) _ split)

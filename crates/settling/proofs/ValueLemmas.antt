@@ -26,7 +26,8 @@ use Rattle.settling.specs.Settled.{put_by, shown_by, shows, told, value_of, writ
 use Rattle.settling.specs.Turns.{now_at}
 
 holds-mapped : (day : Date) (calendar : Option Calendar)
-    → option_map_or (λ c. calendar_holds c day) calendar false ≡ option_map_or (λ b. b) (option_map (λ c. calendar_holds c day) calendar) false
+    → option_map_or (λ c. calendar_holds c day) calendar false
+    ≡ option_map_or (λ b. b) (option_map (λ c. calendar_holds c day) calendar) false
 holds-mapped day None = refl
 holds-mapped day (Some calendar) = refl
 
@@ -37,7 +38,8 @@ holds_at day calendars place =
     holds-mapped day (slice_get calendars place)
     ∙ ap (λ o. option_map_or (λ b. b) o false) (sym (slice_get-map (λ c. calendar_holds c day) calendars place))
 
-in_period-same : (day : Date) (cs ds : List Calendar) → hold_on day cs ≡ hold_on day ds → (p : Period) → in_period cs day p ≡ in_period ds day p
+in_period-same : (day : Date) (cs ds : List Calendar) → hold_on day cs ≡ hold_on day ds → (p : Period)
+    → in_period cs day p ≡ in_period ds day p
 in_period-same day cs ds same (period.Entry entry) = refl
 in_period-same day cs ds same (period.Calendar id) =
     holds_at day cs id.place ∙ (ap (λ bs. option_map_or (λ b. b) (slice_get bs id.place) false) same ∙ sym (holds_at day ds id.place))
@@ -68,7 +70,8 @@ shown_by-same : (cs ds : List Calendar) (local : LocalTime) (shown : Shown) → 
     → shown_by (now_at cs local) shown ≡ shown_by (now_at ds local) shown
 unfolding is_due falls_quiet
 shown_by-same cs ds local shown same = fun_ext (λ (s : NamedSchedule).
-    ap (λ value. cond (is_active_now (now_at cs local) s && not (shows (shown s.name) value)) (record { schedule = s.name; shown = Some value } ∷ [])
+    ap (λ value. cond (is_active_now (now_at cs local) s && not (shows (shown s.name) value))
+    (record { schedule = s.name; shown = Some value } ∷ [])
     (cond (not (is_active_now (now_at cs local) s) && is_some (shown s.name)) (record { schedule = s.name; shown = None } ∷ []) []))
     (value_of-same cs ds local same s))
 

@@ -50,11 +50,14 @@ pub record Grows (before after : Schema) (table : Table) : Type 0 where
   pub is : created before (record table { tree = 0 }) ≡ after
   pub plain : lacks_sequence after ≡ false
 
-module _ (before after : Schema) (sql : List ℕ) (table : Table) (text : MakesTable before sql table) (grows : Grows before after table) where
+module _ (before after : Schema) (sql : List ℕ) (table : Table) (text : MakesTable before sql table)
+    (grows : Grows before after table) where
   creates : (old new : State) (count : ℕ) → old.now.schema ≡ before → Executes sql [] old new (Ok count)
       → (new.now.schema ≡ after) × (new.now.trees (next_tree before) ≡ []) × KeepsRows before.tables old.now.trees new.now.trees
   creates old new count has h =
-      let w = subst (λ t. Writes old new None CreateTable t [] count) text.statement (runs_as sql [] old new before has CreateTable text.command text.plain count h) in
+      let w =
+      subst (λ t. Writes old new None CreateTable t [] count) text.statement
+      (runs_as sql [] old new before has CreateTable text.command text.plain count h) in
       let all = went w.changed in
       let first = went all.1 in
       let made = first.1 in
@@ -65,7 +68,8 @@ module _ (before after : Schema) (sql : List ℕ) (table : Table) (text : MakesT
       let now : new.now ≡ first.0 = ap (λ (p : Tally × Database). p.1) (same_value all.2) ∙ same_value (rw plain at first.2) in (
         ap (λ (d : Database). d.schema) now ∙ schema,
         ap (λ (d : Database). d.trees (next_tree before)) now ∙ subst (λ s. first.0.trees (next_tree s) ≡ []) has made.empty,
-        subst (λ (d : Database). KeepsRows before.tables old.now.trees d.trees) (sym now) (subst (λ (s : Schema). KeepsRows s.tables old.now.trees first.0.trees) has made.others),
+        subst (λ (d : Database). KeepsRows before.tables old.now.trees d.trees) (sym now)
+            (subst (λ (s : Schema). KeepsRows s.tables old.now.trees first.0.trees) has made.others),
       )
 
   pub makes : (old new : State) (r : Result ℕ Error) → IsInside before old → (IsTrue old.in_transaction → ExecutesInside 0 sql [] old new r)
@@ -123,10 +127,12 @@ module _ (old new : State) (r : Result ℕ Error) where
 
 module _ {S : Type 0} (g : Ghosts S) (old new : Held S) where
   pub execution_keeps : (sql : List ℕ) (e : Error) (r : Result ℕ Error) → ((state g old).in_transaction ≡ false → (r ≡ Err e) × (new ≡ old))
-      → (IsTrue (state g old).in_transaction → ExecutesInside 0 sql [] (state g old) (state g new) r) → KeepsCommit (state g old) (state g new)
+      → (IsTrue (state g old).in_transaction → ExecutesInside 0 sql [] (state g old) (state g new) r)
+      → KeepsCommit (state g old) (state g new)
   execution_keeps sql e r ended h = elim (cases_Bool old.in_transaction) [
     | inl inside ↦ inside_keeps (state g old) (state g new) 0 false sql [] r (h inside)
-    | inr outside ↦ subst (λ k. KeepsCommit (state g old) (state g k)) (sym (ended outside).1) (record { was_open = λ is_open. is_open; committed = λ _. refl })
+    | inr outside ↦ subst (λ k. KeepsCommit (state g old) (state g k)) (sym (ended outside).1)
+        (record { was_open = λ is_open. is_open; committed = λ _. refl })
   ]
 
 pub survives_on : (a b c : State) → Survives a b (λ _. ⊥) → Survives b c (λ _. ⊥) → Survives a c (λ _. ⊥)
@@ -155,7 +161,8 @@ next_is_empty : (before after : Schema) (table : Table) → after.tables ≡ bef
 next_is_empty before after table is at old new none made = record {
   inside = record { mode = made.shown.mode; schema_is = made.schema_is };
   empty = subst (AllByRecursion (λ t. new.now.trees t.tree ≡ [])) (sym is)
-      (empty_more before.tables table new.now.trees (empty_kept before.tables old.now.trees new.now.trees none.empty made.others) (ap new.now.trees at ∙ made.empty));
+      (empty_more before.tables table new.now.trees (empty_kept before.tables old.now.trees new.now.trees none.empty made.others)
+      (ap new.now.trees at ∙ made.empty));
 }
 
 module _ (old new : State) where
@@ -182,7 +189,8 @@ module _ (old new : State) where
 abbrev pub first_row_text : List ℕ
 first_row_text = codes "INSERT INTO desk (id, version, last) VALUES (1, 2, NULL)"
 
-insert_is : command_of (understood desk_schema first_row_text) ≡ Insert 0 (Values (lit (Int (pos 1)) ∷ lit Null ∷ lit (Int (pos 2)) ∷ lit Null ∷ []) 4)
+insert_is : command_of (understood desk_schema first_row_text)
+    ≡ Insert 0 (Values (lit (Int (pos 1)) ∷ lit Null ∷ lit (Int (pos 2)) ∷ lit Null ∷ []) 4)
 unfolding understood everything
 insert_is = refl
 
@@ -219,19 +227,24 @@ adds old new count has none h =
     let command = Insert 0 (Values (lit (Int (pos 1)) ∷ lit Null ∷ lit (Int (pos 2)) ∷ lit Null ∷ []) 4) in
     let w = runs_as first_row_text [] old new desk_schema has command insert_is insert_plain count h in
     let text = statement_of first_row_text (understood desk_schema first_row_text) in
-    let done = went (subst (λ s. Does old.step_limit (mode_of old) [] (record old.now { schema = s }) text None command (Ok (w.tally, new.now))) has w.changed) in
+    let done =
+    went (subst (λ s. Does old.step_limit (mode_of old) [] (record old.now { schema = s }) text None command
+    (Ok (w.tally, new.now))) has w.changed) in
     let now = ap (λ (p : Tally × Database). p.1) (same_value (went (went done.2).2).2) in
     let given = went done.1 in
     let written = went (went given.2).2 in
     let counted = went written.2 in
     let trees : done.0.trees ≡ written.0 = ap (λ (it : Written). it.trees) (same_value counted.2) ∙ same_value counted.1 in
     let step = one_step desk_schema _ db written.0 (edit_of db desk_table [] Chosen 0 given.0) refl written.1 in
-    let edit : edited db (edit_of db desk_table [] Chosen 0 given.0) ≡ first_desk_row ∷ [] = ap (λ all. edited db (edit_of db desk_table [] Chosen 0 all)) given.1.1 ∙ rw (none, cast_null, cast_one, cast_two) in
+    let edit : edited db (edit_of db desk_table [] Chosen 0 given.0) ≡ first_desk_row ∷ [] =
+    ap (λ all. edited db (edit_of db desk_table [] Chosen 0 all)) given.1.1 ∙ rw (none, cast_null, cast_one, cast_two) in
     let all : new.now.trees ≡ written.0 = ap (λ (d : Database). d.trees) now ∙ trees in
     record {
       schema_is = ap (λ (d : Database). d.schema) now;
       rows = ap (λ (t : Trees). t 0) all ∙ step.rows ∙ edit;
-      others = subst (λ (t : Trees). AllByRecursion (λ table. table.tree ≢ 0 → t table.tree ≡ db table.tree) desk_schema.tables) (sym all) step.tables;
+      others =
+          subst (λ (t : Trees). AllByRecursion (λ table. table.tree ≢ 0 → t table.tree ≡ db table.tree) desk_schema.tables)
+          (sym all) step.tables;
     }
 
 pub first_row_is_made : (old new : State) (r : Result ℕ Error) → IsEmptyAs desk_schema old

@@ -34,7 +34,8 @@ abbrev pub imported_tree : ℕ
 imported_tree = 9
 
 abbrev pub column_of : List ℕ → Kind → Bool → Column
-column_of name kind not_null = record { name = name; kind = kind; is_strict = true; not_null = not_null; default = Null; collation = Binary }
+column_of name kind not_null =
+    record { name = name; kind = kind; is_strict = true; not_null = not_null; default = Null; collation = Binary }
 
 -- a column of the row compared with a number
 abbrev pub compared : CompareOp → ℕ → ℕ → Term
@@ -77,23 +78,33 @@ keyed_table name tree columns key checks = record {
 }
 
 abbrev pub panel_table : Table
-panel_table = keyed_table (codes "panel") panel_tree (column_of (codes "name") Text true ∷ column_of (codes "next") Integer true ∷ []) (1 ∷ []) (compared Ge 2 1 ∷ [])
+panel_table =
+    keyed_table (codes "panel") panel_tree (column_of (codes "name") Text true ∷ column_of (codes "next") Integer true ∷ [])
+    (1 ∷ []) (compared Ge 2 1 ∷ [])
 
 abbrev pub command_table : Table
 command_table = keyed_table (codes "command") command_tree
-    (column_of (codes "panel") Text true ∷ column_of (codes "number") Integer true ∷ column_of (codes "point") Text true ∷ column_of (codes "priority") Integer true
-    ∷ column_of (codes "value") Integer false ∷ column_of (codes "state") Integer true ∷ column_of (codes "a") Integer false ∷ column_of (codes "b") Integer false ∷ [])
+    (column_of (codes "panel") Text true ∷ column_of (codes "number") Integer true ∷ column_of (codes "point") Text true
+    ∷ column_of (codes "priority") Integer true
+    ∷ column_of (codes "value") Integer false ∷ column_of (codes "state") Integer true ∷ column_of (codes "a") Integer false
+    ∷ column_of (codes "b") Integer false ∷ [])
     (1 ∷ 2 ∷ []) (both (compared Ge 6 0) (compared Le 6 2) ∷ [])
 
 abbrev pub place_table : Table
-place_table = keyed_table (codes "place") place_tree (column_of (codes "point") Text true ∷ column_of (codes "priority") Integer true ∷ column_of (codes "value") Integer true ∷ [])
+place_table =
+    keyed_table (codes "place") place_tree (column_of (codes "point") Text true ∷ column_of (codes "priority") Integer true
+    ∷ column_of (codes "value") Integer true ∷ [])
     (1 ∷ 2 ∷ []) (both (compared Ge 2 1) (compared Le 2 16) ∷ [])
 
 abbrev pub shown_table : Table
-shown_table = keyed_table (codes "shown") shown_tree (column_of (codes "schedule") Text true ∷ column_of (codes "value") Integer false ∷ []) (1 ∷ []) []
+shown_table =
+    keyed_table (codes "shown") shown_tree (column_of (codes "schedule") Text true ∷ column_of (codes "value") Integer false ∷ [])
+    (1 ∷ []) []
 
 abbrev pub imported_table : Table
-imported_table = keyed_table (codes "imported") imported_tree (column_of (codes "calendar") Text true ∷ column_of (codes "entry") Text true ∷ []) (1 ∷ 2 ∷ []) []
+imported_table =
+    keyed_table (codes "imported") imported_tree (column_of (codes "calendar") Text true ∷ column_of (codes "entry") Text true ∷ [])
+    (1 ∷ 2 ∷ []) []
 
 -- the schema after so many of the tables were made
 abbrev pub schema_0 : Schema
@@ -106,7 +117,12 @@ abbrev pub schema_2 : Schema
 schema_2 = record { tables = desk_table ∷ panel_table ∷ []; indexes = automatic panel_table 0 (1 ∷ []) 2 ∷ []; views = [] }
 
 abbrev pub schema_3 : Schema
-schema_3 = record { tables = desk_table ∷ panel_table ∷ command_table ∷ []; indexes = automatic panel_table 0 (1 ∷ []) 2 ∷ automatic command_table 0 (1 ∷ 2 ∷ []) 4 ∷ []; views = [] }
+schema_3 =
+    record {
+      tables = desk_table ∷ panel_table ∷ command_table ∷ [];
+      indexes = automatic panel_table 0 (1 ∷ []) 2 ∷ automatic command_table 0 (1 ∷ 2 ∷ []) 4 ∷ [];
+      views = [];
+    }
 
 abbrev pub schema_4 : Schema
 schema_4 = record {
@@ -118,7 +134,9 @@ schema_4 = record {
 abbrev pub schema_5 : Schema
 schema_5 = record {
   tables = desk_table ∷ panel_table ∷ command_table ∷ place_table ∷ shown_table ∷ [];
-  indexes = automatic panel_table 0 (1 ∷ []) 2 ∷ automatic command_table 0 (1 ∷ 2 ∷ []) 4 ∷ automatic place_table 0 (1 ∷ 2 ∷ []) 6 ∷ automatic shown_table 0 (1 ∷ []) 8 ∷ [];
+  indexes =
+      automatic panel_table 0 (1 ∷ []) 2 ∷ automatic command_table 0 (1 ∷ 2 ∷ []) 4 ∷ automatic place_table 0 (1 ∷ 2 ∷ []) 6
+      ∷ automatic shown_table 0 (1 ∷ []) 8 ∷ [];
   views = [];
 }
 
@@ -126,7 +144,9 @@ schema_5 = record {
 abbrev pub desk_schema : Schema
 desk_schema = record {
   tables = desk_table ∷ panel_table ∷ command_table ∷ place_table ∷ shown_table ∷ imported_table ∷ [];
-  indexes = automatic panel_table 0 (1 ∷ []) 2 ∷ automatic command_table 0 (1 ∷ 2 ∷ []) 4 ∷ automatic place_table 0 (1 ∷ 2 ∷ []) 6 ∷ automatic shown_table 0 (1 ∷ []) 8
+  indexes =
+      automatic panel_table 0 (1 ∷ []) 2 ∷ automatic command_table 0 (1 ∷ 2 ∷ []) 4 ∷ automatic place_table 0 (1 ∷ 2 ∷ []) 6
+      ∷ automatic shown_table 0 (1 ∷ []) 8
       ∷ automatic imported_table 0 (1 ∷ 2 ∷ []) 10 ∷ [];
   views = [];
 }

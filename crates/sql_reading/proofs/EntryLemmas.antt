@@ -53,11 +53,13 @@ picked_next : (calendar after text : Text) (row : Row) → is_text calendar (col
     → IsBefore after text → is_next calendar after row ≡ true
 picked_next calendar after text row name cell past = and_from _ _ name (ap (is_after after) cell ∙ before_after after text past)
 
-module _ (calendar after : Text) (kept : Kept) (answer : List Row) (named : IsName calendar) (found : FindsLeast (is_next calendar after) 2 kept.imported answer) where
+module _ (calendar after : Text) (kept : Kept) (answer : List Row) (named : IsName calendar)
+    (found : FindsLeast (is_next calendar after) 2 kept.imported answer) where
   pub entry_none : answer ≡ [] → IsNextText (IsImported (tables_in kept) calendar) after None
   entry_none none text is past =
       let row = imported_row kept calendar text is in
-      passes_nothing (is_next calendar after) kept.imported row.0 (found.none none) row.1 (picked_next calendar after text row.0 row.2 row.3 past)
+      passes_nothing (is_next calendar after) kept.imported row.0 (found.none none) row.1
+      (picked_next calendar after text row.0 row.2 row.3 past)
 
   pub entry_some : (shown : Row) (more : List Row) (entry : Entry) → answer ≡ shown ∷ more → entry_in (column shown 0) ≡ Some entry
       → IsEntryAt (tables_in kept) calendar after entry
@@ -73,9 +75,13 @@ module _ (calendar after : Text) (kept : Kept) (answer : List Row) (named : IsNa
           least = λ other holds past before.
               let row = imported_row kept calendar other holds in
               let lowest = it.5 row.0 row.1 (picked_next calendar after other row.0 row.2 row.3 past) in
-              not_lt other (spelling entry) (ap is_lt (sym (value_cmp-Text other (spelling entry))) ∙ subst (λ v. is_lt (value_cmp v (TextCell (spelling entry))) ≡ false) row.3 (subst (λ v. is_lt (value_cmp (column row.0 2) v) ≡ false) text lowest)) before;
+              not_lt other (spelling entry) (ap is_lt (sym (value_cmp-Text other (spelling entry)))
+              ∙ subst (λ v. is_lt (value_cmp v (TextCell (spelling entry))) ≡ false) row.3
+              (subst (λ v. is_lt (value_cmp (column row.0 2) v) ≡ false) text lowest)) before;
         };
-        here = here_imported kept it.0 (record { calendar = calendar; entry = entry }) (contains_had kept.imported it.0 it.1) (rw (name_here calendar (column it.0 1) named both.0, told) refl);
+        here =
+            here_imported kept it.0 (record { calendar = calendar; entry = entry }) (contains_had kept.imported it.0 it.1)
+            (rw (name_here calendar (column it.0 1) named both.0, told) refl);
       }
 
   pub entry_bad : (shown : Row) (more : List Row) → answer ≡ shown ∷ more → entry_in (column shown 0) ≡ None → is_sound_in kept ≡ false

@@ -21,7 +21,8 @@ module _ (pick : Row → Bool) (show : Row → Row) where
   one_from (x ∷ []) answer shown same one =
       let whole : answer ≡ show x ∷ [] = one_permutation (show x) answer same in
       (x, refl, (let both : shown ∷ [] ≡ show x ∷ [] = sym one ∙ whole in cc))
-  one_from (x ∷ y ∷ xs) answer shown same one = absurd (omega (arith, length_permutation (map show (x ∷ y ∷ xs)) answer same, ap length one))
+  one_from (x ∷ y ∷ xs) answer shown same one =
+      absurd (omega (arith, length_permutation (map show (x ∷ y ∷ xs)) answer same, ap length one))
 
   pub found_one : (rows answer : List Row) (shown : Row) → Finds pick show rows answer → answer ≡ shown ∷ []
       → (row : Row) × (filter pick rows ≡ row ∷ []) × (shown ≡ show row)

@@ -39,7 +39,8 @@ use Rattle.sql_reading.proofs.TextLemmas.{after_before, before_after, before_the
 module _ (after : Text) (table answer : List Row) (found : FindsLeast (λ row. is_after after (column row 1)) 1 table answer) where
   pub name_none : answer ≡ [] → IsNextText (HasName table) after None
   name_none none text has past =
-      passes_nothing (λ row. is_after after (column row 1)) table has.0 (found.none none) has.1 (ap (is_after after) has.2 ∙ before_after after text past)
+      passes_nothing (λ row. is_after after (column row 1)) table has.0 (found.none none) has.1
+      (ap (is_after after) has.2 ∙ before_after after text past)
 
   pub name_some : (shown : Row) (more : List Row) (name : Text) → answer ≡ shown ∷ more → name_in (column shown 0) ≡ Some name
       → IsTextAt (HasName table) after name
@@ -51,7 +52,9 @@ module _ (after : Text) (table answer : List Row) (found : FindsLeast (λ row. i
         past = after_before after name (ap (is_after after) (sym text) ∙ it.2);
         least = λ other has past before.
             let lowest = it.5 has.0 has.1 (ap (is_after after) has.2 ∙ before_after after other past) in
-            not_lt other name (ap is_lt (sym (value_cmp-Text other name)) ∙ subst (λ v. is_lt (value_cmp v (TextCell name)) ≡ false) has.2 (subst (λ v. is_lt (value_cmp (column has.0 1) v) ≡ false) text lowest)) before;
+            not_lt other name (ap is_lt (sym (value_cmp-Text other name))
+            ∙ subst (λ v. is_lt (value_cmp v (TextCell name)) ≡ false) has.2
+            (subst (λ v. is_lt (value_cmp (column has.0 1) v) ≡ false) text lowest)) before;
       }
 
   pub name_bad : (shown : Row) (more : List Row) → answer ≡ shown ∷ more → name_in (column shown 0) ≡ None → HasNoName table
@@ -80,7 +83,8 @@ bad_calendar kept has = bad_imported kept has.0 (contains_had kept.imported has.
 pub next_fewer : (Many Few : Text → Type 0) (after : Text) (o : Option Text) → ((text : Text) → Few text → Many text)
     → IsNextText Many after o → IsNextText Few after o
 next_fewer Many Few after None fewer none = λ text is past. none text (fewer text is) past
-next_fewer Many Few after (Some text) fewer at = record { past = at.past; least = λ other is past before. at.least other (fewer other is) past before }
+next_fewer Many Few after (Some text) fewer at =
+    record { past = at.past; least = λ other is past before. at.least other (fewer other is) past before }
 
 module _ (One Other : Text → Type 0) (after : Text) where
   abbrev Either : Text → Type 0
@@ -159,12 +163,14 @@ calendar_named kept name is =
     (row.0, row.1, text_here name (column row.0 1) row.2)
 
 no_places : (kept : Kept) (name : Text) → ((q : ℕ) → get ((tables_in kept).places name) q ≡ None) → (tables_in kept).places name ≡ empty
-no_places kept name none = same_map nat_cmp_total nat_cmp-IsAntisymmetric ((tables_in kept).places name) empty (λ q. none q ∙ sym (get-empty nat_cmp q))
+no_places kept name none =
+    same_map nat_cmp_total nat_cmp-IsAntisymmetric ((tables_in kept).places name) empty (λ q. none q ∙ sym (get-empty nat_cmp q))
 
 pub point_named : (kept : Kept) (name : Text) → HasPoint (tables_in kept) name → HasName kept.place name
 point_named kept name is = elim (some_passes (λ row. is_text name (column row 1)) kept.place) [
   | inl none ↦ absurd (is (no_places kept name (λ q. no_place name q kept (nothing_passes (of_place name q) kept.place
-      (λ row h at. passes_nothing (λ row. is_text name (column row 1)) kept.place row none h (and_parts (is_text name (column row 1)) (is_count q (column row 2)) at).0)))))
+      (λ row h at. passes_nothing (λ row. is_text name (column row 1)) kept.place row none h
+      (and_parts (is_text name (column row 1)) (is_count q (column row 2)) at).0)))))
   | inr found ↦ (found.0, found.1, text_here name (column found.0 1) found.2)
 ]
 
@@ -175,7 +181,12 @@ panel_named kept name (inl other) = elim (some_passes (of_panel name) kept.panel
 ]
 panel_named kept name (inr row) = elim (some_passes (of_command name row.0) kept.command) [
   | inl none ↦ absurd (both_ways (is_some ((tables_in kept).row name row.0)) (ap is_some (no_command name row.0 kept none)) row.1)
-  | inr found ↦ inr (found.0, found.1, text_here name (column found.0 1) (and_parts (is_text name (column found.0 1)) (is_count row.0 (column found.0 2)) found.2).0)
+  | inr found ↦ inr (
+    found.0,
+    found.1,
+    text_here name (column found.0 1)
+        (and_parts (is_text name (column found.0 1)) (is_count row.0 (column found.0 2)) found.2).0,
+  )
 ]
 
 -- ---- whether a name stands
@@ -191,7 +202,9 @@ pub calendar_tells : (kept : Kept) (name : Text) (o : Option Entry) → IsNextEn
     → Tells (HasCalendar (tables_in kept) name) (is_some o)
 calendar_tells kept name None none = record {
   held = λ some. absurd (true≢false (sym some));
-  gone = λ _ has. no_empty_entry kept name (subst (IsImported (tables_in kept) name) (empty_or_after has.0 (λ past. none has.0 has.1 past)) has.1);
+  gone =
+      λ _ has. no_empty_entry kept name (subst (IsImported (tables_in kept) name)
+      (empty_or_after has.0 (λ past. none has.0 has.1 past)) has.1);
 }
 calendar_tells kept name (Some entry) at = record {
   held = λ _. (spelling entry, at.here);
@@ -290,7 +303,8 @@ empty_shown kept =
 
 empty_imported : (kept : Kept) (text : Text) → (tables_in kept).imported [] text ≡ false
 empty_imported kept text =
-    no-row imported_said with_imported (λ name t. false) (λ t. t [] text) (λ row. false) (λ y. bytes_eq [] y.calendar && bytes_eq text (spelling y.entry))
+    no-row imported_said with_imported (λ name t. false) (λ t. t [] text) (λ row. false)
+    (λ y. bytes_eq [] y.calendar && bytes_eq text (spelling y.entry))
     (unsaid imported_said (of_entry [] text) (λ y. bytes_eq [] y.calendar && bytes_eq text (spelling y.entry)) (entry-agrees [] text)
     (λ row is. rw (nameless row (and_parts (is_text [] (column row 1)) (is_text text (column row 2)) is).0) refl))
     (λ y t other. entry-at [] text y t false other)
@@ -321,9 +335,11 @@ point_more places priority none here q low high = elim (cases_order q priority) 
 
 pub all_stand : (tables : Tables) (names : Names) → AreTexts (StandsIn Panels tables) names.panels.items
     → AreTexts (StandsIn Points tables) names.points.items
-    → AreTexts (StandsIn Schedules tables) names.schedules.items → AreTexts (StandsIn Calendars tables) names.calendars.items → AreNames tables names
+    → AreTexts (StandsIn Schedules tables) names.schedules.items → AreTexts (StandsIn Calendars tables) names.calendars.items
+    → AreNames tables names
 unfolding StandsIn
-all_stand tables names panels points schedules calendars = record { panels = panels; points = points; schedules = schedules; calendars = calendars }
+all_stand tables names panels points schedules calendars =
+    record { panels = panels; points = points; schedules = schedules; calendars = calendars }
 
 pub stands_panels : (tables : Tables) → StandsIn Panels tables ≡ HasPanel tables
 unfolding StandsIn

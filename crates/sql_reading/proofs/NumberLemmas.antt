@@ -87,7 +87,8 @@ is_picked panel from row = is_text panel (column row 1) && is_from from (column 
 pub number_none : (panel : List ℕ) (kept : Kept) (from : ℕ) → filter (is_picked panel from) kept.command ≡ [] → (n : ℕ) → from ≤ n
     → (tables_in kept).row panel n ≡ None
 number_none panel kept from none n more =
-    no_command panel n kept (nothing_passes (of_command panel n) kept.command (λ row h is. passes_nothing (is_picked panel from) kept.command row none h (count_of_row panel kept from n row is more)))
+    no_command panel n kept (nothing_passes (of_command panel n) kept.command
+    (λ row h is. passes_nothing (is_picked panel from) kept.command row none h (count_of_row panel kept from n row is more)))
 
 row_stays : (panel : List ℕ) (number : ℕ) (y : KeptRow) (t : List ℕ → Rows) → is_some (t panel number) ≡ true
     → is_some (with_row y t panel number) ≡ true
@@ -118,11 +119,14 @@ said_or_bad kept row number panel (Some item) says here name count none =
     let p : item.panel ≡ panel = cc in
     let n : item.number ≡ number = cc in
     let is = here_command kept row item here says in
-    absurd (both_ways (is_some ((tables_in kept).row panel number)) (ap is_some none) (subst (λ q. is_some ((tables_in kept).row q number) ≡ true) p (subst (λ m. is_some ((tables_in kept).row item.panel m) ≡ true) n is)))
+    absurd (both_ways (is_some ((tables_in kept).row panel number)) (ap is_some none)
+    (subst (λ q. is_some ((tables_in kept).row q number) ≡ true) p
+    (subst (λ m. is_some ((tables_in kept).row item.panel m) ≡ true) n is)))
 
 -- ---- what is told
 
-module _ (panel : List ℕ) (from : ℕ) (kept : Kept) (answer : List Row) (named : IsName panel) (found : FindsLeast (is_picked panel from) 2 kept.command answer) where
+module _ (panel : List ℕ) (from : ℕ) (kept : Kept) (answer : List Row) (named : IsName panel)
+    (found : FindsLeast (is_picked panel from) 2 kept.command answer) where
   pub told_none : answer ≡ [] → IsNextNumber kept panel from None
   told_none none = number_none panel kept from (found.none none)
 
@@ -141,8 +145,11 @@ module _ (panel : List ℕ) (from : ℕ) (kept : Kept) (answer : List Row) (name
         between = λ n low high. no_command panel n kept (nothing_passes (of_command panel n) kept.command (λ row h passes.
             let lowest = it.5 row h (count_of_row panel kept from n row passes low) in
             let other = count_here n (column row 2) (and_parts (is_text panel (column row 1)) (is_count n (column row 2)) passes).1 in
-            not_less n number (subst (λ v. is_lt (value_cmp v (Int (pos number))) ≡ false) other (subst (λ v. is_lt (value_cmp (column row 2) v) ≡ false) count.cell lowest)) high));
-        here = λ none. said_or_bad kept it.0 number panel (command_said it.0) refl (contains_had kept.command it.0 it.1) (text_here panel (column it.0 1) both.0) count.cell none;
+            not_less n number (subst (λ v. is_lt (value_cmp v (Int (pos number))) ≡ false) other
+            (subst (λ v. is_lt (value_cmp (column row 2) v) ≡ false) count.cell lowest)) high));
+        here =
+            λ none. said_or_bad kept it.0 number panel (command_said it.0) refl (contains_had kept.command it.0 it.1)
+            (text_here panel (column it.0 1) both.0) count.cell none;
       }
     where
       after_of : not (nat_lt number from) ≡ true → from ≤ number
@@ -204,11 +211,13 @@ no_row_outside panel number kept outside =
         let cell : column row 2 ≡ Int (pos number) = (command-parts row item says).1 ∙ ap (λ n. Int (pos n)) (sym same) in
         absurd (not_both (command_said row) item says (no_number row (ap (count_in 1 1_000_000_000_000) cell ∙ count_out number outside)))
 
-pub none_beyond : (panel : List ℕ) (kept : Kept) (from : ℕ) → 1_000_000_000_000 < from → (n : ℕ) → from ≤ n → (tables_in kept).row panel n ≡ None
+pub none_beyond : (panel : List ℕ) (kept : Kept) (from : ℕ) → 1_000_000_000_000 < from → (n : ℕ) → from ≤ n
+    → (tables_in kept).row panel n ≡ None
 none_beyond panel kept from past n more = no_row_outside panel n kept (λ low high. omega (arith, past, more, high))
 
 pub ends_beyond : (panel : List ℕ) (kept : Kept) (from upto : ℕ) → 1_000_000_000_000 < from → Ends ((tables_in kept).row panel) from upto
-ends_beyond panel kept from upto past = record { below = λ n more less. none_beyond panel kept from past n more; at = none_beyond panel kept from past from (omega arith) }
+ends_beyond panel kept from upto past =
+    record { below = λ n more less. none_beyond panel kept from past n more; at = none_beyond panel kept from past from (omega arith) }
 
 -- ---- a row that is found
 
@@ -226,18 +235,24 @@ still rows from number (suc count) ordered none =
     let more : number + suc count ≡ number + count + 1 = omega arith in
     let here : rows (number + count) ≡ None = none (number + count) (omega arith) (omega arith) in
     ap (rows_between rows from) more
-    ∙ sym (next-none rows from (number + count) (rows_between rows from number) (omega (arith, ordered)) (sym (still rows from number count ordered (λ n low high. none n low (omega (arith, high))))) here)
+    ∙ sym (next-none rows from (number + count) (rows_between rows from number) (omega (arith, ordered))
+    (sym (still rows from number count ordered (λ n low high. none n low (omega (arith, high))))) here)
 
 pub still_between : (rows : Rows) (from number end : ℕ) → from ≤ number → number ≤ end → AreNone rows number end
     → rows_between rows from end ≡ rows_between rows from number
 still_between rows from number end ordered up none =
     let all : number + (end - number) ≡ end = omega (arith, up) in
-    ap (rows_between rows from) (sym all) ∙ still rows from number (end - number) ordered (λ n low high. none n low (omega (arith, high, up)))
+    ap (rows_between rows from) (sym all)
+    ∙ still rows from number (end - number) ordered (λ n low high. none n low (omega (arith, high, up)))
 
 pub so_far_none : (rows : Rows) (from upto : ℕ) (run : List NumberedRow) → from ≤ upto → run ≡ [] → AreSoFar rows from upto from run
 so_far_none rows from upto run ordered none =
     let zero_is : from - from ≡ 0 = omega arith in
-    record { ordered = omega arith; are = none ∙ sym (ap (λ c. rows_from c rows from) zero_is); unbroken = λ n low high. absurd (omega (arith, ordered, low, high)) }
+    record {
+      ordered = omega arith;
+      are = none ∙ sym (ap (λ c. rows_from c rows from) zero_is);
+      unbroken = λ n low high. absurd (omega (arith, ordered, low, high));
+    }
 
 pub so_far_more : (rows : Rows) (from upto number : ℕ) (found : NumberedRow) (run now : List NumberedRow)
     → AreSoFar rows from upto number run → IsNextOf rows number upto found
@@ -247,7 +262,9 @@ so_far_more rows from upto number found run now far next is =
     let start : from ≤ number = far.ordered in
     record {
       ordered = omega (arith, after, start);
-      are = next-row rows from found.number found.row run now (omega (arith, after, start)) (far.are ∙ sym (still_between rows from number found.number start after next.row.between)) next.row.here is;
+      are =
+          next-row rows from found.number found.row run now (omega (arith, after, start))
+          (far.are ∙ sym (still_between rows from number found.number start after next.row.between)) next.row.here is;
       unbroken = λ n low high. elim (cases_order n found.number) [
         | inl same ↦ ap (λ m. is_some (rows m)) same ∙ ap is_some next.row.here
         | inr apart ↦ elim apart [
@@ -270,7 +287,9 @@ run_ends rows from upto number run far ends = elim (cases_Bool (nat_lt number up
         reaches = omega arith;
         unbroken = λ n low high. absurd (omega (arith, low, high));
         gap = ends.below upto (omega (arith, less)) (omega arith);
-        is_between = far.are ∙ sym (still_between rows from number upto far.ordered (omega (arith, less)) (λ n low high. ends.below n low (omega (arith, high))));
+        is_between =
+            far.are ∙ sym (still_between rows from number upto far.ordered (omega (arith, less))
+            (λ n low high. ends.below n low (omega (arith, high))));
       }
   | inr above ↦
       let more : upto ≤ number = ltb-false number upto above in

@@ -16,7 +16,8 @@ use Rattle.sql_rows.proofs.StoredLemmas.{bad_place, no_place}
 use Rattle.sql_reading.specs.Naming.{AreNoneBelow}
 use Rattle.sql_reading.proofs.NumberLemmas.{count_here, count_of_row, is_picked, name_here, not_less, nothing_passes, passes_nothing}
 
-module _ (point : List ℕ) (kept : Kept) (answer : List Row) (named : IsName point) (found : FindsLeast (is_picked point 1) 2 kept.place answer) where
+module _ (point : List ℕ) (kept : Kept) (answer : List Row) (named : IsName point)
+    (found : FindsLeast (is_picked point 1) 2 kept.place answer) where
   pub priority_none : answer ≡ [] → AreNoneBelow ((tables_in kept).places point) 17
   priority_none none q low high =
       no_place point q kept (nothing_passes (of_place point q) kept.place
@@ -31,9 +32,11 @@ module _ (point : List ℕ) (kept : Kept) (answer : List Row) (named : IsName po
       no_place point q kept (nothing_passes (of_place point q) kept.place (λ row h passes.
       let lowest = it.5 row h (count_of_row point kept 1 q row passes low) in
       let other = count_here q (column row 2) (and_parts (is_text point (column row 1)) (is_count q (column row 2)) passes).1 in
-      not_less q priority (subst (λ v. is_lt (value_cmp v (Int (pos priority))) ≡ false) other (subst (λ v. is_lt (value_cmp (column row 2) v) ≡ false) count.cell lowest)) high))
+      not_less q priority (subst (λ v. is_lt (value_cmp v (Int (pos priority))) ≡ false) other
+      (subst (λ v. is_lt (value_cmp (column row 2) v) ≡ false) count.cell lowest)) high))
 
-  pub priority_bad : (shown : Row) (more : List Row) → answer ≡ shown ∷ more → count_in 1 16 (column shown 0) ≡ None → is_sound_in kept ≡ false
+  pub priority_bad : (shown : Row) (more : List Row) → answer ≡ shown ∷ more → count_in 1 16 (column shown 0) ≡ None
+      → is_sound_in kept ≡ false
   priority_bad shown more is reads =
       let it = found.some shown more is in
       let both = and_parts (is_text point (column it.0 1)) (is_from 1 (column it.0 2)) it.2 in

@@ -59,14 +59,21 @@ count_read priority (Blob b) is q = absurd (none≢some priority is)
 one_more : (rows : List Row) (i : ℕ) (row : Row) → i < length rows → row ≡ get_or rows i row → (q : ℕ)
     → rows_at q (take (i + 1) rows) ≡ rows_at q (take i rows) ++ cond (is_count q (column row 0)) (row ∷ []) []
 one_more rows i row below is q =
-    ap (rows_at q) (take_more rows i row below ∙ ap (λ r. take i rows ++ r ∷ []) (sym is)) ∙ filter-append (λ r. is_count q (column r 0)) (take i rows) (row ∷ [])
+    ap (rows_at q) (take_more rows i row below ∙ ap (λ r. take i rows ++ r ∷ []) (sym is))
+    ∙ filter-append (λ r. is_count q (column r 0)) (take i rows) (row ∷ [])
 
-module _ (rows : List Row) (i : ℕ) (row : Row) (old new : Places) (below : i < length rows) (here : row ≡ get_or rows i row) (told : AreTold (take i rows) old) (placed : IsPlaced row old new) where
+module _ (rows : List Row) (i : ℕ) (row : Row) (old new : Places) (below : i < length rows) (here : row ≡ get_or rows i row)
+    (told : AreTold (take i rows) old) (placed : IsPlaced row old new) where
   value_now : (q : ℕ) (b : Bool) → (q == placed.priority) ≡ b → get new q ≡ cond b (Some placed.value) (get old q)
-  value_now q b is = ap (λ m. get m q) placed.is ∙ get-put_at old placed.priority (Some placed.value) q ∙ ap (λ t. cond t (Some placed.value) (get old q)) is
+  value_now q b is =
+      ap (λ m. get m q) placed.is ∙ get-put_at old placed.priority (Some placed.value) q
+      ∙ ap (λ t. cond t (Some placed.value) (get old q)) is
 
-  rows_now : (q : ℕ) (b : Bool) → (q == placed.priority) ≡ b → rows_at q (take (i + 1) rows) ≡ rows_at q (take i rows) ++ cond b (row ∷ []) []
-  rows_now q b is = one_more rows i row below here q ∙ ap (λ t. rows_at q (take i rows) ++ cond t (row ∷ []) []) (count_read placed.priority (column row 0) placed.at q ∙ is)
+  rows_now : (q : ℕ) (b : Bool) → (q == placed.priority) ≡ b
+      → rows_at q (take (i + 1) rows) ≡ rows_at q (take i rows) ++ cond b (row ∷ []) []
+  rows_now q b is =
+      one_more rows i row below here q
+      ∙ ap (λ t. rows_at q (take i rows) ++ cond t (row ∷ []) []) (count_read placed.priority (column row 0) placed.at q ∙ is)
 
   none_before : (q : ℕ) → (q == placed.priority) ≡ true → rows_at q (take i rows) ≡ []
   none_before q is = told.none q (ap (get old) (eqb-true q placed.priority is) ∙ placed.was)
@@ -79,8 +86,14 @@ module _ (rows : List Row) (i : ℕ) (row : Row) (old new : Places) (below : i <
 
   some_now : (q : ℕ) (x : ℤ) → get new q ≡ Some x → (r : Row) × (rows_at q (take (i + 1) rows) ≡ r ∷ []) × (number_in (column r 1) ≡ Some x)
   some_now q x has = elim (cases_Bool (q == placed.priority)) [
-    | inl holds ↦ (row, rows_now q true holds ∙ ap (λ l. l ++ row ∷ []) (none_before q holds), placed.tells ∙ sym (value_now q true holds) ∙ has)
-    | inr fails ↦ let it = told.some q x (sym (value_now q false fails) ∙ has) in (it.0, rows_now q false fails ∙ ap (λ l. l ++ []) it.1, it.2)
+    | inl holds ↦ (
+      row,
+      rows_now q true holds ∙ ap (λ l. l ++ row ∷ []) (none_before q holds),
+      placed.tells
+          ∙ sym (value_now q true holds) ∙ has,
+    )
+    | inr fails ↦ let it =
+        told.some q x (sym (value_now q false fails) ∙ has) in (it.0, rows_now q false fails ∙ ap (λ l. l ++ []) it.1, it.2)
   ]
 
   within_now : (q : ℕ) (x : ℤ) → get new q ≡ Some x → (1 ≤ q) × (q ≤ 16)
@@ -97,7 +110,8 @@ module _ (rows : List Row) (i : ℕ) (row : Row) (old new : Places) (below : i <
 both_filters : {X : Type 0} (p q : X → Bool) (xs : List X) → filter p (filter q xs) ≡ filter (λ x. q x && p x) xs
 both_filters p q [] = refl
 both_filters p q (x ∷ xs) =
-    elim (q x) as (λ b. filter p (cond b (x ∷ filter q xs) (filter q xs)) ≡ cond (b && p x) (x ∷ filter (λ y. q y && p y) xs) (filter (λ y. q y && p y) xs))
+    elim (q x) as (λ b. filter p (cond b (x ∷ filter q xs) (filter q xs))
+    ≡ cond (b && p x) (x ∷ filter (λ y. q y && p y) xs) (filter (λ y. q y && p y) xs))
     [ true ↦ ap (λ l. cond (p x) (x ∷ l) l) (both_filters p q xs) | false ↦ both_filters p q xs ]
 
 abbrev both : Row → Row
@@ -113,25 +127,34 @@ taken_of places q taken = of (get places q) taken
     of None is = absurd (true≢false (sym is))
     of (Some x) is = (x, refl)
 
-module _ (point : List ℕ) (kept : Kept) (answer : List Row) (named : IsName point) (found : Finds (λ row. is_text point (column row 1)) (λ row. column row 2 ∷ column row 3 ∷ []) kept.place answer) where
+module _ (point : List ℕ) (kept : Kept) (answer : List Row) (named : IsName point)
+    (found : Finds (λ row. is_text point (column row 1)) (λ row. column row 2 ∷ column row 3 ∷ []) kept.place answer) where
   found_at : (q : ℕ) → Finds (of_place point q) (λ row. column row 3 ∷ []) kept.place (map second (rows_at q answer))
   found_at q =
       let here = λ (row : Row). is_text point (column row 1) in
       let of_q = λ (row : Row). is_count q (column row 0) in
-      let permuted : IsPermutation (filter of_q (map both (filter here kept.place))) (rows_at q answer) = IsPermutation-filter of_q (map both (filter here kept.place)) answer found.shown in
+      let permuted : IsPermutation (filter of_q (map both (filter here kept.place))) (rows_at q answer) =
+      IsPermutation-filter of_q (map both (filter here kept.place)) answer found.shown in
       let moved : filter of_q (map both (filter here kept.place)) ≡ map both (filter (of_place point q) kept.place) =
       filter-map of_q both (filter here kept.place) ∙ ap (map both) (both_filters (λ row. is_count q (column row 2)) here kept.place) in
-      let seen : IsPermutation (map both (filter (of_place point q) kept.place)) (rows_at q answer) = subst (λ l. IsPermutation l (rows_at q answer)) moved permuted in
-      let mapped : IsPermutation (map second (map both (filter (of_place point q) kept.place))) (map second (rows_at q answer)) = IsPermutation-map second _ _ seen in
-      record { shown = subst (λ l. IsPermutation l (map second (rows_at q answer))) (map-map second both (filter (of_place point q) kept.place)) mapped }
+      let seen : IsPermutation (map both (filter (of_place point q) kept.place)) (rows_at q answer) =
+      subst (λ l. IsPermutation l (rows_at q answer)) moved permuted in
+      let mapped : IsPermutation (map second (map both (filter (of_place point q) kept.place))) (map second (rows_at q answer)) =
+      IsPermutation-map second _ _ seen in
+      record {
+        shown =
+            subst (λ l. IsPermutation l (map second (rows_at q answer))) (map-map second both (filter (of_place point q) kept.place)) mapped;
+      }
 
   inside : (array : Places) → AreTold answer array → (q : ℕ) → 1 ≤ q → q ≤ 16 → (o : Option ℤ) → get array q ≡ o
       → o ≡ get ((tables_in kept).places point) q
   inside array told q low high None is =
-      sym (place_none point q kept (map second (rows_at q answer)) (named, count_given 1 16 q low high) (found_at q) (ap (map second) (told.none q is)))
+      sym (place_none point q kept (map second (rows_at q answer)) (named, count_given 1 16 q low high) (found_at q)
+      (ap (map second) (told.none q is)))
   inside array told q low high (Some x) is =
       let it = told.some q x is in
-      sym (place_one point q kept (map second (rows_at q answer)) (named, count_given 1 16 q low high) (found_at q) (second it.0) x (ap (map second) it.1) it.2)
+      sym (place_one point q kept (map second (rows_at q answer)) (named, count_given 1 16 q low high) (found_at q) (second it.0) x
+      (ap (map second) it.1) it.2)
 
   outside : (array : Places) → AreTold answer array → (q : ℕ) → (1 ≤ q → q ≤ 16 → ⊥) → get ((tables_in kept).places point) q ≡ None
       → (o : Option ℤ) → get array q ≡ o → o ≡ get ((tables_in kept).places point) q
@@ -143,9 +166,11 @@ module _ (point : List ℕ) (kept : Kept) (answer : List Row) (named : IsName po
       let sixteen = outside_places point kept in
       elim (cases_Bool (nat_lt q 1)) [
         | inl less ↦ let zero : q ≡ 0 = (let under = ltb-true q 1 less in omega (arith, under)) in
-            outside array told q (λ low high. omega (arith, zero, low)) (ap (get ((tables_in kept).places point)) zero ∙ sixteen.above) (get array q) refl
+            outside array told q (λ low high. omega (arith, zero, low))
+            (ap (get ((tables_in kept).places point)) zero ∙ sixteen.above) (get array q) refl
         | inr more ↦ elim (cases_Bool (nat_lt 16 q)) [
-          | inl far ↦ let over = ltb-true 16 q far in outside array told q (λ low high. omega (arith, over, high)) (sixteen.below q over) (get array q) refl
+          | inl far ↦ let over =
+              ltb-true 16 q far in outside array told q (λ low high. omega (arith, over, high)) (sixteen.below q over) (get array q) refl
           | inr near ↦ inside array told q (ltb-false q 1 more) (ltb-false 16 q near) (get array q) refl
         ]
       ]
@@ -158,7 +183,9 @@ module _ (point : List ℕ) (kept : Kept) (answer : List Row) (named : IsName po
   origin : (row : Row) → Has answer row → (r : Row) × Contains kept.place r × (is_text point (column r 1) ≡ true) × (row ≡ both r)
   origin row had =
       let picked = filter (λ (r : Row). is_text point (column r 1)) kept.place in
-      let there : Has (map both picked) row = all_has (Has (map both picked)) answer row (all-permutation (Has (map both picked)) (map both picked) answer found.shown (all_from (Has (map both picked)) (map both picked) (λ e h. h))) had in
+      let there : Has (map both picked) row =
+      all_has (Has (map both picked)) answer row (all-permutation (Has (map both picked)) (map both picked) answer found.shown
+      (all_from (Has (map both picked)) (map both picked) (λ e h. h))) had in
       let from = has_mapped both picked row there in
       let is = has_filtered (λ (r : Row). is_text point (column r 1)) kept.place from.0 from.1 in
       (from.0, contains_had kept.place from.0 is.0, is.1, from.2)
@@ -179,15 +206,19 @@ module _ (point : List ℕ) (kept : Kept) (answer : List Row) (named : IsName po
 
   -- the rows of a priority that two rows tell
   several : (i : ℕ) (row : Row) (old : Places) → i < length answer → row ≡ get_or answer i row → AreTold (take i answer) old
-      → (priority : ℕ) → count_in 1 16 (column row 0) ≡ Some priority → (x : ℤ) → get old priority ≡ Some x → AreSeveral (map second (rows_at priority answer))
+      → (priority : ℕ) → count_in 1 16 (column row 0) ≡ Some priority → (x : ℤ) → get old priority ≡ Some x
+      → AreSeveral (map second (rows_at priority answer))
   several i row old below here told priority at x has =
       let first = told.some priority x has in
-      let counted : is_count priority (column row 0) ≡ true = count_read priority (column row 0) at priority ∙ eq-eqb priority priority refl in
+      let counted : is_count priority (column row 0) ≡ true =
+      count_read priority (column row 0) at priority ∙ eq-eqb priority priority refl in
       let two : rows_at priority (take (i + 1) answer) ≡ first.0 ∷ row ∷ [] =
-      one_more answer i row below here priority ∙ ap (λ t. rows_at priority (take i answer) ++ cond t (row ∷ []) []) counted ∙ ap (λ l. l ++ row ∷ []) first.1 in
+      one_more answer i row below here priority ∙ ap (λ t. rows_at priority (take i answer) ++ cond t (row ∷ []) []) counted
+      ∙ ap (λ l. l ++ row ∷ []) first.1 in
       let rest = rows_at priority (drop (i + 1) answer) in
       let whole : rows_at priority answer ≡ first.0 ∷ row ∷ rest =
-      sym (ap (rows_at priority) (take-append-drop (i + 1) answer)) ∙ filter-append (λ r. is_count priority (column r 0)) (take (i + 1) answer) (drop (i + 1) answer) ∙ ap (λ l. l ++ rest) two in
+      sym (ap (rows_at priority) (take-append-drop (i + 1) answer))
+      ∙ filter-append (λ r. is_count priority (column r 0)) (take (i + 1) answer) (drop (i + 1) answer) ∙ ap (λ l. l ++ rest) two in
       record { first = second first.0; second = second row; more = map second rest; is = ap (map second) whole }
 
   twice : (i : ℕ) (row : Row) (old : Places) → i < length answer → row ≡ get_or answer i row → AreTold (take i answer) old
@@ -195,11 +226,13 @@ module _ (point : List ℕ) (kept : Kept) (answer : List Row) (named : IsName po
   twice i row old below here told priority at taken =
       let has = taken_of old priority taken in
       let lies = told.within priority has.0 has.1 in
-      place_several point priority kept (map second (rows_at priority answer)) (named, count_given 1 16 priority lies.0 lies.1) (found_at priority)
+      place_several point priority kept (map second (rows_at priority answer)) (named, count_given 1 16 priority lies.0 lies.1)
+      (found_at priority)
       (several i row old below here told priority at has.0 has.1)
 
   of_parts : (i : ℕ) (row : Row) (old : Places) → i < length answer → row ≡ get_or answer i row → AreTold (take i answer) old
-      → (o : Option ℕ) (v : Option ℤ) → count_in 1 16 (column row 0) ≡ o → number_in (column row 1) ≡ v → (is_taken_in old o || not (is_some v)) ≡ true → is_sound_in kept ≡ false
+      → (o : Option ℕ) (v : Option ℤ) → count_in 1 16 (column row 0) ≡ o → number_in (column row 1) ≡ v
+      → (is_taken_in old o || not (is_some v)) ≡ true → is_sound_in kept ≡ false
   of_parts i row old below here told None v at tells is = no_priority row (has_at answer i row below here) at
   of_parts i row old below here told (Some priority) None at tells is = no_value row priority (has_at answer i row below here) at tells
   of_parts i row old below here told (Some priority) (Some x) at tells is = elim (cases_Bool (is_some (get old priority))) [
@@ -209,4 +242,5 @@ module _ (point : List ℕ) (kept : Kept) (answer : List Row) (named : IsName po
 
   pub cannot : (i : ℕ) (row : Row) (old : Places) → i < length answer → row ≡ get_or answer i row → AreTold (take i answer) old
       → IsTrue (cannot_place row old) → is_sound_in kept ≡ false
-  cannot i row old below here told is = of_parts i row old below here told (count_in 1 16 (column row 0)) (number_in (column row 1)) refl refl is
+  cannot i row old below here told is =
+      of_parts i row old below here told (count_in 1 16 (column row 0)) (number_in (column row 1)) refl refl is

@@ -164,5 +164,7 @@ texts_all holds after texts far none = record {
 pub texts_step : (holds : Text → Type 0) (after x : Text) (texts now : List Text) (stands : Bool) → AreTextsTo holds after texts
     → IsTextAt holds after x → Tells (holds x) stands
     → now ≡ cond stands (texts ++ x ∷ []) texts → AreTextsTo holds x now
-texts_step holds after x texts now true far at tells is = subst (AreTextsTo holds x) (sym is) (texts_more holds after x texts far at (tells.held refl))
-texts_step holds after x texts now false far at tells is = subst (AreTextsTo holds x) (sym is) (texts_past holds after x texts far at (tells.gone refl))
+texts_step holds after x texts now true far at tells is =
+    subst (AreTextsTo holds x) (sym is) (texts_more holds after x texts far at (tells.held refl))
+texts_step holds after x texts now false far at tells is =
+    subst (AreTextsTo holds x) (sym is) (texts_past holds after x texts far at (tells.gone refl))

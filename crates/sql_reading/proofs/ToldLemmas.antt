@@ -50,7 +50,8 @@ all_picked : (rows : List Row) → filter (λ row. true) rows ≡ rows
 all_picked [] = refl
 all_picked (r ∷ rows) = ap (λ l. r ∷ l) (all_picked rows)
 
-module _ (panel : List ℕ) (kept : Kept) (answer : List Row) (named : IsName panel) (found : Finds (of_panel panel) (λ row. column row 2 ∷ []) kept.panel answer) where
+module _ (panel : List ℕ) (kept : Kept) (answer : List Row) (named : IsName panel)
+    (found : Finds (of_panel panel) (λ row. column row 2 ∷ []) kept.panel answer) where
   pub next_none : answer ≡ [] → (tables_in kept).next panel ≡ 1
   next_none none = no_next panel kept (found_none _ _ kept.panel answer found none)
 
@@ -59,14 +60,17 @@ module _ (panel : List ℕ) (kept : Kept) (answer : List Row) (named : IsName pa
   next_one shown_row x one cell =
       let it = found_one _ _ kept.panel answer shown_row found one in
       let here = picked (of_panel panel) kept.panel it.0 it.1 in
-      let reads : count_in 1 1_000_000_000_001 (column it.0 2) ≡ Some x = ap (λ r. count_in 1 1_000_000_000_001 (column r 0)) (sym it.2) ∙ cell in
+      let reads : count_in 1 1_000_000_000_001 (column it.0 2) ≡ Some x =
+      ap (λ r. count_in 1 1_000_000_000_001 (column r 0)) (sym it.2) ∙ cell in
       one_next panel kept it.0 (record { panel = panel; next = x }) it.1 (rw (name_here panel (column it.0 1) named here.1, reads) refl)
 
-  pub next_bad : (shown_row : Row) → answer ≡ shown_row ∷ [] → count_in 1 1_000_000_000_001 (column shown_row 0) ≡ None → is_sound_in kept ≡ false
+  pub next_bad : (shown_row : Row) → answer ≡ shown_row ∷ [] → count_in 1 1_000_000_000_001 (column shown_row 0) ≡ None
+      → is_sound_in kept ≡ false
   next_bad shown_row one cell =
       let it = found_one _ _ kept.panel answer shown_row found one in
       let here = picked (of_panel panel) kept.panel it.0 it.1 in
-      let reads : count_in 1 1_000_000_000_001 (column it.0 2) ≡ None = ap (λ r. count_in 1 1_000_000_000_001 (column r 0)) (sym it.2) ∙ cell in
+      let reads : count_in 1 1_000_000_000_001 (column it.0 2) ≡ None =
+      ap (λ r. count_in 1 1_000_000_000_001 (column r 0)) (sym it.2) ∙ cell in
       bad_next kept it.0 here.0 (rw (name_here panel (column it.0 1) named here.1, reads) refl)
 
   pub next_ok : (r : Result (ℕ) ReadFault) (row : Row) → answer ≡ row ∷ []
@@ -80,33 +84,47 @@ module _ (panel : List ℕ) (kept : Kept) (answer : List Row) (named : IsName pa
   next_err (Err e) row one cell = next_bad row one cell
 
   pub next_several : AreSeveral answer → is_sound_in kept ≡ false
-  next_several two = let it = found_two _ _ kept.panel answer two.first two.second two.more found two.is in two_next panel kept it.0 it.1 it.2 it.3
+  next_several two =
+      let it = found_two _ _ kept.panel answer two.first two.second two.more found two.is in two_next panel kept it.0 it.1 it.2 it.3
 
-module _ (panel : List ℕ) (number : ℕ) (kept : Kept) (answer : List Row) (named : IsName panel × (count_in 1 1_000_000_000_000 (Int (pos number)) ≡ Some number)) (found : Finds (of_command panel number) (λ row. column row 3 ∷ column row 4 ∷ column row 5 ∷ column row 6 ∷ column row 7 ∷ column row 8 ∷ []) kept.command answer) where
+module _ (panel : List ℕ) (number : ℕ) (kept : Kept) (answer : List Row)
+    (named : IsName panel × (count_in 1 1_000_000_000_000 (Int (pos number)) ≡ Some number))
+    (found : Finds (of_command panel number) (λ row. column row 3 ∷ column row 4 ∷ column row 5 ∷ column row 6 ∷ column row 7
+    ∷ column row 8 ∷ []) kept.command answer) where
   pub command_none : answer ≡ [] → (tables_in kept).row panel number ≡ None
   command_none none = no_command panel number kept (found_none _ _ kept.command answer found none)
 
   pub command_one : (shown_row : Row) (x : CommandRow) → answer ≡ shown_row ∷ []
-      → command_in (column shown_row 0) (column shown_row 1) (column shown_row 2) (column shown_row 3) (column shown_row 4) (column shown_row 5) ≡ Some x
+      → command_in (column shown_row 0) (column shown_row 1) (column shown_row 2) (column shown_row 3) (column shown_row 4)
+      (column shown_row 5) ≡ Some x
       → (tables_in kept).row panel number ≡ Some x
   command_one shown_row x one cell =
       let it = found_one _ _ kept.command answer shown_row found one in
       let here = picked (of_command panel number) kept.command it.0 it.1 in
       let text_is : is_text panel (column it.0 1) ≡ true = (and_parts _ _ here.1).0 in
       let count_is : is_count number (column it.0 2) ≡ true = (and_parts _ _ here.1).1 in
-      let reads : command_in (column it.0 3) (column it.0 4) (column it.0 5) (column it.0 6) (column it.0 7) (column it.0 8) ≡ Some x = ap (λ r. command_in (column r 0) (column r 1) (column r 2) (column r 3) (column r 4) (column r 5)) (sym it.2) ∙ cell in
-      one_command panel number kept it.0 (record { panel = panel; number = number; row = x }) it.1 (rw (name_here panel (column it.0 1) named.0 text_is, count_here number (column it.0 2) count_is, named.1, reads) refl)
+      let reads : command_in (column it.0 3) (column it.0 4) (column it.0 5) (column it.0 6) (column it.0 7) (column it.0 8)
+      ≡ Some x = ap (λ r. command_in (column r 0) (column r 1) (column r 2) (column r 3) (column r 4) (column r 5)) (sym it.2) ∙ cell in
+      one_command panel number kept it.0 (record { panel = panel; number = number; row = x }) it.1
+      (rw (name_here panel (column it.0 1) named.0 text_is, count_here number (column it.0 2) count_is, named.1, reads) refl)
 
   pub command_bad : (shown_row : Row) → answer ≡ shown_row ∷ []
-      → command_in (column shown_row 0) (column shown_row 1) (column shown_row 2) (column shown_row 3) (column shown_row 4) (column shown_row 5) ≡ None
+      → command_in (column shown_row 0) (column shown_row 1) (column shown_row 2) (column shown_row 3) (column shown_row 4)
+      (column shown_row 5) ≡ None
       → is_sound_in kept ≡ false
   command_bad shown_row one cell =
       let it = found_one _ _ kept.command answer shown_row found one in
       let here = picked (of_command panel number) kept.command it.0 it.1 in
       let text_is : is_text panel (column it.0 1) ≡ true = (and_parts _ _ here.1).0 in
       let count_is : is_count number (column it.0 2) ≡ true = (and_parts _ _ here.1).1 in
-      let reads : command_in (column it.0 3) (column it.0 4) (column it.0 5) (column it.0 6) (column it.0 7) (column it.0 8) ≡ None = ap (λ r. command_in (column r 0) (column r 1) (column r 2) (column r 3) (column r 4) (column r 5)) (sym it.2) ∙ cell in
-      bad_command kept it.0 here.0 (rw (name_here panel (column it.0 1) named.0 text_is, count_here number (column it.0 2) count_is, named.1, reads) refl)
+      let reads : command_in (column it.0 3) (column it.0 4) (column it.0 5) (column it.0 6) (column it.0 7) (column it.0 8)
+      ≡ None = ap (λ r. command_in (column r 0) (column r 1) (column r 2) (column r 3) (column r 4) (column r 5)) (sym it.2) ∙ cell in
+      bad_command kept it.0 here.0 (rw (
+        name_here panel (column it.0 1) named.0 text_is,
+        count_here number (column it.0 2) count_is,
+        named.1,
+        reads,
+      ) refl)
 
   pub command_ok : (r : Result (CommandRow) ReadFault) (row : Row) → answer ≡ row ∷ []
       → IfOk r (λ x. command_in (column row 0) (column row 1) (column row 2) (column row 3) (column row 4) (column row 5) ≡ Some x)
@@ -121,9 +139,13 @@ module _ (panel : List ℕ) (number : ℕ) (kept : Kept) (answer : List Row) (na
   command_err (Err e) row one cell = command_bad row one cell
 
   pub command_several : AreSeveral answer → is_sound_in kept ≡ false
-  command_several two = let it = found_two _ _ kept.command answer two.first two.second two.more found two.is in two_command panel number kept it.0 it.1 it.2 it.3
+  command_several two =
+      let it = found_two _ _ kept.command answer two.first two.second two.more found two.is in
+      two_command panel number kept it.0 it.1 it.2 it.3
 
-module _ (point : List ℕ) (priority : ℕ) (kept : Kept) (answer : List Row) (named : IsName point × (count_in 1 16 (Int (pos priority)) ≡ Some priority)) (found : Finds (of_place point priority) (λ row. column row 3 ∷ []) kept.place answer) where
+module _ (point : List ℕ) (priority : ℕ) (kept : Kept) (answer : List Row)
+    (named : IsName point × (count_in 1 16 (Int (pos priority)) ≡ Some priority))
+    (found : Finds (of_place point priority) (λ row. column row 3 ∷ []) kept.place answer) where
   pub place_none : answer ≡ [] → get ((tables_in kept).places point) priority ≡ None
   place_none none = no_place point priority kept (found_none _ _ kept.place answer found none)
 
@@ -135,7 +157,8 @@ module _ (point : List ℕ) (priority : ℕ) (kept : Kept) (answer : List Row) (
       let text_is : is_text point (column it.0 1) ≡ true = (and_parts _ _ here.1).0 in
       let count_is : is_count priority (column it.0 2) ≡ true = (and_parts _ _ here.1).1 in
       let reads : number_in (column it.0 3) ≡ Some x = ap (λ r. number_in (column r 0)) (sym it.2) ∙ cell in
-      one_place point priority kept it.0 (record { point = point; priority = priority; value = Some x }) it.1 (rw (name_here point (column it.0 1) named.0 text_is, count_here priority (column it.0 2) count_is, named.1, reads) refl)
+      one_place point priority kept it.0 (record { point = point; priority = priority; value = Some x }) it.1
+      (rw (name_here point (column it.0 1) named.0 text_is, count_here priority (column it.0 2) count_is, named.1, reads) refl)
 
   pub place_bad : (shown_row : Row) → answer ≡ shown_row ∷ [] → number_in (column shown_row 0) ≡ None → is_sound_in kept ≡ false
   place_bad shown_row one cell =
@@ -144,7 +167,12 @@ module _ (point : List ℕ) (priority : ℕ) (kept : Kept) (answer : List Row) (
       let text_is : is_text point (column it.0 1) ≡ true = (and_parts _ _ here.1).0 in
       let count_is : is_count priority (column it.0 2) ≡ true = (and_parts _ _ here.1).1 in
       let reads : number_in (column it.0 3) ≡ None = ap (λ r. number_in (column r 0)) (sym it.2) ∙ cell in
-      bad_place kept it.0 here.0 (rw (name_here point (column it.0 1) named.0 text_is, count_here priority (column it.0 2) count_is, named.1, reads) refl)
+      bad_place kept it.0 here.0 (rw (
+        name_here point (column it.0 1) named.0 text_is,
+        count_here priority (column it.0 2) count_is,
+        named.1,
+        reads,
+      ) refl)
 
   pub place_ok : (r : Result (ℤ) ReadFault) (row : Row) → answer ≡ row ∷ [] → IfOk r (λ x. number_in (column row 0) ≡ Some x)
       → IfOk r (λ x. Some x ≡ get ((tables_in kept).places point) priority)
@@ -157,9 +185,12 @@ module _ (point : List ℕ) (priority : ℕ) (kept : Kept) (answer : List Row) (
   place_err (Err e) row one cell = place_bad row one cell
 
   pub place_several : AreSeveral answer → is_sound_in kept ≡ false
-  place_several two = let it = found_two _ _ kept.place answer two.first two.second two.more found two.is in two_place point priority kept it.0 it.1 it.2 it.3
+  place_several two =
+      let it = found_two _ _ kept.place answer two.first two.second two.more found two.is in
+      two_place point priority kept it.0 it.1 it.2 it.3
 
-module _ (schedule : List ℕ) (kept : Kept) (answer : List Row) (named : IsName schedule) (found : Finds (of_schedule schedule) (λ row. column row 2 ∷ []) kept.shown answer) where
+module _ (schedule : List ℕ) (kept : Kept) (answer : List Row) (named : IsName schedule)
+    (found : Finds (of_schedule schedule) (λ row. column row 2 ∷ []) kept.shown answer) where
   pub shown_none : answer ≡ [] → (tables_in kept).shown schedule ≡ None
   shown_none none = no_shown schedule kept (found_none _ _ kept.shown answer found none)
 
@@ -169,7 +200,8 @@ module _ (schedule : List ℕ) (kept : Kept) (answer : List Row) (named : IsName
       let it = found_one _ _ kept.shown answer shown_row found one in
       let here = picked (of_schedule schedule) kept.shown it.0 it.1 in
       let reads : optional_in (column it.0 2) ≡ Some x = ap (λ r. optional_in (column r 0)) (sym it.2) ∙ cell in
-      one_shown schedule kept it.0 (record { schedule = schedule; shown = Some x }) it.1 (rw (name_here schedule (column it.0 1) named here.1, reads) refl)
+      one_shown schedule kept it.0 (record { schedule = schedule; shown = Some x }) it.1
+      (rw (name_here schedule (column it.0 1) named here.1, reads) refl)
 
   pub shown_bad : (shown_row : Row) → answer ≡ shown_row ∷ [] → optional_in (column shown_row 0) ≡ None → is_sound_in kept ≡ false
   shown_bad shown_row one cell =
@@ -189,7 +221,8 @@ module _ (schedule : List ℕ) (kept : Kept) (answer : List Row) (named : IsName
   shown_err (Err e) row one cell = shown_bad row one cell
 
   pub shown_several : AreSeveral answer → is_sound_in kept ≡ false
-  shown_several two = let it = found_two _ _ kept.shown answer two.first two.second two.more found two.is in two_shown schedule kept it.0 it.1 it.2 it.3
+  shown_several two =
+      let it = found_two _ _ kept.shown answer two.first two.second two.more found two.is in two_shown schedule kept it.0 it.1 it.2 it.3
 
 -- the one row of `desk`
 module _ (kept : Kept) (answer : List Row) (found : Finds (λ row. true) (λ row. column row 2 ∷ column row 3 ∷ []) kept.desk answer) where

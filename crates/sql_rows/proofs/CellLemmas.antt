@@ -27,13 +27,17 @@ by_both false true there back = back refl
 by_both false false there back = refl
 
 same_either_way : (s t : List ℕ) → bytes_eq s t ≡ bytes_eq t s
-same_either_way s t = by_both _ _ (λ e. (bytes_eq-Decides t s).1 (sym ((bytes_eq-Decides s t).0 e))) (λ e. (bytes_eq-Decides s t).1 (sym ((bytes_eq-Decides t s).0 e)))
+same_either_way s t =
+    by_both _ _ (λ e. (bytes_eq-Decides t s).1 (sym ((bytes_eq-Decides s t).0 e)))
+    (λ e. (bytes_eq-Decides s t).1 (sym ((bytes_eq-Decides t s).0 e)))
 
 pos_same : (m n : ℕ) → pos m ≡ pos n → m ≡ n
 pos_same m n e = cc
 
 same_count : (m n : ℕ) → is_eq (int_cmp (pos m) (pos n)) ≡ (n == m)
-same_count m n = by_both _ _ (λ e. (Decides-eqb n m).1 (sym (pos_same m n ((Decides-int_eq (pos m) (pos n)).0 e)))) (λ e. (Decides-int_eq (pos m) (pos n)).1 (ap pos (sym ((Decides-eqb n m).0 e))))
+same_count m n =
+    by_both _ _ (λ e. (Decides-eqb n m).1 (sym (pos_same m n ((Decides-int_eq (pos m) (pos n)).0 e))))
+    (λ e. (Decides-int_eq (pos m) (pos n)).1 (ap pos (sym ((Decides-eqb n m).0 e))))
 
 is_lt_cond : (a b : Bool) → is_lt (cond a Less (cond b Greater Equal)) ≡ a
 is_lt_cond true b = refl

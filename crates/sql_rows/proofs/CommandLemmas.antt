@@ -45,22 +45,29 @@ command_cells db ours row h =
     let col6 = column_of (codes "state") kind.Integer true in
     let col7 = column_of (codes "a") kind.Integer false in
     let col8 = column_of (codes "b") kind.Integer false in (
-      first_filled command_table (codes "panel") kind.Text (col2 ∷ col3 ∷ col4 ∷ col5 ∷ col6 ∷ col7 ∷ col8 ∷ []) refl refl db.trees row typed present,
-      second_filled command_table col1 (codes "number") kind.Integer (col3 ∷ col4 ∷ col5 ∷ col6 ∷ col7 ∷ col8 ∷ []) refl refl db.trees row typed present,
+      first_filled command_table (codes "panel") kind.Text (col2 ∷ col3 ∷ col4 ∷ col5 ∷ col6 ∷ col7 ∷ col8 ∷ []) refl refl db.trees
+          row typed present,
+      second_filled command_table col1 (codes "number") kind.Integer (col3 ∷ col4 ∷ col5 ∷ col6 ∷ col7 ∷ col8 ∷ []) refl refl
+          db.trees row typed present,
     )
 
 pub passes_command : (db : Database) → IsOurs db → (panel : List ℕ) (number : ℕ) → (row : Row) → Has (db.trees command_tree) row
     → passes (given 1 0 ∷ given 2 1 ∷ []) (Text panel ∷ Int (pos number) ∷ []) row ≡ of_command panel number row
 passes_command db ours panel number row h =
     let cells = command_cells db ours row h in
-    rw (equal_text panel (column row 1) cells.0.of cells.0.filled, equal_count number (column row 2) cells.1.of cells.1.filled, and_true) refl
+    rw (
+      equal_text panel (column row 1) cells.0.of cells.0.filled,
+      equal_count number (column row 2) cells.1.of cells.1.filled,
+      and_true,
+    ) refl
 
 pub clears : (panel : List ℕ) (number : ℕ) → (old new : State) (result : Result ℕ Error) → IsInside old
     → ExecutesInside 0 clear_text (Text panel ∷ Int (pos number) ∷ []) old new result
     → OnOk result (Changes (On command_slot (Loses (of_command panel number))) old new)
 clears panel number old new result inside h =
     loses command_slot is_command clear_text clear_plain (given 1 0 ∷ given 2 1 ∷ []) (of_command panel number) clear_is
-    (λ a b same. ap (λ l. is_text panel (column l 0) && is_count number (column l 1)) same) old new (Text panel ∷ Int (pos number) ∷ []) result
+    (λ a b same. ap (λ l. is_text panel (column l 0) && is_count number (column l 1)) same) old new
+    (Text panel ∷ Int (pos number) ∷ []) result
     (λ row h. passes_command old.now inside.ours panel number row h) inside h
 
 on_ok : {P Q : Type 0} (result : Result ℕ Error) → (P → Q) → OnOk result P → OnOk result Q
@@ -68,13 +75,16 @@ on_ok (Ok count) f p = f p
 on_ok (Err e) f p = tt
 
 -- no two rows have one number of a panel
-one_command : (db : Database) → IsOurs db → (panel : List ℕ) (number : ℕ) (a b : Row) → Has (db.trees command_tree) a → Has (db.trees command_tree) b
+one_command : (db : Database) → IsOurs db → (panel : List ℕ) (number : ℕ) (a b : Row) → Has (db.trees command_tree) a
+    → Has (db.trees command_tree) b
     → of_command panel number a ≡ true → of_command panel number b ≡ true → rowid a ≡ rowid b
 unfolding first_key
 one_command db ours panel number a b ha hb is_a is_b =
     let parts = and_parts _ _ is_b in
-    one_number (automatic command_table 0 (1 ∷ 2 ∷ []) 4) command_table (1 ∷ 2 ∷ []) db ours (inr (inr (inl refl))) (inr (inl refl)) refl ours.rows.command a b ha hb
-    (subst₂ (λ v w. passes (given 1 0 ∷ given 2 1 ∷ []) (v ∷ w ∷ []) a ≡ true) (sym (text_is panel (column b 1) parts.0)) (sym (count_is number (column b 2) parts.1))
+    one_number (automatic command_table 0 (1 ∷ 2 ∷ []) 4) command_table (1 ∷ 2 ∷ []) db ours (inr (inr (inl refl))) (inr (inl refl))
+    refl ours.rows.command a b ha hb
+    (subst₂ (λ v w. passes (given 1 0 ∷ given 2 1 ∷ []) (v ∷ w ∷ []) a ≡ true) (sym (text_is panel (column b 1) parts.0))
+    (sym (count_is number (column b 2) parts.1))
     (passes_command db ours panel number a ha ∙ is_a))
 
 -- where a row could be added under a number of a panel, none stood there
@@ -86,50 +96,77 @@ adds_alone panel number rest old new it =
     let gains = it.change.rows in
     let more = gains.more in
     let added = gains.id ∷ Text panel ∷ Int (pos number) ∷ rest in
-    let its_own : of_command panel number added ≡ true = rw ((bytes_eq-Decides panel panel).1 refl, (Decides-eqb number number).1 refl) refl in
+    let its_own : of_command panel number added ≡ true =
+    rw ((bytes_eq-Decides panel panel).1 refl, (Decides-eqb number number).1 refl) refl in
     let there : Has (new.now.trees command_tree) added = subst (λ l. Has l added) (sym more.is) (has_new more.before more.after added) in
     let none : (row : Row) → Has rows row → true ≡ not (of_command panel number row) =
     λ row h. elim (cases_Bool (of_command panel number row)) [
       | inl same ↦
-          let still : Has (new.now.trees command_tree) row = subst (λ l. Has l row) (sym more.is) (has_more more.before more.after added row (subst (λ l. Has l row) more.was h)) in
+          let still : Has (new.now.trees command_tree) row =
+          subst (λ l. Has l row) (sym more.is) (has_more more.before more.after added row (subst (λ l. Has l row) more.was h)) in
           let taken = tied_taken added rows row h (one_command new.now it.ours panel number row added still there same its_own) in
           absurd (true≢false (sym taken ∙ gains.free))
       | inr other ↦ ap not (sym other)
     ] in
-    record { seen = it.seen; ours = it.ours; change = record { others = it.change.others; rows = (filter_all rows ∙ filter_same (λ r. true) (λ r. not (of_command panel number r)) rows none, gains) } }
+    record {
+      seen = it.seen;
+      ours = it.ours;
+      change =
+          record {
+            others = it.change.others;
+            rows = (filter_all rows ∙ filter_same (λ r. true) (λ r. not (of_command panel number r)) rows none, gains);
+          };
+    }
 
 pub adds : (panel : List ℕ) (number : ℕ) (point : List ℕ) (priority : ℤ) (value : Option ℤ) (state : ℤ) (a : Option ℤ) (b : Option ℤ)
     → (old new : State) (result : Result ℕ Error) → IsInside old
-    → ExecutesInside 0 add_text (Text panel ∷ Int (pos number) ∷ Text point ∷ Int priority ∷ cell_of value ∷ Int state ∷ cell_of a ∷ cell_of b ∷ []) old new result
-    → OnOk result (Changes (On command_slot (Adds (of_command panel number) (Text panel ∷ Int (pos number) ∷ Text point ∷ Int priority ∷ cell_of value ∷ Int state ∷ cell_of a ∷ cell_of b ∷ []))) old new)
+    → ExecutesInside 0 add_text (Text panel ∷ Int (pos number) ∷ Text point ∷ Int priority ∷ cell_of value ∷ Int state ∷ cell_of a
+    ∷ cell_of b ∷ []) old new result
+    → OnOk result (Changes (On command_slot (Adds (of_command panel number)
+    (Text panel ∷ Int (pos number) ∷ Text point ∷ Int priority ∷ cell_of value ∷ Int state ∷ cell_of a ∷ cell_of b ∷ []))) old new)
 adds panel number point priority value state a b old new result inside h =
     on_ok result (adds_alone panel number (Text point ∷ Int priority ∷ cell_of value ∷ Int state ∷ cell_of a ∷ cell_of b ∷ []) old new)
-    (gains command_slot is_command add_text add_plain (codes "command") command_table.columns command_table.checks (lit Null ∷ col 0 0 ∷ col 0 1 ∷ col 0 2 ∷ col 0 3 ∷ col 0 4 ∷ col 0 5 ∷ col 0 6 ∷ col 0 7 ∷ []) 9 command_tree refl add_is
-    old new (Text panel ∷ Int (pos number) ∷ Text point ∷ Int priority ∷ cell_of value ∷ Int state ∷ cell_of a ∷ cell_of b ∷ []) (Text panel ∷ Int (pos number) ∷ Text point ∷ Int priority ∷ cell_of value ∷ Int state ∷ cell_of a ∷ cell_of b ∷ []) result
+    (gains command_slot is_command add_text add_plain (codes "command") command_table.columns command_table.checks
+    (lit Null ∷ col 0 0 ∷ col 0 1 ∷ col 0 2 ∷ col 0 3 ∷ col 0 4 ∷ col 0 5 ∷ col 0 6 ∷ col 0 7 ∷ []) 9 command_tree refl add_is
+    old new (Text panel ∷ Int (pos number) ∷ Text point ∷ Int priority ∷ cell_of value ∷ Int state ∷ cell_of a ∷ cell_of b ∷ [])
+    (Text panel ∷ Int (pos number) ∷ Text point ∷ Int priority ∷ cell_of value ∷ Int state ∷ cell_of a ∷ cell_of b ∷ []) result
     (rw (cast_null, cast_int (pos number), cast_int priority, cast_cell value, cast_int state, cast_cell a, cast_cell b) refl) inside h)
 
 passes_lower : (db : Database) → IsOurs db → (panel : List ℕ) (number : ℕ) → (row : Row) → Has (db.trees command_tree) row
     → passes (given 1 0 ∷ compared_with Lt 2 1 ∷ []) (Text panel ∷ Int (pos number) ∷ []) row ≡ of_lower_command panel number row
 passes_lower db ours panel number row h =
     let cells = command_cells db ours row h in
-    rw (equal_text panel (column row 1) cells.0.of cells.0.filled, below_count number (column row 2) cells.1.of cells.1.filled, and_true) refl
+    rw (
+      equal_text panel (column row 1) cells.0.of cells.0.filled,
+      below_count number (column row 2) cells.1.of cells.1.filled,
+      and_true,
+    ) refl
 
 pub drops : (panel : List ℕ) (number : ℕ) → (old new : State) (result : Result ℕ Error) → IsInside old
     → ExecutesInside 0 drop_text (Text panel ∷ Int (pos number) ∷ []) old new result
     → OnOk result (Changes (On command_slot (Loses (of_lower_command panel number))) old new)
 drops panel number old new result inside h =
     loses command_slot is_command drop_text drop_plain (given 1 0 ∷ compared_with Lt 2 1 ∷ []) (of_lower_command panel number) drop_is
-    (λ a b same. ap (λ l. is_text panel (column l 0) && is_below number (column l 1)) same) old new (Text panel ∷ Int (pos number) ∷ []) result
+    (λ a b same. ap (λ l. is_text panel (column l 0) && is_below number (column l 1)) same) old new
+    (Text panel ∷ Int (pos number) ∷ []) result
     (λ row h. passes_lower old.now inside.ours panel number row h) inside h
 
 -- the queries
 
 pub find_shown : {V : Type 0} (items : V → List Row) (panel : List ℕ) (number : ℕ) (old new : State) (r : Result V Error) → IsOurs old.now
-    → IfOk r (λ v. Shown find_text (Text panel ∷ Int (pos number) ∷ []) old new (items v)) → IfOk r (λ v. Finds (of_command panel number) (λ row. column row 3 ∷ column row 4 ∷ column row 5 ∷ column row 6 ∷ column row 7 ∷ column row 8 ∷ []) (old.now.trees command_tree) (items v))
+    → IfOk r (λ v. Shown find_text (Text panel ∷ Int (pos number) ∷ []) old new (items v))
+    → IfOk r (λ v. Finds (of_command panel number)
+    (λ row. column row 3 ∷ column row 4 ∷ column row 5 ∷ column row 6 ∷ column row 7 ∷ column row 8 ∷ [])
+    (old.now.trees command_tree) (items v))
 find_shown items panel number old new (Err e) ours shown = tt
 find_shown items panel number old new (Ok v) ours shown =
-    finds_same (passes (given 1 0 ∷ given 2 1 ∷ []) (Text panel ∷ Int (pos number) ∷ [])) (of_command panel number) (λ row. column row 3 ∷ column row 4 ∷ column row 5 ∷ column row 6 ∷ column row 7 ∷ column row 8 ∷ []) (old.now.trees command_tree) (items v) (λ row h. passes_command old.now ours panel number row h)
-    (finds find_text find_plain find_unlisted command_tree (given 1 0 ∷ given 2 1 ∷ []) (col 1 3 ∷ col 1 4 ∷ col 1 5 ∷ col 1 6 ∷ col 1 7 ∷ col 1 8 ∷ []) (codes "point" ∷ codes "priority" ∷ codes "value" ∷ codes "state" ∷ codes "a" ∷ codes "b" ∷ []) find_is old new (Text panel ∷ Int (pos number) ∷ []) (items v) ours.schema_is shown)
+    finds_same (passes (given 1 0 ∷ given 2 1 ∷ []) (Text panel ∷ Int (pos number) ∷ [])) (of_command panel number)
+    (λ row. column row 3 ∷ column row 4 ∷ column row 5 ∷ column row 6 ∷ column row 7 ∷ column row 8 ∷ [])
+    (old.now.trees command_tree) (items v) (λ row h. passes_command old.now ours panel number row h)
+    (finds find_text find_plain find_unlisted command_tree (given 1 0 ∷ given 2 1 ∷ [])
+    (col 1 3 ∷ col 1 4 ∷ col 1 5 ∷ col 1 6 ∷ col 1 7 ∷ col 1 8 ∷ [])
+    (codes "point" ∷ codes "priority" ∷ codes "value" ∷ codes "state" ∷ codes "a" ∷ codes "b" ∷ []) find_is old new
+    (Text panel ∷ Int (pos number) ∷ []) (items v) ours.schema_is shown)
 
 passes_next_panel : (db : Database) → IsOurs db → (after : List ℕ) → (row : Row) → Has (db.trees command_tree) row
     → passes (compared_with Gt 1 0 ∷ []) (Text after ∷ []) row ≡ (is_after after (column row 1))
@@ -138,21 +175,31 @@ passes_next_panel db ours after row h =
     rw (after_text after (column row 1) cells.0.of cells.0.filled, and_true) refl
 
 pub next_panel_shown : {V : Type 0} (items : V → List Row) (after : List ℕ) (old new : State) (r : Result V Error) → IsOurs old.now
-    → IfOk r (λ v. Shown next_panel_text (Text after ∷ []) old new (items v)) → IfOk r (λ v. FindsLeast (λ row. is_after after (column row 1)) 1 (old.now.trees command_tree) (items v))
+    → IfOk r (λ v. Shown next_panel_text (Text after ∷ []) old new (items v))
+    → IfOk r (λ v. FindsLeast (λ row. is_after after (column row 1)) 1 (old.now.trees command_tree) (items v))
 next_panel_shown items after old new (Err e) ours shown = tt
 next_panel_shown items after old new (Ok v) ours shown =
-    least_same (passes (compared_with Gt 1 0 ∷ []) (Text after ∷ [])) (λ row. is_after after (column row 1)) 1 (old.now.trees command_tree) (items v) (λ row h. passes_next_panel old.now ours after row h)
-    (finds_least next_panel_text next_panel_plain next_panel_unlisted command_tree (compared_with Gt 1 0 ∷ []) 1 (codes "panel" ∷ []) next_panel_is old new (Text after ∷ []) (items v) ours.schema_is shown)
+    least_same (passes (compared_with Gt 1 0 ∷ []) (Text after ∷ [])) (λ row. is_after after (column row 1)) 1
+    (old.now.trees command_tree) (items v) (λ row h. passes_next_panel old.now ours after row h)
+    (finds_least next_panel_text next_panel_plain next_panel_unlisted command_tree (compared_with Gt 1 0 ∷ []) 1
+    (codes "panel" ∷ []) next_panel_is old new (Text after ∷ []) (items v) ours.schema_is shown)
 
 passes_next_number : (db : Database) → IsOurs db → (panel : List ℕ) (from : ℕ) → (row : Row) → Has (db.trees command_tree) row
-    → passes (given 1 0 ∷ compared_with Ge 2 1 ∷ []) (Text panel ∷ Int (pos from) ∷ []) row ≡ (is_text panel (column row 1) && is_from from (column row 2))
+    → passes (given 1 0 ∷ compared_with Ge 2 1 ∷ []) (Text panel ∷ Int (pos from) ∷ []) row
+    ≡ (is_text panel (column row 1) && is_from from (column row 2))
 passes_next_number db ours panel from row h =
     let cells = command_cells db ours row h in
     rw (equal_text panel (column row 1) cells.0.of cells.0.filled, from_count from (column row 2) cells.1.of cells.1.filled, and_true) refl
 
-pub next_number_shown : {V : Type 0} (items : V → List Row) (panel : List ℕ) (from : ℕ) (old new : State) (r : Result V Error) → IsOurs old.now
-    → IfOk r (λ v. Shown next_number_text (Text panel ∷ Int (pos from) ∷ []) old new (items v)) → IfOk r (λ v. FindsLeast (λ row. is_text panel (column row 1) && is_from from (column row 2)) 2 (old.now.trees command_tree) (items v))
+pub next_number_shown : {V : Type 0} (items : V → List Row) (panel : List ℕ) (from : ℕ) (old new : State) (r : Result V Error)
+    → IsOurs old.now
+    → IfOk r (λ v. Shown next_number_text (Text panel ∷ Int (pos from) ∷ []) old new (items v))
+    → IfOk r (λ v. FindsLeast (λ row. is_text panel (column row 1) && is_from from (column row 2)) 2
+    (old.now.trees command_tree) (items v))
 next_number_shown items panel from old new (Err e) ours shown = tt
 next_number_shown items panel from old new (Ok v) ours shown =
-    least_same (passes (given 1 0 ∷ compared_with Ge 2 1 ∷ []) (Text panel ∷ Int (pos from) ∷ [])) (λ row. is_text panel (column row 1) && is_from from (column row 2)) 2 (old.now.trees command_tree) (items v) (λ row h. passes_next_number old.now ours panel from row h)
-    (finds_least next_number_text next_number_plain next_number_unlisted command_tree (given 1 0 ∷ compared_with Ge 2 1 ∷ []) 2 (codes "number" ∷ []) next_number_is old new (Text panel ∷ Int (pos from) ∷ []) (items v) ours.schema_is shown)
+    least_same (passes (given 1 0 ∷ compared_with Ge 2 1 ∷ []) (Text panel ∷ Int (pos from) ∷ []))
+    (λ row. is_text panel (column row 1) && is_from from (column row 2)) 2 (old.now.trees command_tree) (items v)
+    (λ row h. passes_next_number old.now ours panel from row h)
+    (finds_least next_number_text next_number_plain next_number_unlisted command_tree (given 1 0 ∷ compared_with Ge 2 1 ∷ []) 2
+    (codes "number" ∷ []) next_number_is old new (Text panel ∷ Int (pos from) ∷ []) (items v) ours.schema_is shown)

@@ -26,7 +26,8 @@ pub clear_plain : IsPlain (understood desk_schema clear_text)
 unfolding understood everything
 clear_plain = (refl, refl)
 
-pub add_is : command_of (understood desk_schema add_text) ≡ Insert 2 (Values (lit Null ∷ col 0 0 ∷ col 0 1 ∷ col 0 2 ∷ col 0 3 ∷ col 0 4 ∷ col 0 5 ∷ col 0 6 ∷ col 0 7 ∷ []) 9)
+pub add_is : command_of (understood desk_schema add_text)
+    ≡ Insert 2 (Values (lit Null ∷ col 0 0 ∷ col 0 1 ∷ col 0 2 ∷ col 0 3 ∷ col 0 4 ∷ col 0 5 ∷ col 0 6 ∷ col 0 7 ∷ []) 9)
 unfolding understood everything
 add_is = refl
 
@@ -50,7 +51,9 @@ drop_plain = (refl, refl)
 abbrev pub find_text : List ℕ
 find_text = codes "SELECT point, priority, value, state, a, b FROM command WHERE panel = ?1 AND number = ?2"
 
-pub find_is : command_of (understood desk_schema find_text) ≡ selection command_tree (given 1 0 ∷ given 2 1 ∷ []) (col 1 3 ∷ col 1 4 ∷ col 1 5 ∷ col 1 6 ∷ col 1 7 ∷ col 1 8 ∷ []) (codes "point" ∷ codes "priority" ∷ codes "value" ∷ codes "state" ∷ codes "a" ∷ codes "b" ∷ [])
+pub find_is : command_of (understood desk_schema find_text)
+    ≡ selection command_tree (given 1 0 ∷ given 2 1 ∷ []) (col 1 3 ∷ col 1 4 ∷ col 1 5 ∷ col 1 6 ∷ col 1 7 ∷ col 1 8 ∷ [])
+    (codes "point" ∷ codes "priority" ∷ codes "value" ∷ codes "state" ∷ codes "a" ∷ codes "b" ∷ [])
 unfolding understood everything
 find_is = refl
 
@@ -65,7 +68,8 @@ find_unlisted = refl
 abbrev pub next_panel_text : List ℕ
 next_panel_text = codes "SELECT panel FROM command WHERE panel > ?1 ORDER BY panel LIMIT 1"
 
-pub next_panel_is : command_of (understood desk_schema next_panel_text) ≡ least command_tree (compared_with Gt 1 0 ∷ []) 1 (codes "panel" ∷ [])
+pub next_panel_is : command_of (understood desk_schema next_panel_text)
+    ≡ least command_tree (compared_with Gt 1 0 ∷ []) 1 (codes "panel" ∷ [])
 unfolding understood everything
 next_panel_is = refl
 
@@ -80,7 +84,8 @@ next_panel_unlisted = refl
 abbrev pub next_number_text : List ℕ
 next_number_text = codes "SELECT number FROM command WHERE panel = ?1 AND number >= ?2 ORDER BY number LIMIT 1"
 
-pub next_number_is : command_of (understood desk_schema next_number_text) ≡ least command_tree (given 1 0 ∷ compared_with Ge 2 1 ∷ []) 2 (codes "number" ∷ [])
+pub next_number_is : command_of (understood desk_schema next_number_text)
+    ≡ least command_tree (given 1 0 ∷ compared_with Ge 2 1 ∷ []) 2 (codes "number" ∷ [])
 unfolding understood everything
 next_number_is = refl
 

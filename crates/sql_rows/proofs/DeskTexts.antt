@@ -16,7 +16,8 @@ set_last_text = codes "UPDATE desk SET last = ?1"
 abbrev pub last_set : List Term
 last_set = col 1 0 ∷ col 1 0 ∷ lit Null ∷ col 1 2 ∷ col 0 0 ∷ []
 
-pub set_last_is : command_of (understood desk_schema set_last_text) ≡ Update 0 (record { lets = []; body = plain_query desk_tree [] last_set })
+pub set_last_is : command_of (understood desk_schema set_last_text)
+    ≡ Update 0 (record { lets = []; body = plain_query desk_tree [] last_set })
 unfolding understood everything
 set_last_is = refl
 
@@ -30,7 +31,8 @@ set_version_text = codes "UPDATE desk SET version = 2"
 abbrev pub version_set : List Term
 version_set = col 1 0 ∷ col 1 0 ∷ lit Null ∷ lit (Int (pos 2)) ∷ col 1 3 ∷ []
 
-pub set_version_is : command_of (understood desk_schema set_version_text) ≡ Update 0 (record { lets = []; body = plain_query desk_tree [] version_set })
+pub set_version_is : command_of (understood desk_schema set_version_text)
+    ≡ Update 0 (record { lets = []; body = plain_query desk_tree [] version_set })
 unfolding understood everything
 set_version_is = refl
 
@@ -41,7 +43,8 @@ set_version_plain = (refl, refl)
 abbrev pub find_text : List ℕ
 find_text = codes "SELECT version, last FROM desk"
 
-pub find_is : command_of (understood desk_schema find_text) ≡ selection desk_tree [] (col 1 2 ∷ col 1 3 ∷ []) (codes "version" ∷ codes "last" ∷ [])
+pub find_is : command_of (understood desk_schema find_text)
+    ≡ selection desk_tree [] (col 1 2 ∷ col 1 3 ∷ []) (codes "version" ∷ codes "last" ∷ [])
 unfolding understood everything
 find_is = refl
 

@@ -18,22 +18,29 @@ use Rattle.sql_rows.proofs.TableLemmas.{row-at}
 
 -- the rows below one number of a panel are those below the other
 abbrev pub drops_the_same : RowsBelow → ℕ → Type 0
-drops_the_same item number = (kept : Kept) → without_rows (let other : RowsBelow = record { panel = item.panel; number = number } in other) (tables_in kept).row ≡ without_rows item (tables_in kept).row
+drops_the_same item number =
+    (kept : Kept) → without_rows (let other : RowsBelow = record { panel = item.panel; number = number } in other)
+    (tables_in kept).row ≡ without_rows item (tables_in kept).row
 
 number-made : (name : Option Text) (number : Option ℕ) (kept : Option CommandRow) (item : KeptRow)
-    → option_and_then (λ panel. option_and_then (λ n. option_map (λ row. let it : KeptRow = record { panel = panel; number = n; row = row } in it) kept) number) name ≡ Some item
+    → option_and_then (λ panel. option_and_then (λ n. option_map
+    (λ row. let it : KeptRow = record { panel = panel; number = n; row = row } in it) kept) number) name ≡ Some item
     → number ≡ Some item.number
 number-made None number kept item is = absurd (let h : ⊥ = cc in h)
 number-made (Some panel) None kept item is = absurd (let h : ⊥ = cc in h)
 number-made (Some panel) (Some n) None item is = absurd (let h : ⊥ = cc in h)
-number-made (Some panel) (Some n) (Some row) item is = let same : (let it : KeptRow = record { panel = panel; number = n; row = row } in it) ≡ item = cc in ap (λ (it : KeptRow). Some it.number) same
+number-made (Some panel) (Some n) (Some row) item is =
+    let same : (let it : KeptRow = record { panel = panel; number = n; row = row } in it) ≡ item = cc in
+    ap (λ (it : KeptRow). Some it.number) same
 
 is-low : (row : Row) (item : KeptRow) → command_said row ≡ Some item → item.number ≤ 1_000_000_000_000
 is-low row item says =
-    (count-cell 1 1_000_000_000_000 (column row 2) item.number (number-made (name_in (column row 1)) (count_in 1 1_000_000_000_000 (column row 2))
+    (count-cell 1 1_000_000_000_000 (column row 2) item.number
+    (number-made (name_in (column row 1)) (count_in 1 1_000_000_000_000 (column row 2))
     (command_in (column row 3) (column row 4) (column row 5) (column row 6) (column row 7) (column row 8)) item says)).greatest-is
 
-none-above : (n : ℕ) → 1_000_000_000_001 ≤ n → (rows : List Row) → filter (λ (y : KeptRow). n == y.number) (filter_map command_said rows) ≡ []
+none-above : (n : ℕ) → 1_000_000_000_001 ≤ n → (rows : List Row)
+    → filter (λ (y : KeptRow). n == y.number) (filter_map command_said rows) ≡ []
 none-above n above [] = refl
 none-above n above (row ∷ rows) =
     sym (item-goes (λ y. n == y.number) (command_said row) (filter_map command_said rows) []
@@ -59,7 +66,8 @@ pub drops_above : (item : RowsBelow) → 1_000_000_000_001 ≤ item.number → d
 drops_above item greater kept =
     let at = λ (q : Text) (n : ℕ).
     let was = (tables_in kept).row q n in
-    let goal : cond (bytes_eq item.panel q && nat_lt n 1_000_000_000_001) None was ≡ cond (bytes_eq item.panel q && nat_lt n item.number) None was =
+    let goal : cond (bytes_eq item.panel q && nat_lt n 1_000_000_000_001) None was
+    ≡ cond (bytes_eq item.panel q && nat_lt n item.number) None was =
     elim (cases_Bool (nat_lt n 1_000_000_000_001)) [
       | inl low ↦
           let below : n < 1_000_000_000_001 = ltb-true n 1_000_000_000_001 low in
@@ -68,8 +76,10 @@ drops_above item greater kept =
       | inr high ↦
           let above : 1_000_000_000_001 ≤ n = ltb-false n 1_000_000_000_001 high in
           let none = nothing-above kept q n above in
-          ap (cond (bytes_eq item.panel q && nat_lt n 1_000_000_000_001) None) none ∙ both-same (bytes_eq item.panel q && nat_lt n 1_000_000_000_001) None
-          ∙ sym (ap (cond (bytes_eq item.panel q && nat_lt n item.number) None) none ∙ both-same (bytes_eq item.panel q && nat_lt n item.number) None)
+          ap (cond (bytes_eq item.panel q && nat_lt n 1_000_000_000_001) None) none
+          ∙ both-same (bytes_eq item.panel q && nat_lt n 1_000_000_000_001) None
+          ∙ sym (ap (cond (bytes_eq item.panel q && nat_lt n item.number) None) none
+          ∙ both-same (bytes_eq item.panel q && nat_lt n item.number) None)
     ] in goal in
     λ i. λ q n. at q n i
 

@@ -25,7 +25,8 @@ module _ {Item Table : Type 0} (put : Item → Table → Table) where
         ]
 
     -- past the items that it leaves
-    pub with_each-past : (ys : List Item) (t : Table) → list_all (λ y. not (gone y)) ys ≡ true → with_each put ys (g t) ≡ g (with_each put ys t)
+    pub with_each-past : (ys : List Item) (t : Table) → list_all (λ y. not (gone y)) ys ≡ true
+        → with_each put ys (g t) ≡ g (with_each put ys t)
     with_each-past [] t all = refl
     with_each-past (y ∷ ys) t all =
         let both = and_parts (not (gone y)) (list_all (λ y. not (gone y)) ys) all in
@@ -91,7 +92,8 @@ module _ {X : Type 0} where
       let rest = all-parts q xs ys both.1 in
       (and_from (q x) (list_all q xs) both.0 rest.0, rest.1)
 
-  pub all-put : (q : X → Bool) (xs : List X) (x : X) (ys : List X) → list_all q (xs ++ ys) ≡ true → q x ≡ true → list_all q (xs ++ x ∷ ys) ≡ true
+  pub all-put : (q : X → Bool) (xs : List X) (x : X) (ys : List X) → list_all q (xs ++ ys) ≡ true → q x ≡ true
+      → list_all q (xs ++ x ∷ ys) ≡ true
   all-put q [] x ys all is = and_from (q x) (list_all q ys) is all
   all-put q (y ∷ xs) x ys all is =
       let both = and_parts (q y) (list_all q (xs ++ ys)) all in

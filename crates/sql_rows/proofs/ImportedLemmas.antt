@@ -39,21 +39,27 @@ pub passes_imported : (db : Database) → IsOurs db → (calendar : List ℕ) (e
     → passes (given 1 0 ∷ given 2 1 ∷ []) (Text calendar ∷ Text entry ∷ []) row ≡ of_entry calendar entry row
 passes_imported db ours calendar entry row h =
     let cells = imported_cells db ours row h in
-    rw (equal_text calendar (column row 1) cells.0.of cells.0.filled, equal_text entry (column row 2) cells.1.of cells.1.filled, and_true) refl
+    rw (
+      equal_text calendar (column row 1) cells.0.of cells.0.filled,
+      equal_text entry (column row 2) cells.1.of cells.1.filled,
+      and_true,
+    ) refl
 
 pub clears : (calendar : List ℕ) (entry : List ℕ) → (old new : State) (result : Result ℕ Error) → IsInside old
     → ExecutesInside 0 clear_text (Text calendar ∷ Text entry ∷ []) old new result
     → OnOk result (Changes (On imported_slot (Loses (of_entry calendar entry))) old new)
 clears calendar entry old new result inside h =
     loses imported_slot is_imported clear_text clear_plain (given 1 0 ∷ given 2 1 ∷ []) (of_entry calendar entry) clear_is
-    (λ a b same. ap (λ l. is_text calendar (column l 0) && is_text entry (column l 1)) same) old new (Text calendar ∷ Text entry ∷ []) result
+    (λ a b same. ap (λ l. is_text calendar (column l 0) && is_text entry (column l 1)) same) old new
+    (Text calendar ∷ Text entry ∷ []) result
     (λ row h. passes_imported old.now inside.ours calendar entry row h) inside h
 
 pub adds : (calendar : List ℕ) (entry : List ℕ) → (old new : State) (result : Result ℕ Error) → IsInside old
     → ExecutesInside 0 add_text (Text calendar ∷ Text entry ∷ []) old new result
     → OnOk result (Changes (On imported_slot (Gains (Text calendar ∷ Text entry ∷ []))) old new)
 adds calendar entry old new result inside h =
-    gains imported_slot is_imported add_text add_plain (codes "imported") imported_table.columns imported_table.checks (lit Null ∷ col 0 0 ∷ col 0 1 ∷ []) 3 imported_tree refl add_is
+    gains imported_slot is_imported add_text add_plain (codes "imported") imported_table.columns imported_table.checks
+    (lit Null ∷ col 0 0 ∷ col 0 1 ∷ []) 3 imported_tree refl add_is
     old new (Text calendar ∷ Text entry ∷ []) (Text calendar ∷ Text entry ∷ []) result
     (rw (cast_null) refl) inside h
 
@@ -66,22 +72,35 @@ passes_next_name db ours after row h =
     rw (after_text after (column row 1) cells.0.of cells.0.filled, and_true) refl
 
 pub next_name_shown : {V : Type 0} (items : V → List Row) (after : List ℕ) (old new : State) (r : Result V Error) → IsOurs old.now
-    → IfOk r (λ v. Shown next_name_text (Text after ∷ []) old new (items v)) → IfOk r (λ v. FindsLeast (λ row. is_after after (column row 1)) 1 (old.now.trees imported_tree) (items v))
+    → IfOk r (λ v. Shown next_name_text (Text after ∷ []) old new (items v))
+    → IfOk r (λ v. FindsLeast (λ row. is_after after (column row 1)) 1 (old.now.trees imported_tree) (items v))
 next_name_shown items after old new (Err e) ours shown = tt
 next_name_shown items after old new (Ok v) ours shown =
-    least_same (passes (compared_with Gt 1 0 ∷ []) (Text after ∷ [])) (λ row. is_after after (column row 1)) 1 (old.now.trees imported_tree) (items v) (λ row h. passes_next_name old.now ours after row h)
-    (finds_least next_name_text next_name_plain next_name_unlisted imported_tree (compared_with Gt 1 0 ∷ []) 1 (codes "calendar" ∷ []) next_name_is old new (Text after ∷ []) (items v) ours.schema_is shown)
+    least_same (passes (compared_with Gt 1 0 ∷ []) (Text after ∷ [])) (λ row. is_after after (column row 1)) 1
+    (old.now.trees imported_tree) (items v) (λ row h. passes_next_name old.now ours after row h)
+    (finds_least next_name_text next_name_plain next_name_unlisted imported_tree (compared_with Gt 1 0 ∷ []) 1
+    (codes "calendar" ∷ []) next_name_is old new (Text after ∷ []) (items v) ours.schema_is shown)
 
 passes_next_entry : (db : Database) → IsOurs db → (calendar : List ℕ) (after : List ℕ) → (row : Row) → Has (db.trees imported_tree) row
-    → passes (given 1 0 ∷ compared_with Gt 2 1 ∷ []) (Text calendar ∷ Text after ∷ []) row ≡ (is_text calendar (column row 1) && is_after after (column row 2))
+    → passes (given 1 0 ∷ compared_with Gt 2 1 ∷ []) (Text calendar ∷ Text after ∷ []) row
+    ≡ (is_text calendar (column row 1) && is_after after (column row 2))
 passes_next_entry db ours calendar after row h =
     let cells = imported_cells db ours row h in
-    rw (equal_text calendar (column row 1) cells.0.of cells.0.filled, after_text after (column row 2) cells.1.of cells.1.filled, and_true) refl
+    rw (
+      equal_text calendar (column row 1) cells.0.of cells.0.filled,
+      after_text after (column row 2) cells.1.of cells.1.filled,
+      and_true,
+    ) refl
 
 pub next_entry_shown : {V : Type 0} (items : V → List Row) (calendar : List ℕ) (after : List ℕ) (old new : State) (r : Result V Error)
     → IsOurs old.now
-    → IfOk r (λ v. Shown next_entry_text (Text calendar ∷ Text after ∷ []) old new (items v)) → IfOk r (λ v. FindsLeast (λ row. is_text calendar (column row 1) && is_after after (column row 2)) 2 (old.now.trees imported_tree) (items v))
+    → IfOk r (λ v. Shown next_entry_text (Text calendar ∷ Text after ∷ []) old new (items v))
+    → IfOk r (λ v. FindsLeast (λ row. is_text calendar (column row 1) && is_after after (column row 2)) 2
+    (old.now.trees imported_tree) (items v))
 next_entry_shown items calendar after old new (Err e) ours shown = tt
 next_entry_shown items calendar after old new (Ok v) ours shown =
-    least_same (passes (given 1 0 ∷ compared_with Gt 2 1 ∷ []) (Text calendar ∷ Text after ∷ [])) (λ row. is_text calendar (column row 1) && is_after after (column row 2)) 2 (old.now.trees imported_tree) (items v) (λ row h. passes_next_entry old.now ours calendar after row h)
-    (finds_least next_entry_text next_entry_plain next_entry_unlisted imported_tree (given 1 0 ∷ compared_with Gt 2 1 ∷ []) 2 (codes "entry" ∷ []) next_entry_is old new (Text calendar ∷ Text after ∷ []) (items v) ours.schema_is shown)
+    least_same (passes (given 1 0 ∷ compared_with Gt 2 1 ∷ []) (Text calendar ∷ Text after ∷ []))
+    (λ row. is_text calendar (column row 1) && is_after after (column row 2)) 2 (old.now.trees imported_tree) (items v)
+    (λ row h. passes_next_entry old.now ours calendar after row h)
+    (finds_least next_entry_text next_entry_plain next_entry_unlisted imported_tree (given 1 0 ∷ compared_with Gt 2 1 ∷ []) 2
+    (codes "entry" ∷ []) next_entry_is old new (Text calendar ∷ Text after ∷ []) (items v) ours.schema_is shown)

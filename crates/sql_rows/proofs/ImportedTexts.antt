@@ -39,7 +39,8 @@ add_plain = (refl, refl)
 abbrev pub next_name_text : List ℕ
 next_name_text = codes "SELECT calendar FROM imported WHERE calendar > ?1 ORDER BY calendar LIMIT 1"
 
-pub next_name_is : command_of (understood desk_schema next_name_text) ≡ least imported_tree (compared_with Gt 1 0 ∷ []) 1 (codes "calendar" ∷ [])
+pub next_name_is : command_of (understood desk_schema next_name_text)
+    ≡ least imported_tree (compared_with Gt 1 0 ∷ []) 1 (codes "calendar" ∷ [])
 unfolding understood everything
 next_name_is = refl
 
@@ -54,7 +55,8 @@ next_name_unlisted = refl
 abbrev pub next_entry_text : List ℕ
 next_entry_text = codes "SELECT entry FROM imported WHERE calendar = ?1 AND entry > ?2 ORDER BY entry LIMIT 1"
 
-pub next_entry_is : command_of (understood desk_schema next_entry_text) ≡ least imported_tree (given 1 0 ∷ compared_with Gt 2 1 ∷ []) 2 (codes "entry" ∷ [])
+pub next_entry_is : command_of (understood desk_schema next_entry_text)
+    ≡ least imported_tree (given 1 0 ∷ compared_with Gt 2 1 ∷ []) 2 (codes "entry" ∷ [])
 unfolding understood everything
 next_entry_is = refl
 

@@ -29,7 +29,8 @@ record Put (slot : Slot) (gone : Row → Bool) (cells : Row) (old new : Kept) : 
   has : HasPut (id ∷ cells) gone (slot.get old) (slot.get new)
   is : new ≡ slot.set (slot.get new) old
 
-put_on : (slot : Slot) → ((x y : List Row) (k : Kept) → slot.set x (slot.set y k) ≡ slot.set x k) → (gone : Row → Bool) (cells : Row) (a b c : Kept)
+put_on : (slot : Slot) → ((x y : List Row) (k : Kept) → slot.set x (slot.set y k) ≡ slot.set x k)
+    → (gone : Row → Bool) (cells : Row) (a b c : Kept)
     → On slot (Loses gone) a b → On slot (Gains cells) b c → Put slot gone cells a c
 put_on slot law gone cells a b c lost gains =
     let more = gains.rows.more in
@@ -74,7 +75,8 @@ module _ (item : NextNumber) (named : IsName item.panel) (in' : IsNext item) whe
   pub next_added : (count : ℕ) → count ≡ 0 → (a b c : Kept) → On panel_slot (Rewrites (of_panel item.panel) next_cells count) a b
       → On panel_slot (Gains next_cells) b c → Makes (next_put item) a c
   next_added count none a b c set gains =
-      next_from a c (put_on panel_slot (λ x y k. refl) (of_panel item.panel) next_cells a b c (none_lost panel_slot (of_panel item.panel) next_cells count a b none set) gains)
+      next_from a c (put_on panel_slot (λ x y k. refl) (of_panel item.panel) next_cells a b c
+      (none_lost panel_slot (of_panel item.panel) next_cells count a b none set) gains)
 
 module _ (item : PlaceValue) (value : ℤ) (some_value : item.value ≡ Some value) (named : IsName item.point) (in' : IsPlace item) where
   abbrev place_cells : Row
@@ -86,45 +88,57 @@ module _ (item : PlaceValue) (value : ℤ) (some_value : item.value ≡ Some val
   place_from : (a b : Kept) → Put place_slot place_gone place_cells a b → Makes (place_put item) a b
   place_from a b put =
       makes_from (place_put item) a (record a { place = b.place }) b put.is
-      (put_place item (put.id ∷ place_cells) a b.place (made_place item value (put.id ∷ place_cells) some_value refl refl refl named in') put.has)
+      (put_place item (put.id ∷ place_cells) a b.place
+      (made_place item value (put.id ∷ place_cells) some_value refl refl refl named in') put.has)
 
-  pub place_set : (count : ℕ) → count ≢ 0 → (a b : Kept) → On place_slot (Rewrites place_gone place_cells count) a b → Makes (place_put item) a b
+  pub place_set : (count : ℕ) → count ≢ 0 → (a b : Kept) → On place_slot (Rewrites place_gone place_cells count) a b
+      → Makes (place_put item) a b
   place_set count some a b set = place_from a b (put_in place_slot place_gone place_cells count a b some set)
 
   pub place_added : (count : ℕ) → count ≡ 0 → (a b c : Kept) → On place_slot (Rewrites place_gone place_cells count) a b
       → On place_slot (Gains place_cells) b c → Makes (place_put item) a c
   place_added count none a b c set gains =
-      place_from a c (put_on place_slot (λ x y k. refl) place_gone place_cells a b c (none_lost place_slot place_gone place_cells count a b none set) gains)
+      place_from a c (put_on place_slot (λ x y k. refl) place_gone place_cells a b c
+      (none_lost place_slot place_gone place_cells count a b none set) gains)
 
-module _ (item : KeptRow) (code : ℤ) (first second : Option ℤ) (named : IsName item.panel) (point : IsName item.row.content.point) (in' : IsKeptRow item)
+module _ (item : KeptRow) (code : ℤ) (first second : Option ℤ) (named : IsName item.panel) (point : IsName item.row.content.point)
+    (in' : IsKeptRow item)
     (says : state_in (Int code) (cell_of first) (cell_of second) ≡ Some item.row.state) where
   abbrev row_gone : Row → Bool
   row_gone = of_command item.panel item.number
 
   abbrev row_cells : Row
-  row_cells = Text item.panel ∷ Int (pos item.number) ∷ Text item.row.content.point ∷ Int item.row.content.priority ∷ cell_of item.row.content.value ∷ Int code ∷ cell_of first ∷ cell_of second ∷ []
+  row_cells =
+      Text item.panel ∷ Int (pos item.number) ∷ Text item.row.content.point ∷ Int item.row.content.priority
+      ∷ cell_of item.row.content.value ∷ Int code ∷ cell_of first ∷ cell_of second ∷ []
 
   row_from : (a b : Kept) → Put command_slot row_gone row_cells a b → Makes (row_put item) a b
   row_from a b put =
       let content = item.row.content in
       let asks = made_content content (Text content.point) (Int content.priority) (cell_of content.value) refl refl refl point in
-      let kept = made_cells item.row (Text content.point) (Int content.priority) (cell_of content.value) (Int code) (cell_of first) (cell_of second) asks says in
+      let kept =
+      made_cells item.row (Text content.point) (Int content.priority) (cell_of content.value) (Int code) (cell_of first)
+      (cell_of second) asks says in
       makes_from (row_put item) a (record a { command = b.command }) b put.is
       (put_command item (put.id ∷ row_cells) a b.command (made_command item (put.id ∷ row_cells) refl refl named in'.number kept) put.has)
 
   -- one that is new
   pub row_added : (a b : Kept) → On command_slot (Adds row_gone row_cells) a b → Makes (row_put item) a b
   row_added a b added =
-      row_from a b (put_on command_slot (λ x y k. refl) row_gone row_cells a a b (record { others = refl; rows = added.rows.0 }) (record { others = added.others; rows = added.rows.1 }))
+      row_from a b (put_on command_slot (λ x y k. refl) row_gone row_cells a a b (record { others = refl; rows = added.rows.0 })
+      (record { others = added.others; rows = added.rows.1 }))
 
   -- one in place of another
-  pub row_made : (a b c : Kept) → On command_slot (Loses row_gone) a b → On command_slot (Adds row_gone row_cells) b c → Makes (row_put item) a c
+  pub row_made : (a b c : Kept) → On command_slot (Loses row_gone) a b → On command_slot (Adds row_gone row_cells) b c
+      → Makes (row_put item) a c
   row_made a b c lost added =
-      row_from a c (put_on command_slot (λ x y k. refl) row_gone row_cells a b c lost (record { others = added.others; rows = added.rows.1 }))
+      row_from a c (put_on command_slot (λ x y k. refl) row_gone row_cells a b c lost
+      (record { others = added.others; rows = added.rows.1 }))
 
 module _ (a b c : Kept) where
   pub shown_made : (item : ShownValue) (value : Option ℤ) → item.shown ≡ Some value → IsName item.schedule
-      → On shown_slot (Loses (of_schedule item.schedule)) a b → On shown_slot (Gains (Text item.schedule ∷ cell_of value ∷ [])) b c → Makes (shown_put item) a c
+      → On shown_slot (Loses (of_schedule item.schedule)) a b → On shown_slot (Gains (Text item.schedule ∷ cell_of value ∷ [])) b c
+      → Makes (shown_put item) a c
   shown_made item value some named lost gains =
       let cells = Text item.schedule ∷ cell_of value ∷ [] in
       let put = put_on shown_slot (λ x y k. refl) (of_schedule item.schedule) cells a b c lost gains in
@@ -144,10 +158,13 @@ module _ (a b c : Kept) where
 module _ (a b : Kept) where
   pub place_cleared : (item : PlaceValue) → item.value ≡ None → On place_slot (Loses (of_place item.point item.priority)) a b
       → Makes (place_put item) a b
-  place_cleared item quiet lost = makes_from (place_put item) a (record a { place = b.place }) b lost.others (clear_place item a b.place quiet lost.rows)
+  place_cleared item quiet lost =
+      makes_from (place_put item) a (record a { place = b.place }) b lost.others (clear_place item a b.place quiet lost.rows)
 
-  pub shown_cleared : (item : ShownValue) → item.shown ≡ None → On shown_slot (Loses (of_schedule item.schedule)) a b → Makes (shown_put item) a b
-  shown_cleared item quiet lost = makes_from (shown_put item) a (record a { shown = b.shown }) b lost.others (clear_shown item a b.shown quiet lost.rows)
+  pub shown_cleared : (item : ShownValue) → item.shown ≡ None → On shown_slot (Loses (of_schedule item.schedule)) a b
+      → Makes (shown_put item) a b
+  shown_cleared item quiet lost =
+      makes_from (shown_put item) a (record a { shown = b.shown }) b lost.others (clear_shown item a b.shown quiet lost.rows)
 
   pub rows_lost : (item : RowsBelow) (number : ℕ) → drops_the_same item number
       → On command_slot (Loses (of_lower_command item.panel number)) a b → Makes (rows_dropped item) a b

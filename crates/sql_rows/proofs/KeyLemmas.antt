@@ -45,17 +45,21 @@ same_number : (a b : Value) → is_int a ≡ true → is_int b ≡ true → diff
 same_number a b int other h =
     let p = int_is a int in
     let q = int_is b other in
-    let same = (Decides-int_eq (id_in a) (id_in b)).0 (not_apart _ (sym (differ_ints (id_in a) (id_in b)) ∙ subst₂ (λ v w. differ v w ≡ false) p q h)) in
+    let same =
+    (Decides-int_eq (id_in a) (id_in b)).0 (not_apart _
+    (sym (differ_ints (id_in a) (id_in b)) ∙ subst₂ (λ v w. differ v w ≡ false) p q h)) in
     p ∙ ap Int same ∙ sym q
 
 -- two rows that agree on the key of a unique index have one number
 pub one_number : (index : Index) (table : Table) (key : List ℕ) (db : Database) → IsOurs db → Has desk_schema.tables table
     → Has desk_schema.indexes index → guards index table ≡ true
-    → AreOwn key (db.trees table.tree) → (a b : Row) → Has (db.trees table.tree) a → Has (db.trees table.tree) b → agree index.order index.columns a index.columns b ≡ true → rowid a ≡ rowid b
+    → AreOwn key (db.trees table.tree) → (a b : Row) → Has (db.trees table.tree) a → Has (db.trees table.tree) b
+    → agree index.order index.columns a index.columns b ≡ true → rowid a ≡ rowid b
 one_number index table key db ours listed known guarded own a b ha hb agrees =
     let rows = db.trees table.tree in
     let kept = keeps_at Unique desk_schema db.trees table b (ruled Unique db ours) listed hb in
-    let alone = not_true _ (test_has (λ i. not (guards i table && clashes i.order i.columns rows b)) desk_schema.indexes index kept known) in
+    let alone =
+    not_true _ (test_has (λ i. not (guards i table && clashes i.order i.columns rows b)) desk_schema.indexes index kept known) in
     let free : clashes index.order index.columns rows b ≡ false = rw guarded at alone in
     elim (cases_Bool (differ (rowid a) (rowid b))) [
       | inl apart ↦ absurd (true≢false (sym (some_from _ rows a ha (and_from _ _ agrees apart)) ∙ free))

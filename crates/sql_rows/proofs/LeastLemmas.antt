@@ -40,11 +40,15 @@ first_is_least : (lt : Output → Output → Ordering) (o : Output) (rest : List
     → (other : Output) → Has (o ∷ rest) other → is_lt (value_cmp (first_key other) (first_key o)) ≡ false
 first_is_least lt o rest sorted is other h =
     let at = contains_had (o ∷ rest) other h in
-    let by_key : IsSortedBy (λ x y. is_lt (value_cmp (first_key x) (first_key y))) (o ∷ rest) = subst (λ (f : Output → Output → Bool). IsSortedBy f (o ∷ rest)) (λ i x y. is_lt (is x y i)) sorted in
-    let far = sorted_far (λ x y. is_lt (value_cmp (first_key x) (first_key y))) (ranks_by value_cmp_total first_key) (o ∷ rest) by_key 0 at.0 other (omega arith) at.1 in
+    let by_key : IsSortedBy (λ x y. is_lt (value_cmp (first_key x) (first_key y))) (o ∷ rest) =
+    subst (λ (f : Output → Output → Bool). IsSortedBy f (o ∷ rest)) (λ i x y. is_lt (is x y i)) sorted in
+    let far =
+    sorted_far (λ x y. is_lt (value_cmp (first_key x) (first_key y))) (ranks_by value_cmp_total first_key) (o ∷ rest) by_key 0
+    at.0 other (omega arith) at.1 in
     subst (λ x. is_lt (value_cmp (first_key x) (first_key o)) ≡ false) at.2 far
 
-module _ (tree : ℕ) (terms : List Term) (at : ℕ) (db : Trees) (params : Row) (rows : List Row) (answer : IsAnswer (least_query tree terms at) db params rows) where
+module _ (tree : ℕ) (terms : List Term) (at : ℕ) (db : Trees) (params : Row) (rows : List Row)
+    (answer : IsAnswer (least_query tree terms at) db params rows) where
   abbrev env : Row → List Row
   env row = params ∷ row ∷ []
 
@@ -55,7 +59,9 @@ module _ (tree : ℕ) (terms : List Term) (at : ℕ) (db : Trees) (params : Row)
   picked = filter (passes terms params) (db tree)
 
   kept : answer.kept ≡ map made picked
-  kept = answer.distinct ∙ ap (map (output (least_query tree terms at))) (answer.grouped ∙ flat_map_cond (passes terms params) env (db tree)) ∙ map_map (output (least_query tree terms at)) env picked
+  kept =
+      answer.distinct ∙ ap (map (output (least_query tree terms at)))
+      (answer.grouped ∙ flat_map_cond (passes terms params) env (db tree)) ∙ map_map (output (least_query tree terms at)) env picked
 
   by_first : (x y : Output) → output_cmp (least_query tree terms at) x y ≡ value_cmp (first_key x) (first_key y)
   by_first x y = then-Equal _
@@ -70,12 +76,18 @@ module _ (tree : ℕ) (terms : List Term) (at : ℕ) (db : Trees) (params : Row)
   ordered_made : (row : Row) → Has (db tree) row → passes terms params row ≡ true → Has answer.ordered (made row)
   ordered_made row h passes_it =
       let there = mapped_has made picked row (has_kept (passes terms params) (db tree) row h passes_it) in
-      has_permuted answer.ordered answer.kept (made row) (IsPermutation-sym _ _ answer.same) (subst (λ l. Has l (made row)) (sym kept) there)
+      has_permuted answer.ordered answer.kept (made row) (IsPermutation-sym _ _ answer.same)
+      (subst (λ l. Has l (made row)) (sym kept) there)
 
   of_ordered : (ordered : List Output) → ordered ≡ answer.ordered → FindsLeast (passes terms params) at (db tree) rows
   of_ordered [] is = record {
     none = λ _. mapped_empty made picked (sym kept ∙ empty_permuted answer.kept answer.ordered answer.same (sym is));
-    some = λ shown more shows_it. absurd (omega (arith, ap length (sym shows_it ∙ answer.shown ∙ ap (λ l. take 1 (map (λ (o : Output). o.1) l)) (sym is))));
+    some =
+        λ shown more shows_it. absurd (omega (
+          arith,
+          ap length
+              (sym shows_it ∙ answer.shown ∙ ap (λ l. take 1 (map (λ (o : Output). o.1) l)) (sym is)),
+        ));
   }
   of_ordered (o ∷ rest) is =
       let whole : rows ≡ o.1 ∷ [] = answer.shown ∙ ap (λ l. take 1 (map (λ (p : Output). p.1) l)) (sym is) in
@@ -92,7 +104,9 @@ module _ (tree : ℕ) (terms : List Term) (at : ℕ) (db : Trees) (params : Row)
               first ∙ ap (λ (p : Output). p.1) from.3,
               last,
               λ other h passes_it.
-                  let lowest = first_is_least (output_cmp (least_query tree terms at)) o rest (subst (IsSorted (output_cmp (least_query tree terms at))) (sym is) answer.sorted) by_first (made other)
+                  let lowest =
+                  first_is_least (output_cmp (least_query tree terms at)) o rest
+                  (subst (IsSorted (output_cmp (least_query tree terms at))) (sym is) answer.sorted) by_first (made other)
                   (subst (λ l. Has l (made other)) (sym is) (ordered_made other h passes_it)) in
                   subst (λ v. is_lt (value_cmp (column other at) v) ≡ false) (ap first_key from.3) lowest,
             );
@@ -105,4 +119,5 @@ pub least_program : (tree : ℕ) (terms : List Term) (at : ℕ) (db : Trees) (pa
     → IsProgramAnswer [] (least_query tree terms at) db params rows
     → FindsLeast (passes terms params) at (db tree) rows
 least_program tree terms at db params rows answer =
-    subst (λ l. FindsLeast (passes terms params) at l rows) (overlay_none db tree) (least_answer tree terms at (overlay db []) params rows (answer Null))
+    subst (λ l. FindsLeast (passes terms params) at l rows) (overlay_none db tree)
+    (least_answer tree terms at (overlay db []) params rows (answer Null))

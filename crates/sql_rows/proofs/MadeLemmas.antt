@@ -25,7 +25,8 @@ count-made : (least greatest : ℕ) (cell : Value) (count : ℕ) → cell ≡ In
     → count_in least greatest cell ≡ Some count
 count-made least greatest cell count is low high =
     ap (count_in least greatest) is
-    ∙ ap (λ b. cond b (Some count) None) (and_from (nat_le least count) (nat_le count greatest) (le-leb least count low) (le-leb count greatest high))
+    ∙ ap (λ b. cond b (Some count) None) (and_from (nat_le least count) (nat_le count greatest) (le-leb least count low)
+    (le-leb count greatest high))
 
 optional-made : (cell : Value) (value : Option ℤ) → cell ≡ cell_of value → optional_in cell ≡ Some value
 optional-made cell None is = ap optional_in is
@@ -46,7 +47,8 @@ made_content content point priority value first second third named =
     let name = name-made point content.point first named in
     let at = ap number_in second in
     let asked = optional-made value content.value third in
-    λ i. option_and_then (λ p. option_and_then (λ q. option_map (λ r. record { point = p; priority = q; value = r }) (asked i)) (at i)) (name i)
+    λ i. option_and_then (λ p. option_and_then (λ q. option_map (λ r. record { point = p; priority = q; value = r }) (asked i))
+    (at i)) (name i)
 
 -- the cells of a content and of a state
 pub made_cells : (kept : CommandRow) (point priority value state a b : Value) → content_in point priority value ≡ Some kept.content
@@ -55,12 +57,14 @@ made_cells kept point priority value state a b asks stands =
     λ i. option_and_then (λ content. option_map (λ state. record { content = content; state = state }) (stands i)) (asks i)
 
 pub made_command : (item : KeptRow) (row : Row) → column row 1 ≡ Text item.panel → column row 2 ≡ Int (pos item.number) → IsName item.panel
-    → IsNumber item.number → command_in (column row 3) (column row 4) (column row 5) (column row 6) (column row 7) (column row 8) ≡ Some item.row
+    → IsNumber item.number → command_in (column row 3) (column row 4) (column row 5) (column row 6) (column row 7) (column row 8)
+    ≡ Some item.row
     → command_said row ≡ Some item
 made_command item row first second named in' says =
     let name = name-made (column row 1) item.panel first named in
     let count = count-made 1 1_000_000_000_000 (column row 2) item.number second in'.least in'.greatest in
-    λ i. option_and_then (λ panel. option_and_then (λ number. option_map (λ kept. record { panel = panel; number = number; row = kept }) (says i)) (count i)) (name i)
+    λ i. option_and_then (λ panel. option_and_then
+    (λ number. option_map (λ kept. record { panel = panel; number = number; row = kept }) (says i)) (count i)) (name i)
 
 pub made_place : (item : PlaceValue) (value : ℤ) (row : Row) → item.value ≡ Some value → column row 1 ≡ Text item.point
     → column row 2 ≡ Int (pos item.priority) → column row 3 ≡ Int value → IsName item.point → IsPlace item → place_said row ≡ Some item
@@ -69,7 +73,8 @@ made_place item value row some first second third named in' =
     let count = count-made 1 16 (column row 2) item.priority second in'.at_least_1 in'.at_most_16 in
     let here = ap number_in third in
     let made : place_said row ≡ Some (record { point = item.point; priority = item.priority; value = Some value }) =
-    λ i. option_and_then (λ point. option_and_then (λ at. option_map (λ n. record { point = point; priority = at; value = Some n }) (here i)) (count i)) (name i) in
+    λ i. option_and_then (λ point. option_and_then
+    (λ at. option_map (λ n. record { point = point; priority = at; value = Some n }) (here i)) (count i)) (name i) in
     made ∙ (λ i. Some (record { point = item.point; priority = item.priority; value = sym some i }))
 
 pub made_shown : (item : ShownValue) (value : Option ℤ) (row : Row) → item.shown ≡ Some value → column row 1 ≡ Text item.schedule

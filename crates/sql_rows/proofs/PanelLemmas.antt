@@ -48,7 +48,8 @@ pub adds : (panel : List ℕ) (next : ℕ) → (old new : State) (result : Resul
     → ExecutesInside 0 add_text (Text panel ∷ Int (pos next) ∷ []) old new result
     → OnOk result (Changes (On panel_slot (Gains (Text panel ∷ Int (pos next) ∷ []))) old new)
 adds panel next old new result inside h =
-    gains panel_slot is_panel add_text add_plain (codes "panel") panel_table.columns panel_table.checks (lit Null ∷ col 0 0 ∷ col 0 1 ∷ []) 3 panel_tree refl add_is
+    gains panel_slot is_panel add_text add_plain (codes "panel") panel_table.columns panel_table.checks
+    (lit Null ∷ col 0 0 ∷ col 0 1 ∷ []) 3 panel_tree refl add_is
     old new (Text panel ∷ Int (pos next) ∷ []) (Text panel ∷ Int (pos next) ∷ []) result
     (rw (cast_null, cast_int (pos next)) refl) inside h
 
@@ -58,7 +59,8 @@ one_panel : (db : Database) → IsOurs db → (panel : List ℕ) (a b : Row) →
 unfolding first_key
 one_panel db ours panel a b ha hb is_a is_b =
     one_number (automatic panel_table 0 (1 ∷ []) 2) panel_table (1 ∷ []) db ours (inr (inl refl)) (inl refl) refl ours.rows.panel a b ha hb
-    (subst (λ v. passes (given 1 0 ∷ []) (v ∷ []) a ≡ true) (sym (text_is panel (column b 1) is_b)) (passes_panel db ours panel a ha ∙ is_a))
+    (subst (λ v. passes (given 1 0 ∷ []) (v ∷ []) a ≡ true) (sym (text_is panel (column b 1) is_b))
+    (passes_panel db ours panel a ha ∙ is_a))
 
 pub sets : (panel : List ℕ) (next : ℕ) → (old new : State) (result : Result ℕ Error) → IsInside old
     → ExecutesInside 0 set_text (Text panel ∷ Int (pos next) ∷ []) old new result
@@ -79,11 +81,14 @@ sets panel next old new result inside h =
 -- the queries
 
 pub find_shown : {V : Type 0} (items : V → List Row) (panel : List ℕ) (old new : State) (r : Result V Error) → IsOurs old.now
-    → IfOk r (λ v. Shown find_text (Text panel ∷ []) old new (items v)) → IfOk r (λ v. Finds (of_panel panel) (λ row. column row 2 ∷ []) (old.now.trees panel_tree) (items v))
+    → IfOk r (λ v. Shown find_text (Text panel ∷ []) old new (items v))
+    → IfOk r (λ v. Finds (of_panel panel) (λ row. column row 2 ∷ []) (old.now.trees panel_tree) (items v))
 find_shown items panel old new (Err e) ours shown = tt
 find_shown items panel old new (Ok v) ours shown =
-    finds_same (passes (given 1 0 ∷ []) (Text panel ∷ [])) (of_panel panel) (λ row. column row 2 ∷ []) (old.now.trees panel_tree) (items v) (λ row h. passes_panel old.now ours panel row h)
-    (finds find_text find_plain find_unlisted panel_tree (given 1 0 ∷ []) (col 1 2 ∷ []) (codes "next" ∷ []) find_is old new (Text panel ∷ []) (items v) ours.schema_is shown)
+    finds_same (passes (given 1 0 ∷ []) (Text panel ∷ [])) (of_panel panel) (λ row. column row 2 ∷ []) (old.now.trees panel_tree)
+    (items v) (λ row h. passes_panel old.now ours panel row h)
+    (finds find_text find_plain find_unlisted panel_tree (given 1 0 ∷ []) (col 1 2 ∷ []) (codes "next" ∷ []) find_is old new
+    (Text panel ∷ []) (items v) ours.schema_is shown)
 
 passes_next_name : (db : Database) → IsOurs db → (after : List ℕ) → (row : Row) → Has (db.trees panel_tree) row
     → passes (compared_with Gt 1 0 ∷ []) (Text after ∷ []) row ≡ (is_after after (column row 1))
@@ -92,8 +97,11 @@ passes_next_name db ours after row h =
     rw (after_text after (column row 1) cell.of cell.filled, and_true) refl
 
 pub next_name_shown : {V : Type 0} (items : V → List Row) (after : List ℕ) (old new : State) (r : Result V Error) → IsOurs old.now
-    → IfOk r (λ v. Shown next_name_text (Text after ∷ []) old new (items v)) → IfOk r (λ v. FindsLeast (λ row. is_after after (column row 1)) 1 (old.now.trees panel_tree) (items v))
+    → IfOk r (λ v. Shown next_name_text (Text after ∷ []) old new (items v))
+    → IfOk r (λ v. FindsLeast (λ row. is_after after (column row 1)) 1 (old.now.trees panel_tree) (items v))
 next_name_shown items after old new (Err e) ours shown = tt
 next_name_shown items after old new (Ok v) ours shown =
-    least_same (passes (compared_with Gt 1 0 ∷ []) (Text after ∷ [])) (λ row. is_after after (column row 1)) 1 (old.now.trees panel_tree) (items v) (λ row h. passes_next_name old.now ours after row h)
-    (finds_least next_name_text next_name_plain next_name_unlisted panel_tree (compared_with Gt 1 0 ∷ []) 1 (codes "name" ∷ []) next_name_is old new (Text after ∷ []) (items v) ours.schema_is shown)
+    least_same (passes (compared_with Gt 1 0 ∷ []) (Text after ∷ [])) (λ row. is_after after (column row 1)) 1
+    (old.now.trees panel_tree) (items v) (λ row h. passes_next_name old.now ours after row h)
+    (finds_least next_name_text next_name_plain next_name_unlisted panel_tree (compared_with Gt 1 0 ∷ []) 1 (codes "name" ∷ [])
+    next_name_is old new (Text after ∷ []) (items v) ours.schema_is shown)

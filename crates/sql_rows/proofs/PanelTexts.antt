@@ -30,7 +30,8 @@ set_text = codes "UPDATE panel SET next = ?2 WHERE name = ?1"
 abbrev pub cells_set : List Term
 cells_set = col 1 0 ∷ col 1 1 ∷ col 0 1 ∷ []
 
-pub set_is : command_of (understood desk_schema set_text) ≡ Update 1 (record { lets = []; body = plain_query panel_tree (given 1 0 ∷ []) (col 1 0 ∷ cells_set) })
+pub set_is : command_of (understood desk_schema set_text)
+    ≡ Update 1 (record { lets = []; body = plain_query panel_tree (given 1 0 ∷ []) (col 1 0 ∷ cells_set) })
 unfolding understood everything
 set_is = refl
 

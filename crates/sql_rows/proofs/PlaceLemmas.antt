@@ -50,38 +50,51 @@ pub passes_place : (db : Database) → IsOurs db → (point : List ℕ) (priorit
     → passes (given 1 0 ∷ given 2 1 ∷ []) (Text point ∷ Int (pos priority) ∷ []) row ≡ of_place point priority row
 passes_place db ours point priority row h =
     let cells = place_cells db ours row h in
-    rw (equal_text point (column row 1) cells.0.of cells.0.filled, equal_count priority (column row 2) cells.1.of cells.1.filled, and_true) refl
+    rw (
+      equal_text point (column row 1) cells.0.of cells.0.filled,
+      equal_count priority (column row 2) cells.1.of cells.1.filled,
+      and_true,
+    ) refl
 
 pub clears : (point : List ℕ) (priority : ℕ) (old new : State) (result : Result ℕ Error) → IsInside old
-    → ExecutesInside 0 clear_text (Text point ∷ Int (pos priority) ∷ []) old new result → OnOk result (Changes (On place_slot (Loses (of_place point priority))) old new)
+    → ExecutesInside 0 clear_text (Text point ∷ Int (pos priority) ∷ []) old new result
+    → OnOk result (Changes (On place_slot (Loses (of_place point priority))) old new)
 clears point priority old new result inside h =
     loses place_slot is_place clear_text clear_plain (given 1 0 ∷ given 2 1 ∷ []) (of_place point priority) clear_is
-    (λ a b same. ap (λ l. is_text point (column l 0) && is_count priority (column l 1)) same) old new (Text point ∷ Int (pos priority) ∷ []) result
+    (λ a b same. ap (λ l. is_text point (column l 0) && is_count priority (column l 1)) same) old new
+    (Text point ∷ Int (pos priority) ∷ []) result
     (λ row h. passes_place old.now inside.ours point priority row h) inside h
 
 pub adds : (point : List ℕ) (priority : ℕ) (value : ℤ) (old new : State) (result : Result ℕ Error) → IsInside old
-    → ExecutesInside 0 add_text (Text point ∷ Int (pos priority) ∷ Int value ∷ []) old new result → OnOk result (Changes (On place_slot (Gains (Text point ∷ Int (pos priority) ∷ Int value ∷ []))) old new)
+    → ExecutesInside 0 add_text (Text point ∷ Int (pos priority) ∷ Int value ∷ []) old new result
+    → OnOk result (Changes (On place_slot (Gains (Text point ∷ Int (pos priority) ∷ Int value ∷ []))) old new)
 adds point priority value old new result inside h =
-    gains place_slot is_place add_text add_plain (codes "place") place_table.columns place_table.checks (lit Null ∷ col 0 0 ∷ col 0 1 ∷ col 0 2 ∷ []) 4 place_tree refl add_is
+    gains place_slot is_place add_text add_plain (codes "place") place_table.columns place_table.checks
+    (lit Null ∷ col 0 0 ∷ col 0 1 ∷ col 0 2 ∷ []) 4 place_tree refl add_is
     old new (Text point ∷ Int (pos priority) ∷ Int value ∷ []) (Text point ∷ Int (pos priority) ∷ Int value ∷ []) result
     (rw (cast_null, cast_int (pos priority), cast_int value) refl) inside h
 
 -- no two rows have one place
-one_place : (db : Database) → IsOurs db → (point : List ℕ) (priority : ℕ) (a b : Row) → Has (db.trees place_tree) a → Has (db.trees place_tree) b
+one_place : (db : Database) → IsOurs db → (point : List ℕ) (priority : ℕ) (a b : Row) → Has (db.trees place_tree) a
+    → Has (db.trees place_tree) b
     → of_place point priority a ≡ true → of_place point priority b ≡ true → rowid a ≡ rowid b
 unfolding first_key
 one_place db ours point priority a b ha hb is_a is_b =
     let parts = and_parts _ _ is_b in
-    one_number (automatic place_table 0 (1 ∷ 2 ∷ []) 6) place_table (1 ∷ 2 ∷ []) db ours (inr (inr (inr (inl refl)))) (inr (inr (inl refl))) refl ours.rows.place a b ha hb
-    (subst₂ (λ v w. passes (given 1 0 ∷ given 2 1 ∷ []) (v ∷ w ∷ []) a ≡ true) (sym (text_is point (column b 1) parts.0)) (sym (count_is priority (column b 2) parts.1))
+    one_number (automatic place_table 0 (1 ∷ 2 ∷ []) 6) place_table (1 ∷ 2 ∷ []) db ours (inr (inr (inr (inl refl))))
+    (inr (inr (inl refl))) refl ours.rows.place a b ha hb
+    (subst₂ (λ v w. passes (given 1 0 ∷ given 2 1 ∷ []) (v ∷ w ∷ []) a ≡ true) (sym (text_is point (column b 1) parts.0))
+    (sym (count_is priority (column b 2) parts.1))
     (passes_place db ours point priority a ha ∙ is_a))
 
 pub sets : (point : List ℕ) (priority : ℕ) (value : ℤ) (old new : State) (result : Result ℕ Error) → IsInside old
     → ExecutesInside 0 set_text (Text point ∷ Int (pos priority) ∷ Int value ∷ []) old new result
-    → IfOk result (λ count. Changes (On place_slot (Rewrites (of_place point priority) (Text point ∷ Int (pos priority) ∷ Int value ∷ []) count)) old new)
+    → IfOk result (λ count. Changes (On place_slot
+    (Rewrites (of_place point priority) (Text point ∷ Int (pos priority) ∷ Int value ∷ []) count)) old new)
 sets point priority value old new result inside h =
     let cells = Text point ∷ Int (pos priority) ∷ Int value ∷ [] in
-    rewrites place_slot is_place set_text set_plain (given 1 0 ∷ given 2 1 ∷ []) (of_place point priority) cells_set set_is old new cells cells result
+    rewrites place_slot is_place set_text set_plain (given 1 0 ∷ given 2 1 ∷ []) (of_place point priority) cells_set set_is old new
+    cells cells result
     (λ row h. passes_place old.now inside.ours point priority row h)
     (record {
       by_key = λ a b same. ap (λ l. is_text point (column l 0) && is_count priority (column l 1)) same;
@@ -89,18 +102,28 @@ sets point priority value old new result inside h =
       made = λ row h is.
           let parts = and_parts _ _ is in
           let number = int_is (rowid row) (inside.ours.rows.place.numbered row h) in
-          rw (text_is point (column row 1) parts.0, count_is priority (column row 2) parts.1, cast_int (pos priority), cast_int value, number, cast_int (id_in (rowid row))) refl;
+          rw (
+            text_is point (column row 1) parts.0,
+            count_is priority (column row 2) parts.1,
+            cast_int (pos priority),
+            cast_int value,
+            number,
+            cast_int (id_in (rowid row)),
+          ) refl;
     })
     inside h
 
 -- the queries
 
 pub find_shown : {V : Type 0} (items : V → List Row) (point : List ℕ) (priority : ℕ) (old new : State) (r : Result V Error) → IsOurs old.now
-    → IfOk r (λ v. Shown find_text (Text point ∷ Int (pos priority) ∷ []) old new (items v)) → IfOk r (λ v. Finds (of_place point priority) (λ row. column row 3 ∷ []) (old.now.trees place_tree) (items v))
+    → IfOk r (λ v. Shown find_text (Text point ∷ Int (pos priority) ∷ []) old new (items v))
+    → IfOk r (λ v. Finds (of_place point priority) (λ row. column row 3 ∷ []) (old.now.trees place_tree) (items v))
 find_shown items point priority old new (Err e) ours shown = tt
 find_shown items point priority old new (Ok v) ours shown =
-    finds_same (passes (given 1 0 ∷ given 2 1 ∷ []) (Text point ∷ Int (pos priority) ∷ [])) (of_place point priority) (λ row. column row 3 ∷ []) (old.now.trees place_tree) (items v) (λ row h. passes_place old.now ours point priority row h)
-    (finds find_text find_plain find_unlisted place_tree (given 1 0 ∷ given 2 1 ∷ []) (col 1 3 ∷ []) (codes "value" ∷ []) find_is old new (Text point ∷ Int (pos priority) ∷ []) (items v) ours.schema_is shown)
+    finds_same (passes (given 1 0 ∷ given 2 1 ∷ []) (Text point ∷ Int (pos priority) ∷ [])) (of_place point priority)
+    (λ row. column row 3 ∷ []) (old.now.trees place_tree) (items v) (λ row h. passes_place old.now ours point priority row h)
+    (finds find_text find_plain find_unlisted place_tree (given 1 0 ∷ given 2 1 ∷ []) (col 1 3 ∷ []) (codes "value" ∷ []) find_is
+    old new (Text point ∷ Int (pos priority) ∷ []) (items v) ours.schema_is shown)
 
 passes_next_point : (db : Database) → IsOurs db → (after : List ℕ) → (row : Row) → Has (db.trees place_tree) row
     → passes (compared_with Gt 1 0 ∷ []) (Text after ∷ []) row ≡ (is_after after (column row 1))
@@ -109,24 +132,34 @@ passes_next_point db ours after row h =
     rw (after_text after (column row 1) cells.0.of cells.0.filled, and_true) refl
 
 pub next_point_shown : {V : Type 0} (items : V → List Row) (after : List ℕ) (old new : State) (r : Result V Error) → IsOurs old.now
-    → IfOk r (λ v. Shown next_point_text (Text after ∷ []) old new (items v)) → IfOk r (λ v. FindsLeast (λ row. is_after after (column row 1)) 1 (old.now.trees place_tree) (items v))
+    → IfOk r (λ v. Shown next_point_text (Text after ∷ []) old new (items v))
+    → IfOk r (λ v. FindsLeast (λ row. is_after after (column row 1)) 1 (old.now.trees place_tree) (items v))
 next_point_shown items after old new (Err e) ours shown = tt
 next_point_shown items after old new (Ok v) ours shown =
-    least_same (passes (compared_with Gt 1 0 ∷ []) (Text after ∷ [])) (λ row. is_after after (column row 1)) 1 (old.now.trees place_tree) (items v) (λ row h. passes_next_point old.now ours after row h)
-    (finds_least next_point_text next_point_plain next_point_unlisted place_tree (compared_with Gt 1 0 ∷ []) 1 (codes "point" ∷ []) next_point_is old new (Text after ∷ []) (items v) ours.schema_is shown)
+    least_same (passes (compared_with Gt 1 0 ∷ []) (Text after ∷ [])) (λ row. is_after after (column row 1)) 1
+    (old.now.trees place_tree) (items v) (λ row h. passes_next_point old.now ours after row h)
+    (finds_least next_point_text next_point_plain next_point_unlisted place_tree (compared_with Gt 1 0 ∷ []) 1 (codes "point" ∷ [])
+    next_point_is old new (Text after ∷ []) (items v) ours.schema_is shown)
 
 passes_next_priority : (db : Database) → IsOurs db → (point : List ℕ) (from : ℕ) → (row : Row) → Has (db.trees place_tree) row
-    → passes (given 1 0 ∷ compared_with Ge 2 1 ∷ []) (Text point ∷ Int (pos from) ∷ []) row ≡ (is_text point (column row 1) && is_from from (column row 2))
+    → passes (given 1 0 ∷ compared_with Ge 2 1 ∷ []) (Text point ∷ Int (pos from) ∷ []) row
+    ≡ (is_text point (column row 1) && is_from from (column row 2))
 passes_next_priority db ours point from row h =
     let cells = place_cells db ours row h in
     rw (equal_text point (column row 1) cells.0.of cells.0.filled, from_count from (column row 2) cells.1.of cells.1.filled, and_true) refl
 
-pub next_priority_shown : {V : Type 0} (items : V → List Row) (point : List ℕ) (from : ℕ) (old new : State) (r : Result V Error) → IsOurs old.now
-    → IfOk r (λ v. Shown next_priority_text (Text point ∷ Int (pos from) ∷ []) old new (items v)) → IfOk r (λ v. FindsLeast (λ row. is_text point (column row 1) && is_from from (column row 2)) 2 (old.now.trees place_tree) (items v))
+pub next_priority_shown : {V : Type 0} (items : V → List Row) (point : List ℕ) (from : ℕ) (old new : State) (r : Result V Error)
+    → IsOurs old.now
+    → IfOk r (λ v. Shown next_priority_text (Text point ∷ Int (pos from) ∷ []) old new (items v))
+    → IfOk r (λ v. FindsLeast (λ row. is_text point (column row 1) && is_from from (column row 2)) 2 (old.now.trees place_tree)
+    (items v))
 next_priority_shown items point from old new (Err e) ours shown = tt
 next_priority_shown items point from old new (Ok v) ours shown =
-    least_same (passes (given 1 0 ∷ compared_with Ge 2 1 ∷ []) (Text point ∷ Int (pos from) ∷ [])) (λ row. is_text point (column row 1) && is_from from (column row 2)) 2 (old.now.trees place_tree) (items v) (λ row h. passes_next_priority old.now ours point from row h)
-    (finds_least next_priority_text next_priority_plain next_priority_unlisted place_tree (given 1 0 ∷ compared_with Ge 2 1 ∷ []) 2 (codes "priority" ∷ []) next_priority_is old new (Text point ∷ Int (pos from) ∷ []) (items v) ours.schema_is shown)
+    least_same (passes (given 1 0 ∷ compared_with Ge 2 1 ∷ []) (Text point ∷ Int (pos from) ∷ []))
+    (λ row. is_text point (column row 1) && is_from from (column row 2)) 2 (old.now.trees place_tree) (items v)
+    (λ row h. passes_next_priority old.now ours point from row h)
+    (finds_least next_priority_text next_priority_plain next_priority_unlisted place_tree (given 1 0 ∷ compared_with Ge 2 1 ∷ []) 2
+    (codes "priority" ∷ []) next_priority_is old new (Text point ∷ Int (pos from) ∷ []) (items v) ours.schema_is shown)
 
 passes_point : (db : Database) → IsOurs db → (point : List ℕ) (row : Row) → Has (db.trees place_tree) row
     → passes (given 1 0 ∷ []) (Text point ∷ []) row ≡ is_text point (column row 1)
@@ -135,8 +168,12 @@ passes_point db ours point row h =
     rw (equal_text point (column row 1) cells.0.of cells.0.filled, and_true) refl
 
 pub of_point_shown : {V : Type 0} (items : V → List Row) (point : List ℕ) (old new : State) (r : Result V Error) → IsOurs old.now
-    → IfOk r (λ v. Shown of_point_text (Text point ∷ []) old new (items v)) → IfOk r (λ v. Finds (λ row. is_text point (column row 1)) (λ row. column row 2 ∷ column row 3 ∷ []) (old.now.trees place_tree) (items v))
+    → IfOk r (λ v. Shown of_point_text (Text point ∷ []) old new (items v))
+    → IfOk r (λ v. Finds (λ row. is_text point (column row 1)) (λ row. column row 2 ∷ column row 3 ∷ [])
+    (old.now.trees place_tree) (items v))
 of_point_shown items point old new (Err e) ours shown = tt
 of_point_shown items point old new (Ok v) ours shown =
-    finds_same (passes (given 1 0 ∷ []) (Text point ∷ [])) (λ row. is_text point (column row 1)) (λ row. column row 2 ∷ column row 3 ∷ []) (old.now.trees place_tree) (items v) (λ row h. passes_point old.now ours point row h)
-    (finds of_point_text of_point_plain of_point_unlisted place_tree (given 1 0 ∷ []) (col 1 2 ∷ col 1 3 ∷ []) (codes "priority" ∷ codes "value" ∷ []) of_point_is old new (Text point ∷ []) (items v) ours.schema_is shown)
+    finds_same (passes (given 1 0 ∷ []) (Text point ∷ [])) (λ row. is_text point (column row 1))
+    (λ row. column row 2 ∷ column row 3 ∷ []) (old.now.trees place_tree) (items v) (λ row h. passes_point old.now ours point row h)
+    (finds of_point_text of_point_plain of_point_unlisted place_tree (given 1 0 ∷ []) (col 1 2 ∷ col 1 3 ∷ [])
+    (codes "priority" ∷ codes "value" ∷ []) of_point_is old new (Text point ∷ []) (items v) ours.schema_is shown)

@@ -41,7 +41,8 @@ set_text = codes "UPDATE place SET value = ?3 WHERE point = ?1 AND priority = ?2
 abbrev pub cells_set : List Term
 cells_set = col 1 0 ∷ col 1 1 ∷ col 1 2 ∷ col 0 2 ∷ []
 
-pub set_is : command_of (understood desk_schema set_text) ≡ Update 3 (record { lets = []; body = plain_query place_tree (given 1 0 ∷ given 2 1 ∷ []) (col 1 0 ∷ cells_set) })
+pub set_is : command_of (understood desk_schema set_text)
+    ≡ Update 3 (record { lets = []; body = plain_query place_tree (given 1 0 ∷ given 2 1 ∷ []) (col 1 0 ∷ cells_set) })
 unfolding understood everything
 set_is = refl
 
@@ -54,7 +55,8 @@ set_plain = (refl, refl)
 abbrev pub find_text : List ℕ
 find_text = codes "SELECT value FROM place WHERE point = ?1 AND priority = ?2"
 
-pub find_is : command_of (understood desk_schema find_text) ≡ selection place_tree (given 1 0 ∷ given 2 1 ∷ []) (col 1 3 ∷ []) (codes "value" ∷ [])
+pub find_is : command_of (understood desk_schema find_text)
+    ≡ selection place_tree (given 1 0 ∷ given 2 1 ∷ []) (col 1 3 ∷ []) (codes "value" ∷ [])
 unfolding understood everything
 find_is = refl
 
@@ -69,7 +71,8 @@ find_unlisted = refl
 abbrev pub next_point_text : List ℕ
 next_point_text = codes "SELECT point FROM place WHERE point > ?1 ORDER BY point LIMIT 1"
 
-pub next_point_is : command_of (understood desk_schema next_point_text) ≡ least place_tree (compared_with Gt 1 0 ∷ []) 1 (codes "point" ∷ [])
+pub next_point_is : command_of (understood desk_schema next_point_text)
+    ≡ least place_tree (compared_with Gt 1 0 ∷ []) 1 (codes "point" ∷ [])
 unfolding understood everything
 next_point_is = refl
 
@@ -84,7 +87,8 @@ next_point_unlisted = refl
 abbrev pub next_priority_text : List ℕ
 next_priority_text = codes "SELECT priority FROM place WHERE point = ?1 AND priority >= ?2 ORDER BY priority LIMIT 1"
 
-pub next_priority_is : command_of (understood desk_schema next_priority_text) ≡ least place_tree (given 1 0 ∷ compared_with Ge 2 1 ∷ []) 2 (codes "priority" ∷ [])
+pub next_priority_is : command_of (understood desk_schema next_priority_text)
+    ≡ least place_tree (given 1 0 ∷ compared_with Ge 2 1 ∷ []) 2 (codes "priority" ∷ [])
 unfolding understood everything
 next_priority_is = refl
 
@@ -99,7 +103,8 @@ next_priority_unlisted = refl
 abbrev pub of_point_text : List ℕ
 of_point_text = codes "SELECT priority, value FROM place WHERE point = ?1"
 
-pub of_point_is : command_of (understood desk_schema of_point_text) ≡ selection place_tree (given 1 0 ∷ []) (col 1 2 ∷ col 1 3 ∷ []) (codes "priority" ∷ codes "value" ∷ [])
+pub of_point_is : command_of (understood desk_schema of_point_text)
+    ≡ selection place_tree (given 1 0 ∷ []) (col 1 2 ∷ col 1 3 ∷ []) (codes "priority" ∷ codes "value" ∷ [])
 unfolding understood everything
 of_point_is = refl
 

@@ -33,7 +33,8 @@ text-same a b is = (bytes_eq-Decides a b).1 is
 
 pub either-text : (a b : List ℕ) → bytes_eq a b ≡ bytes_eq b a
 either-text a b =
-    same_from_decides {P = a ≡ b} (bytes_eq a b) (bytes_eq b a) (bytes_eq-Decides a b) ((λ is. sym (same-text b a is)), (λ is. text-same b a (sym is)))
+    same_from_decides {P = a ≡ b} (bytes_eq a b) (bytes_eq b a) (bytes_eq-Decides a b)
+    ((λ is. sym (same-text b a is)), (λ is. text-same b a (sym is)))
 
 pub either-number : (m n : ℕ) → (m == n) ≡ (n == m)
 either-number m n = grind (arith, nat_tests)
@@ -110,7 +111,8 @@ three-parts : {A B C D : Type 0} (f : A → B → C → D) (a : Option A) (b : O
 three-parts f None b c made is = absurd (none-some made is)
 three-parts f (Some p) None c made is = absurd (none-some made is)
 three-parts f (Some p) (Some q) None made is = absurd (none-some made is)
-three-parts f (Some p) (Some q) (Some r) made is = record { first = p; second = q; third = r; first-is = refl; second-is = refl; third-is = refl; is = cc }
+three-parts f (Some p) (Some q) (Some r) made is =
+    record { first = p; second = q; third = r; first-is = refl; second-is = refl; third-is = refl; is = cc }
 
 -- ---- the rows of a key
 
@@ -137,7 +139,8 @@ command-parts row item says =
       count.cell ∙ ap (λ n. Int (pos n)) (ap (λ y. y.number) parts.is),
     )
 
-pub command-agrees : (panel : List ℕ) (number : ℕ) → Agrees command_said (of_command panel number) (λ y. bytes_eq panel y.panel && number == y.number)
+pub command-agrees : (panel : List ℕ) (number : ℕ)
+    → Agrees command_said (of_command panel number) (λ y. bytes_eq panel y.panel && number == y.number)
 command-agrees panel number row item says =
     let parts = command-parts row item says in
     both-tests (ap (is_text panel) parts.0) (ap (is_count number) parts.1)
@@ -157,7 +160,8 @@ pub record PlaceParts (row : Row) (item : PlaceValue) : Type 0 where
 
 pub place-parts : (row : Row) (item : PlaceValue) → place_said row ≡ Some item → PlaceParts row item
 place-parts row item says =
-    let parts = three-parts (λ name priority value. let it : PlaceValue = record { point = name; priority = priority; value = Some value } in it)
+    let parts =
+    three-parts (λ name priority value. let it : PlaceValue = record { point = name; priority = priority; value = Some value } in it)
     (name_in (column row 1)) (count_in 1 16 (column row 2)) (number_in (column row 3)) item says in
     let count = count-cell 1 16 (column row 2) parts.second parts.second-is in
     let same : parts.second ≡ item.priority = ap (λ y. y.priority) parts.is in

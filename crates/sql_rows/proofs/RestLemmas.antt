@@ -23,7 +23,8 @@ pub rests_unchanged : (old new : State) → IsUnchanged old new → Rests old ne
 rests_unchanged old new same = record { was_open = λ _. same.0.was_open; same = λ _ _. (same.0.now_is, same.0.committed_is) }
 
 rests_rolled : (old new : State) → IsRolledBack old new → Rests old new
-rests_rolled old new back = record { was_open = back.was_open; same = λ alike stands. ((back.undone stands).0 ∙ sym alike, (back.undone stands).1) }
+rests_rolled old new back =
+    record { was_open = back.was_open; same = λ alike stands. ((back.undone stands).0 ∙ sym alike, (back.undone stands).1) }
 
 pub fails_rests : (sql : List ℕ) (params : Row) (old new : State) (e : Error) → IsPlain (understood old.now.schema sql)
     → FailsToQuery sql params old new e → Rests old new
@@ -46,50 +47,73 @@ shown_unchanged sql params old new rows plain h =
 pub look_survives : (sql : List ℕ) (params : Row) (old new : State) → Survives old new (CommitsShowing sql params old)
     → Survives old new (λ _. IsPlain (understood old.now.schema sql) → ⊥)
 look_survives sql params old new survives =
-    survives_weaker old new (CommitsShowing sql params old) (λ _. IsPlain (understood old.now.schema sql) → ⊥) (λ _ db commits plain. never_commits sql params old db plain commits) survives
+    survives_weaker old new (CommitsShowing sql params old) (λ _. IsPlain (understood old.now.schema sql) → ⊥)
+    (λ _ db commits plain. never_commits sql params old db plain commits) survives
 
 -- ---- what the answers are, over the schema of the six tables
 
 module _ (sql : List ℕ) (plain : IsPlain (understood desk_schema sql)) (unlisted : reads_listing desk_schema sql ≡ false) where
   pub finds : (tree : ℕ) (terms project : List Term) (names : List (List ℕ))
       → command_of (understood desk_schema sql) ≡ selection tree terms project names
-      → (old new : State) (params : Row) (rows : List Row) → old.now.schema ≡ desk_schema → Shown sql params old new rows → Finds (passes terms params) (shows project params) (old.now.trees tree) rows
+      → (old new : State) (params : Row) (rows : List Row) → old.now.schema ≡ desk_schema → Shown sql params old new rows
+      → Finds (passes terms params) (shows project params) (old.now.trees tree) rows
   finds tree terms project names is old new params rows has h =
-      record { shown = plain_program tree terms project old.now.trees params rows (reads_as sql params old new desk_schema has (selection tree terms project names) is plain unlisted rows h).answer }
+      record {
+        shown =
+            plain_program tree terms project old.now.trees params rows
+            (reads_as sql params old new desk_schema has (selection tree terms project names) is plain unlisted rows h).answer;
+      }
 
   pub finds_least : (tree : ℕ) (terms : List Term) (column : ℕ) (names : List (List ℕ))
       → command_of (understood desk_schema sql) ≡ least tree terms column names
-      → (old new : State) (params : Row) (rows : List Row) → old.now.schema ≡ desk_schema → Shown sql params old new rows → FindsLeast (passes terms params) column (old.now.trees tree) rows
+      → (old new : State) (params : Row) (rows : List Row) → old.now.schema ≡ desk_schema → Shown sql params old new rows
+      → FindsLeast (passes terms params) column (old.now.trees tree) rows
   finds_least tree terms column names is old new params rows has h =
-      least_program tree terms column old.now.trees params rows (reads_as sql params old new desk_schema has (least tree terms column names) is plain unlisted rows h).answer
+      least_program tree terms column old.now.trees params rows
+      (reads_as sql params old new desk_schema has (least tree terms column names) is plain unlisted rows h).answer
 
 -- of a result that holds the rows in a vector
-module _ {V : Type 0} (items : V → List Row) (sql : List ℕ) (params : Row) (old new : State) (plain : IsPlain (understood old.now.schema sql)) where
+module _ {V : Type 0} (items : V → List Row) (sql : List ℕ) (params : Row) (old new : State)
+    (plain : IsPlain (understood old.now.schema sql)) where
   pub look_same : (r : Result V Error) → IfOk r (λ v. Shown sql params old new (items v)) → OnOk r (IsUnchanged old new)
   look_same (Ok v) shown = shown_unchanged sql params old new (items v) plain shown
   look_same (Err e) shown = tt
 
-  pub look_rests : (r : Result V Error) → IfOk r (λ v. Shown sql params old new (items v)) → IfErr r (FailsToQuery sql params old new) → Rests old new
+  pub look_rests : (r : Result V Error) → IfOk r (λ v. Shown sql params old new (items v))
+      → IfErr r (FailsToQuery sql params old new) → Rests old new
   look_rests (Ok v) shown failed = rests_unchanged old new (shown_unchanged sql params old new (items v) plain shown)
   look_rests (Err e) shown failed = fails_rests sql params old new e plain failed
 
 -- two tests that agree on the rows pick the same
 pub finds_same : (p q : Row → Bool) (show : Row → Row) (rows answer : List Row) → ((row : Row) → Has rows row → p row ≡ q row)
     → Finds p show rows answer → Finds q show rows answer
-finds_same p q show rows answer same h = record { shown = subst (λ l. IsPermutation (map show l) answer) (filter_same p q rows same) h.shown }
+finds_same p q show rows answer same h =
+    record { shown = subst (λ l. IsPermutation (map show l) answer) (filter_same p q rows same) h.shown }
 
 pub least_same : (p q : Row → Bool) (at : ℕ) (rows answer : List Row) → ((row : Row) → Has rows row → p row ≡ q row)
     → FindsLeast p at rows answer → FindsLeast q at rows answer
 least_same p q at rows answer same h = record {
   none = λ none. sym (filter_same p q rows same) ∙ h.none none;
-  some = λ shown more is. let it = h.some shown more is in (it.0, it.1, sym (same it.0 it.1) ∙ it.2, it.3, it.4, λ other there picked. it.5 other there (same other there ∙ picked));
+  some =
+      λ shown more is. let it =
+      h.some shown more is in (
+        it.0,
+        it.1,
+        sym (same it.0 it.1)
+            ∙ it.2,
+        it.3,
+        it.4,
+        λ other there picked. it.5 other there (same other there ∙ picked),
+      );
 }
 
 -- what is known of the schema
-pub plain_here : (sql : List ℕ) (old : State) → IsOurs old.now → IsPlain (understood desk_schema sql) → IsPlain (understood old.now.schema sql)
+pub plain_here : (sql : List ℕ) (old : State) → IsOurs old.now → IsPlain (understood desk_schema sql)
+    → IsPlain (understood old.now.schema sql)
 plain_here sql old ours plain = subst (λ s. IsPlain (understood s sql)) (sym ours.schema_is) plain
 
 pub ours_survives : (sql : List ℕ) (old new : State) → IsPlain (understood desk_schema sql)
     → Survives old new (λ _. IsPlain (understood old.now.schema sql) → ⊥) → Survives old new (λ _. IsOurs old.now → ⊥)
 ours_survives sql old new plain survives =
-    survives_weaker old new (λ _. IsPlain (understood old.now.schema sql) → ⊥) (λ _. IsOurs old.now → ⊥) (λ _ db never ours. never (plain_here sql old ours plain)) survives
+    survives_weaker old new (λ _. IsPlain (understood old.now.schema sql) → ⊥) (λ _. IsOurs old.now → ⊥)
+    (λ _ db never ours. never (plain_here sql old ours plain)) survives

@@ -37,8 +37,10 @@ pub record Aims (slot : Slot) (gone : Row → Bool) (set : List Term) (params ce
   pub one : (a b : Row) → Has rows a → Has rows b → gone a ≡ true → gone b ≡ true → rowid a ≡ rowid b
   pub made : (row : Row) → Has rows row → gone row ≡ true → cast_row slot.table (shows set params row) ≡ rowid row ∷ cells
 
-module _ (slot : Slot) (is_slot : IsSlot slot) (sql : List ℕ) (plain : IsPlain (understood desk_schema sql)) (gone : Row → Bool) (set : List Term) (params cells : Row)
-    (old new : State) (inside : IsInside old) (seen : Shows old new new.now old.committed true) (aims : Aims slot gone set params cells (old.now.trees slot.table.tree)) where
+module _ (slot : Slot) (is_slot : IsSlot slot) (sql : List ℕ) (plain : IsPlain (understood desk_schema sql)) (gone : Row → Bool)
+    (set : List Term) (params cells : Row)
+    (old new : State) (inside : IsInside old) (seen : Shows old new new.now old.committed true)
+    (aims : Aims slot gone set params cells (old.now.trees slot.table.tree)) where
   abbrev rows : List Row
   rows = old.now.trees slot.table.tree
 
@@ -53,7 +55,9 @@ module _ (slot : Slot) (is_slot : IsSlot slot) (sql : List ℕ) (plain : IsPlain
   taken_out answer picked =
       let own = own_rows slot is_slot sql plain old inside in
       let number = λ (r : Row). rowid r ∷ [] in
-      let told = subst (λ l. IsPermutation l (map number answer)) (map_map number show (filter gone rows)) (IsPermutation-map number (map show (filter gone rows)) answer picked) in
+      let told =
+      subst (λ l. IsPermutation l (map number answer)) (map_map number show (filter gone rows))
+      (IsPermutation-map number (map show (filter gone rows)) answer picked) in
       ap (without_all rows) (sym (map_map (λ r. id_in (rowid r)) number answer))
       ∙ deleted gone rows (map number answer) own.numbered (λ a b ha hb tied. aims.by_key a b (own.apart a b ha hb tied)) told
 
@@ -67,25 +71,30 @@ module _ (slot : Slot) (is_slot : IsSlot slot) (sql : List ℕ) (plain : IsPlain
 
   -- the rows by what the UPDATE answered
   turned : (count : ℕ) (answer : List Row) → IsPermutation (map show (filter gone rows)) answer → count ≡ length answer
-      → Ran old new (edit_of old.now.trees slot.table (ids_of answer) Given 1 answer) → Changes (On slot (Rewrites gone cells count)) old new
+      → Ran old new (edit_of old.now.trees slot.table (ids_of answer) Given 1 answer)
+      → Changes (On slot (Rewrites gone cells count)) old new
   turned count [] picked counted ran =
       let own = own_rows slot is_slot sql plain old inside in
       let now : new.now.trees slot.table.tree ≡ rows = ran.applies.rows in
       subst (λ n. Changes (On slot (Rewrites gone cells n)) old new) (sym counted)
-      (changed slot is_slot sql plain (Rewrites gone cells 0) _ old new refl inside seen ran (subst (AreOwn slot.key) (sym now) own) (taken_out [] picked, now))
+      (changed slot is_slot sql plain (Rewrites gone cells 0) _ old new refl inside seen ran (subst (AreOwn slot.key) (sym now) own)
+      (taken_out [] picked, now))
   turned count (a ∷ []) picked counted ran =
       let own = own_rows slot is_slot sql plain old inside in
       let from = origin (a ∷ []) a picked (inl refl) in
       let row = rowid from.0 ∷ cells in
       let left = taken_out (a ∷ []) picked in
       let news = numbered_given (without_all rows (ids_of (a ∷ []))) (cast_row slot.table (drop 1 a) ∷ []) ∙ ap (λ r. r ∷ []) from.3 in
-      let free : is_taken others row ≡ false = not_true _ (and_parts _ _ (subst₂ (λ l n. are_fresh l n ≡ true) left news ran.applies.fresh)).0 in
+      let free : is_taken others row ≡ false =
+      not_true _ (and_parts _ _ (subst₂ (λ l n. are_fresh l n ≡ true) left news ran.applies.fresh)).0 in
       let now : new.now.trees slot.table.tree ≡ put_row row others = ran.applies.rows ∙ ap₂ put_all left news in
       let more = put_apart row others free in
-      let has : HasPut row gone rows (new.now.trees slot.table.tree) = record { before = more.before; after = more.after; left = more.was; is = now ∙ more.is } in
+      let has : HasPut row gone rows (new.now.trees slot.table.tree) =
+      record { before = more.before; after = more.after; left = more.was; is = now ∙ more.is } in
       let kept = own_put row slot.key others (own.numbered from.0 from.1) free (own_filtered (λ r. not (gone r)) slot.key rows own) in
       subst (λ n. Changes (On slot (Rewrites gone cells n)) old new) (sym counted)
-      (changed slot is_slot sql plain (Rewrites gone cells 1) _ old new refl inside seen ran (subst (AreOwn slot.key) (sym now) kept) (rowid from.0, has))
+      (changed slot is_slot sql plain (Rewrites gone cells 1) _ old new refl inside seen ran
+      (subst (AreOwn slot.key) (sym now) kept) (rowid from.0, has))
   turned count (a ∷ b ∷ more) picked counted ran =
       let answer = a ∷ b ∷ more in
       let first = origin answer a picked (inl refl) in
@@ -93,23 +102,31 @@ module _ (slot : Slot) (is_slot : IsSlot slot) (sql : List ℕ) (plain : IsPlain
       let one = rowid first.0 ∷ cells in
       let other = rowid second.0 ∷ cells in
       let rest = map (λ r. cast_row slot.table (drop 1 r)) more in
-      let news = numbered_given (without_all rows (ids_of answer)) (map (λ r. cast_row slot.table (drop 1 r)) answer) ∙ ap₂ (λ x y. x ∷ y ∷ rest) first.3 second.3 in
+      let news =
+      numbered_given (without_all rows (ids_of answer)) (map (λ r. cast_row slot.table (drop 1 r)) answer)
+      ∙ ap₂ (λ x y. x ∷ y ∷ rest) first.3 second.3 in
       let fresh = subst₂ (λ l n. are_fresh l n ≡ true) (taken_out answer picked) news ran.applies.fresh in
       let free = not_true _ (and_parts _ _ (and_parts _ _ fresh).1).0 in
-      let taken = tied_taken other (put_row one others) one (has_put one others) (aims.one first.0 second.0 first.1 second.1 first.2 second.2) in
+      let taken =
+      tied_taken other (put_row one others) one (has_put one others) (aims.one first.0 second.0 first.1 second.1 first.2 second.2) in
       absurd (true≢false (sym taken ∙ free))
 
-module _ (slot : Slot) (is_slot : IsSlot slot) (sql : List ℕ) (plain : IsPlain (understood desk_schema sql)) (terms : List Term) (gone : Row → Bool) (set : List Term)
-    (is : command_of (understood desk_schema sql) ≡ Update slot.at (record { lets = []; body = plain_query slot.table.tree terms (col 1 0 ∷ set) })) where
+module _ (slot : Slot) (is_slot : IsSlot slot) (sql : List ℕ) (plain : IsPlain (understood desk_schema sql)) (terms : List Term)
+    (gone : Row → Bool) (set : List Term)
+    (is : command_of (understood desk_schema sql)
+    ≡ Update slot.at (record { lets = []; body = plain_query slot.table.tree terms (col 1 0 ∷ set) })) where
   -- a statement that changes the rows of a key
   pub rewrites : (old new : State) (params cells : Row) (result : Result ℕ Error)
       → ((row : Row) → Has (old.now.trees slot.table.tree) row → passes terms params row ≡ gone row)
       → Aims slot gone set params cells (old.now.trees slot.table.tree)
-      → IsInside old → ExecutesInside 0 sql params old new result → IfOk result (λ count. Changes (On slot (Rewrites gone cells count)) old new)
+      → IsInside old → ExecutesInside 0 sql params old new result
+      → IfOk result (λ count. Changes (On slot (Rewrites gone cells count)) old new)
   rewrites old new params cells (Err e) same aims inside h = tt
   rewrites old new params cells (Ok count) same aims inside h =
       let rows = old.now.trees slot.table.tree in
       let show = shows (col 1 0 ∷ set) params in
-      let gave = updates sql slot.at slot.table is_slot.found plain slot.table.tree terms (col 1 0 ∷ set) is old new params count inside.ours.schema_is h.0 in
+      let gave =
+      updates sql slot.at slot.table is_slot.found plain slot.table.tree terms (col 1 0 ∷ set) is old new params count
+      inside.ours.schema_is h.0 in
       let picked = subst (λ l. IsPermutation (map show l) gave.0) (filter_same (passes terms params) gone rows same) gave.1 in
       turned slot is_slot sql plain gone set params cells old new inside h.1 aims count gave.0 picked gave.3 gave.2

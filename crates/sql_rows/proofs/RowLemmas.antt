@@ -51,12 +51,14 @@ without_ids (id ∷ ids) rows =
 has_id : (id : ℤ) (row : Row) → is_int (rowid row) ≡ true → has_rowid id row ≡ true → rowid row ≡ Int id
 has_id id row int has =
     let own = int_is (rowid row) int in
-    let tied : is_eq (int_cmp (id_in (rowid row)) id) ≡ true = ap is_eq (sym (value_cmp-Int (id_in (rowid row)) id)) ∙ ap (λ v. is_eq (value_cmp v (Int id))) (sym own) ∙ has in
+    let tied : is_eq (int_cmp (id_in (rowid row)) id) ≡ true =
+    ap is_eq (sym (value_cmp-Int (id_in (rowid row)) id)) ∙ ap (λ v. is_eq (value_cmp v (Int id))) (sym own) ∙ has in
     let same : id_in (rowid row) ≡ id = (Decides-int_eq (id_in (rowid row)) id).0 tied in
     own ∙ ap Int same
 
 pub has_own_id : (row : Row) → is_int (rowid row) ≡ true → has_rowid (id_in (rowid row)) row ≡ true
-has_own_id row int = ap (λ v. is_eq (value_cmp (rowid row) v)) (sym (int_is (rowid row) int)) ∙ ap is_eq (tied_itself value_cmp_total (rowid row))
+has_own_id row int =
+    ap (λ v. is_eq (value_cmp (rowid row) v)) (sym (int_is (rowid row) int)) ∙ ap is_eq (tied_itself value_cmp_total (rowid row))
 
 pub has_permuted : {X : Type 0} (xs ys : List X) (x : X) → IsPermutation xs ys → Has ys x → Has xs x
 has_permuted xs ys x same = all_has (Has xs) ys x (all-permutation (Has xs) xs ys same (all_from (Has xs) xs (λ e h. h)))
@@ -91,7 +93,8 @@ deleted p rows answer numbered apart shown =
     answered r h passes =
         let there = mapped_has show (filter p rows) r (has_kept p rows r h passes) in
         let told = has_permuted answer (map show (filter p rows)) (show r) (IsPermutation-sym _ _ shown) there in
-        some_from (λ id. has_rowid id r) (ids_of answer) (id_in (rowid r)) (mapped_has (λ (a : Row). id_in (rowid a)) answer (show r) told) (has_own_id r (numbered r h))
+        some_from (λ id. has_rowid id r) (ids_of answer) (id_in (rowid r))
+        (mapped_has (λ (a : Row). id_in (rowid a)) answer (show r) told) (has_own_id r (numbered r h))
 
 -- a row is put among those that have other numbers
 pub put_apart : (new : Row) (rows : List Row) → is_taken rows new ≡ false → HasOneMore new rows (put_row new rows)
@@ -101,7 +104,8 @@ put_apart new (r ∷ rows) free = go (value_cmp (rowid r) (rowid new)) refl (or_
     go : (o : Ordering) → value_cmp (rowid r) (rowid new) ≡ o → is_eq (value_cmp (rowid r) (rowid new)) ≡ false
         → HasOneMore new rows (put_row new rows)
         → HasOneMore new (r ∷ rows) (match_ordering o (r ∷ put_row new rows) (new ∷ rows) (new ∷ r ∷ rows))
-    go Less is other later = record { before = r ∷ later.before; after = later.after; was = ap (λ l. r ∷ l) later.was; is = ap (λ l. r ∷ l) later.is }
+    go Less is other later =
+        record { before = r ∷ later.before; after = later.after; was = ap (λ l. r ∷ l) later.was; is = ap (λ l. r ∷ l) later.is }
     go Equal is other later = absurd (true≢false (ap is_eq (sym is) ∙ other))
     go Greater is other later = record { before = []; after = r ∷ rows; was = refl; is = refl }
 
@@ -123,13 +127,19 @@ own_filtered p key rows own = record {
 }
 
 pub tied_taken : (new : Row) (rows : List Row) (a : Row) → Has rows a → rowid a ≡ rowid new → is_taken rows new ≡ true
-tied_taken new rows a h same = some_from (λ r. is_eq (value_cmp (rowid r) (rowid new))) rows a h (ap (λ v. is_eq (value_cmp v (rowid new))) same ∙ ap is_eq (tied_itself value_cmp_total (rowid new)))
+tied_taken new rows a h same =
+    some_from (λ r. is_eq (value_cmp (rowid r) (rowid new))) rows a h
+    (ap (λ v. is_eq (value_cmp v (rowid new))) same ∙ ap is_eq (tied_itself value_cmp_total (rowid new)))
 
 -- so are the rows with one at a number that none has
 pub own_put : (new : Row) (key : List ℕ) (rows : List Row) → IsTrue (is_int (rowid new)) → is_taken rows new ≡ false → AreOwn key rows
     → AreOwn key (put_row new rows)
 own_put new key rows int free own = record {
-  numbered = λ row h. elim (put_has new rows row h) [ inl same ↦ subst (λ r. IsTrue (is_int (rowid r))) (sym same) int | inr was ↦ own.numbered row was ];
+  numbered =
+      λ row h. elim (put_has new rows row h) [
+        | inl same ↦ subst (λ r. IsTrue (is_int (rowid r))) (sym same) int
+        | inr was ↦ own.numbered row was
+      ];
   apart = λ a b ha hb tied. elim (put_has new rows a ha) [
     | inl one ↦ elim (put_has new rows b hb) [
       | inl other ↦ ap (λ r. map (column r) key) (one ∙ sym other)

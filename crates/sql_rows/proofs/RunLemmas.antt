@@ -19,7 +19,8 @@ rolled_keeps old new back = record { was_open = back.was_open; committed = λ st
 pub inside_keeps : (sql : List ℕ) (params : Row) (old new : State) (result : Result ℕ Error) → ExecutesInside 0 sql params old new result
     → KeepsCommit old new
 inside_keeps sql params old new (Ok count) h = record { was_open = λ _. h.1.was_open; committed = λ _. h.1.committed_is }
-inside_keeps sql params old new (Err e) (inl h) = elim h.1 [ inl same ↦ unchanged_keeps old new same | inr back ↦ rolled_keeps old new back ]
+inside_keeps sql params old new (Err e) (inl h) =
+    elim h.1 [ inl same ↦ unchanged_keeps old new same | inr back ↦ rolled_keeps old new back ]
 inside_keeps sql params old new (Err e) (inr h) = unchanged_keeps old new h.2
 
 pub same_keeps : (old new : State) → new ≡ old → KeepsCommit old new
@@ -53,7 +54,13 @@ module _ (sql : List ℕ) (params : Row) (old new : State) where
       → result ≡ Err (SqliteFailure (ConstraintViolation Unique)) → Shows old new old.now old.committed true
   refused_inside result inside h is =
       let stays = still (subst (ExecutesInside 0 sql params old new) is h) in
-      record { was_open = stays.0.was_open; is_open = stays.0.is_open; now_is = stays.0.now_is; committed_is = stays.0.committed_is; mode = stays.0.mode ∙ inside }
+      record {
+        was_open = stays.0.was_open;
+        is_open = stays.0.is_open;
+        now_is = stays.0.now_is;
+        committed_is = stays.0.committed_is;
+        mode = stays.0.mode ∙ inside;
+      }
     where
       still : ExecutesInside 0 sql params old new (Err (SqliteFailure (ConstraintViolation Unique))) → IsUnchanged old new
       still (inl run) = refused_whole run.0

@@ -49,18 +49,22 @@ pub adds : (schedule : List ℕ) (value : Option ℤ) → (old new : State) (res
     → ExecutesInside 0 add_text (Text schedule ∷ cell_of value ∷ []) old new result
     → OnOk result (Changes (On shown_slot (Gains (Text schedule ∷ cell_of value ∷ []))) old new)
 adds schedule value old new result inside h =
-    gains shown_slot is_shown add_text add_plain (codes "shown") shown_table.columns shown_table.checks (lit Null ∷ col 0 0 ∷ col 0 1 ∷ []) 3 shown_tree refl add_is
+    gains shown_slot is_shown add_text add_plain (codes "shown") shown_table.columns shown_table.checks
+    (lit Null ∷ col 0 0 ∷ col 0 1 ∷ []) 3 shown_tree refl add_is
     old new (Text schedule ∷ cell_of value ∷ []) (Text schedule ∷ cell_of value ∷ []) result
     (rw (cast_null, cast_cell value) refl) inside h
 
 -- the queries
 
 pub find_shown : {V : Type 0} (items : V → List Row) (schedule : List ℕ) (old new : State) (r : Result V Error) → IsOurs old.now
-    → IfOk r (λ v. Shown find_text (Text schedule ∷ []) old new (items v)) → IfOk r (λ v. Finds (of_schedule schedule) (λ row. column row 2 ∷ []) (old.now.trees shown_tree) (items v))
+    → IfOk r (λ v. Shown find_text (Text schedule ∷ []) old new (items v))
+    → IfOk r (λ v. Finds (of_schedule schedule) (λ row. column row 2 ∷ []) (old.now.trees shown_tree) (items v))
 find_shown items schedule old new (Err e) ours shown = tt
 find_shown items schedule old new (Ok v) ours shown =
-    finds_same (passes (given 1 0 ∷ []) (Text schedule ∷ [])) (of_schedule schedule) (λ row. column row 2 ∷ []) (old.now.trees shown_tree) (items v) (λ row h. passes_shown old.now ours schedule row h)
-    (finds find_text find_plain find_unlisted shown_tree (given 1 0 ∷ []) (col 1 2 ∷ []) (codes "value" ∷ []) find_is old new (Text schedule ∷ []) (items v) ours.schema_is shown)
+    finds_same (passes (given 1 0 ∷ []) (Text schedule ∷ [])) (of_schedule schedule) (λ row. column row 2 ∷ [])
+    (old.now.trees shown_tree) (items v) (λ row h. passes_shown old.now ours schedule row h)
+    (finds find_text find_plain find_unlisted shown_tree (given 1 0 ∷ []) (col 1 2 ∷ []) (codes "value" ∷ []) find_is old new
+    (Text schedule ∷ []) (items v) ours.schema_is shown)
 
 passes_next_name : (db : Database) → IsOurs db → (after : List ℕ) → (row : Row) → Has (db.trees shown_tree) row
     → passes (compared_with Gt 1 0 ∷ []) (Text after ∷ []) row ≡ (is_after after (column row 1))
@@ -69,8 +73,11 @@ passes_next_name db ours after row h =
     rw (after_text after (column row 1) cell.of cell.filled, and_true) refl
 
 pub next_name_shown : {V : Type 0} (items : V → List Row) (after : List ℕ) (old new : State) (r : Result V Error) → IsOurs old.now
-    → IfOk r (λ v. Shown next_name_text (Text after ∷ []) old new (items v)) → IfOk r (λ v. FindsLeast (λ row. is_after after (column row 1)) 1 (old.now.trees shown_tree) (items v))
+    → IfOk r (λ v. Shown next_name_text (Text after ∷ []) old new (items v))
+    → IfOk r (λ v. FindsLeast (λ row. is_after after (column row 1)) 1 (old.now.trees shown_tree) (items v))
 next_name_shown items after old new (Err e) ours shown = tt
 next_name_shown items after old new (Ok v) ours shown =
-    least_same (passes (compared_with Gt 1 0 ∷ []) (Text after ∷ [])) (λ row. is_after after (column row 1)) 1 (old.now.trees shown_tree) (items v) (λ row h. passes_next_name old.now ours after row h)
-    (finds_least next_name_text next_name_plain next_name_unlisted shown_tree (compared_with Gt 1 0 ∷ []) 1 (codes "schedule" ∷ []) next_name_is old new (Text after ∷ []) (items v) ours.schema_is shown)
+    least_same (passes (compared_with Gt 1 0 ∷ []) (Text after ∷ [])) (λ row. is_after after (column row 1)) 1
+    (old.now.trees shown_tree) (items v) (λ row h. passes_next_name old.now ours after row h)
+    (finds_least next_name_text next_name_plain next_name_unlisted shown_tree (compared_with Gt 1 0 ∷ []) 1 (codes "schedule" ∷ [])
+    next_name_is old new (Text after ∷ []) (items v) ours.schema_is shown)

@@ -54,7 +54,8 @@ find_unlisted = refl
 abbrev pub next_name_text : List ℕ
 next_name_text = codes "SELECT schedule FROM shown WHERE schedule > ?1 ORDER BY schedule LIMIT 1"
 
-pub next_name_is : command_of (understood desk_schema next_name_text) ≡ least shown_tree (compared_with Gt 1 0 ∷ []) 1 (codes "schedule" ∷ [])
+pub next_name_is : command_of (understood desk_schema next_name_text)
+    ≡ least shown_tree (compared_with Gt 1 0 ∷ []) 1 (codes "schedule" ∷ [])
 unfolding understood everything
 next_name_is = refl
 

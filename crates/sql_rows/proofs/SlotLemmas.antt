@@ -52,7 +52,15 @@ is_panel = record {
         imported = tables.1.1.1.1.1.0 (same 9 (λ e. omega (arith, e))) i;
       };
   own = λ kept ours. ours.panel;
-  with_own = λ kept rows ours own. record { desk = ours.desk; panel = own; command = ours.command; place = ours.place; shown = ours.shown; imported = ours.imported };
+  with_own =
+      λ kept rows ours own. record {
+        desk = ours.desk;
+        panel = own;
+        command = ours.command;
+        place = ours.place;
+        shown = ours.shown;
+        imported = ours.imported;
+      };
 }
 
 pub is_command : IsSlot command_slot
@@ -71,7 +79,15 @@ is_command = record {
         imported = tables.1.1.1.1.1.0 (same 9 (λ e. omega (arith, e))) i;
       };
   own = λ kept ours. ours.command;
-  with_own = λ kept rows ours own. record { desk = ours.desk; panel = ours.panel; command = own; place = ours.place; shown = ours.shown; imported = ours.imported };
+  with_own =
+      λ kept rows ours own. record {
+        desk = ours.desk;
+        panel = ours.panel;
+        command = own;
+        place = ours.place;
+        shown = ours.shown;
+        imported = ours.imported;
+      };
 }
 
 pub is_place : IsSlot place_slot
@@ -90,7 +106,15 @@ is_place = record {
         imported = tables.1.1.1.1.1.0 (same 9 (λ e. omega (arith, e))) i;
       };
   own = λ kept ours. ours.place;
-  with_own = λ kept rows ours own. record { desk = ours.desk; panel = ours.panel; command = ours.command; place = own; shown = ours.shown; imported = ours.imported };
+  with_own =
+      λ kept rows ours own. record {
+        desk = ours.desk;
+        panel = ours.panel;
+        command = ours.command;
+        place = own;
+        shown = ours.shown;
+        imported = ours.imported;
+      };
 }
 
 pub is_shown : IsSlot shown_slot
@@ -109,7 +133,15 @@ is_shown = record {
         imported = tables.1.1.1.1.1.0 (same 9 (λ e. omega (arith, e))) i;
       };
   own = λ kept ours. ours.shown;
-  with_own = λ kept rows ours own. record { desk = ours.desk; panel = ours.panel; command = ours.command; place = ours.place; shown = own; imported = ours.imported };
+  with_own =
+      λ kept rows ours own. record {
+        desk = ours.desk;
+        panel = ours.panel;
+        command = ours.command;
+        place = ours.place;
+        shown = own;
+        imported = ours.imported;
+      };
 }
 
 pub is_imported : IsSlot imported_slot
@@ -128,7 +160,16 @@ is_imported = record {
         imported = next 9;
       };
   own = λ kept ours. ours.imported;
-  with_own = λ kept rows ours own. record { desk = ours.desk; panel = ours.panel; command = ours.command; place = ours.place; shown = ours.shown; imported = own };
+  with_own =
+      λ kept rows ours own. record {
+        desk = ours.desk;
+        panel = ours.panel;
+        command = ours.command;
+        place = ours.place;
+        shown =
+            ours.shown;
+        imported = own;
+      };
 }
 
 pub not_true : (b : Bool) → not b ≡ true → b ≡ false
@@ -138,13 +179,19 @@ not_true true is = sym is
 module _ (slot : Slot) (is_slot : IsSlot slot) (sql : List ℕ) (plain : IsPlain (understood desk_schema sql)) where
   pub changed : (Rows : List Row → List Row → Type 0) (edit : Edit) (old new : State) → edit.table ≡ slot.table → IsInside old
       → Shows old new new.now old.committed true → Ran old new edit
-      → AreOwn slot.key (new.now.trees slot.table.tree) → Rows (old.now.trees slot.table.tree) (new.now.trees slot.table.tree) → Changes (On slot Rows) old new
+      → AreOwn slot.key (new.now.trees slot.table.tree) → Rows (old.now.trees slot.table.tree) (new.now.trees slot.table.tree)
+      → Changes (On slot Rows) old new
   changed Rows edit old new on inside seen ran own rows =
       let was = kept_in old.now.trees in
       let others = is_slot.others old.now.trees new.now.trees edit on ran.applies in
       record {
         seen = seen;
-        ours = record { schema_is = ran.schema; sound = ran.sound; rows = subst AreOurs (sym others) (is_slot.with_own was (new.now.trees slot.table.tree) inside.ours.rows own) };
+        ours =
+            record {
+              schema_is = ran.schema;
+              sound = ran.sound;
+              rows = subst AreOurs (sym others) (is_slot.with_own was (new.now.trees slot.table.tree) inside.ours.rows own);
+            };
         change = record {
           others = others ∙ ap (λ l. slot.set l was) (sym (is_slot.stands new.now.trees));
           rows = subst₂ Rows (sym (is_slot.stands old.now.trees)) (sym (is_slot.stands new.now.trees)) rows;
@@ -157,17 +204,21 @@ module _ (slot : Slot) (is_slot : IsSlot slot) (sql : List ℕ) (plain : IsPlain
   -- a statement that removes the rows of a key
   pub loses : (terms : List Term) (gone : Row → Bool) → command_of (understood desk_schema sql) ≡ deletion slot.at slot.table.tree terms
       → ((a b : Row) → map (column a) slot.key ≡ map (column b) slot.key → gone a ≡ gone b)
-      → (old new : State) (params : Row) (result : Result ℕ Error) → ((row : Row) → Has (old.now.trees slot.table.tree) row → passes terms params row ≡ gone row)
+      → (old new : State) (params : Row) (result : Result ℕ Error)
+      → ((row : Row) → Has (old.now.trees slot.table.tree) row → passes terms params row ≡ gone row)
       → IsInside old → ExecutesInside 0 sql params old new result → OnOk result (Changes (On slot (Loses gone)) old new)
   loses terms gone is by_key old new params (Err e) same inside h = tt
   loses terms gone is by_key old new params (Ok count) same inside h =
       let rows = old.now.trees slot.table.tree in
       let own = own_rows old inside in
-      let gave = removes sql slot.at slot.table is_slot.found plain slot.table.tree terms is old new params count inside.ours.schema_is h.0 in
-      let picked = subst (λ l. IsPermutation (map (λ r. rowid r ∷ []) l) gave.0) (filter_same (passes terms params) gone rows same) gave.1 in
+      let gave =
+      removes sql slot.at slot.table is_slot.found plain slot.table.tree terms is old new params count inside.ours.schema_is h.0 in
+      let picked =
+      subst (λ l. IsPermutation (map (λ r. rowid r ∷ []) l) gave.0) (filter_same (passes terms params) gone rows same) gave.1 in
       let left : new.now.trees slot.table.tree ≡ filter (λ r. not (gone r)) rows =
       gave.2.applies.rows ∙ deleted gone rows gave.0 own.numbered (λ a b ha hb tied. by_key a b (own.apart a b ha hb tied)) picked in
-      changed (Loses gone) _ old new refl inside h.1 gave.2 (subst (AreOwn slot.key) (sym left) (own_filtered (λ r. not (gone r)) slot.key rows own)) left
+      changed (Loses gone) _ old new refl inside h.1 gave.2
+      (subst (AreOwn slot.key) (sym left) (own_filtered (λ r. not (gone r)) slot.key rows own)) left
 
   -- a statement that adds a row
   pub gains : (name : List ℕ) (columns : List Column) (checks terms : List Term) (width : ℕ) (tree : ℕ)
@@ -181,12 +232,16 @@ module _ (slot : Slot) (is_slot : IsSlot slot) (sql : List ℕ) (plain : IsPlain
       let db = old.now.trees in
       let rows = db slot.table.tree in
       let sources = value_rows (params ++ []) width (length terms / width) terms in
-      let added = adds sql slot.at name tree columns slot.key checks (is_slot.found ∙ ap Some table) plain terms width is old new params count inside.ours.schema_is h.0 in
-      let ran : Ran old new (edit_of db slot.table [] Chosen 0 sources) = subst (λ t. Ran old new (edit_of db t [] Chosen 0 sources)) (sym table) added in
+      let added =
+      adds sql slot.at name tree columns slot.key checks (is_slot.found ∙ ap Some table) plain terms width is old new params
+      count inside.ours.schema_is h.0 in
+      let ran : Ran old new (edit_of db slot.table [] Chosen 0 sources) =
+      subst (λ t. Ran old new (edit_of db t [] Chosen 0 sources)) (sym table) added in
       let id = Int (next_rowid rows) in
       let row = id ∷ cells in
       let news : numbered Chosen rows (map (cast_row slot.table) sources) ≡ row ∷ [] = ap (numbered Chosen rows) given in
       let free : is_taken rows row ≡ false = not_true _ (and_parts _ _ (subst (λ l. are_fresh rows l ≡ true) news ran.applies.fresh)).0 in
       let now : new.now.trees slot.table.tree ≡ put_row row rows = ran.applies.rows ∙ ap (put_all rows) news in
-      changed (Gains cells) _ old new refl inside h.1 ran (subst (AreOwn slot.key) (sym now) (own_put row slot.key rows refl free (own_rows old inside)))
+      changed (Gains cells) _ old new refl inside h.1 ran
+      (subst (AreOwn slot.key) (sym now) (own_put row slot.key rows refl free (own_rows old inside)))
       (record { id = id; free = free; more = subst (HasOneMore row rows) (sym now) (put_apart row rows free) })

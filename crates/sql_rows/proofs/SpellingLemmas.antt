@@ -72,7 +72,8 @@ plain-days month_day.Odd in' = refl
 plain-days month_day.Even in' = refl
 plain-days (month_day.One n) in' = plain-two n (omega (arith, in'))
 
-plain-date : (y : Option ℕ) (m : Months) (d : MonthDays) → AreYears y → AreMonths m → AreMonthDays d → is_plain (date_fields_text y m d) ≡ true
+plain-date : (y : Option ℕ) (m : Months) (d : MonthDays) → AreYears y → AreMonths m → AreMonthDays d
+    → is_plain (date_fields_text y m d) ≡ true
 plain-date y m d years months days =
     plain-join (years_text y) (codes "-" ++ (months_text m ++ (codes "-" ++ month_days_text d))) (plain-years y years)
     (plain-join (codes "-") (months_text m ++ (codes "-" ++ month_days_text d)) refl
@@ -128,13 +129,15 @@ plain-end (Some day) in' = plain-day day in'
 plain-spelling : (entry : Entry) → IsEntry entry → is_plain (spelling entry) ≡ true
 unfolding spelling
 plain-spelling (Pattern p) in' =
-    plain-join (date_fields_text p.year p.months p.days) (weekday_suffix p.weekday) (plain-date p.year p.months p.days in'.0 in'.1 in'.2) (plain-suffix p.weekday)
+    plain-join (date_fields_text p.year p.months p.days) (weekday_suffix p.weekday)
+    (plain-date p.year p.months p.days in'.0 in'.1 in'.2) (plain-suffix p.weekday)
 plain-spelling (Range r) in' =
     plain-join (range_end_text r.start) (codes ".." ++ range_end_text r.end) (plain-end r.start in'.0)
     (plain-join (codes "..") (range_end_text r.end) refl (plain-end r.end in'.1))
 plain-spelling (WeekNDay w) in' =
     plain-join (codes "wnd:") (months_text w.months ++ (codes ":" ++ (weeks_text w.week ++ (codes ":" ++ weekdays_text w.weekday)))) refl
-    (plain-join (months_text w.months) (codes ":" ++ (weeks_text w.week ++ (codes ":" ++ weekdays_text w.weekday))) (plain-months w.months in')
+    (plain-join (months_text w.months) (codes ":" ++ (weeks_text w.week ++ (codes ":" ++ weekdays_text w.weekday)))
+    (plain-months w.months in')
     (plain-join (codes ":") (weeks_text w.week ++ (codes ":" ++ weekdays_text w.weekday)) refl
     (plain-join (weeks_text w.week) (codes ":" ++ weekdays_text w.weekday) (plain-weeks w.week)
     (plain-join (codes ":") (weekdays_text w.weekday) refl (plain-weekdays w.weekday)))))

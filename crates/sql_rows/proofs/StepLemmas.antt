@@ -31,7 +31,9 @@ pub then : {A B : Type 0} (P Q R : State → State → Type 0) (a b c : State) (
     → (P a b → Q b c → R a c)
     → Steps P a b (Ok x) → Steps Q b c told → Steps R a c told
 then P Q R a b c x told inside both one two = record {
-  done = λ clean at. let first = one.done (clean_before b c _ two.survives clean) at in on_ok told (both first) (two.done clean (inside first));
+  done =
+      λ clean at. let first =
+      one.done (clean_before b c _ two.survives clean) at in on_ok told (both first) (two.done clean (inside first));
   kept = λ clean. keeps_then a b c (one.kept (clean_before b c _ two.survives clean)) (two.kept clean);
   survives = survives_on a b c one.survives two.survives;
 }
@@ -41,10 +43,14 @@ pub inside_after : (P : Kept → Kept → Type 0) (a b : State) → Changes P a 
 inside_after P a b one = record { in_transaction = one.seen.mode; ours = one.ours }
 
 -- one statement turns the tables
-pub one_statement : {A : Type 0} (P : Kept → Kept → Type 0) (f : Tables → Tables) (a b : State) (z : A) → ((k l : Kept) → P k l → Makes f k l)
-    → (HasCleanDisk b → IsInside a → Changes P a b) → (HasCleanDisk b → KeepsCommit a b) → Survives a b (λ _. ⊥) → Steps (Turns f) a b (Ok z)
+pub one_statement : {A : Type 0} (P : Kept → Kept → Type 0) (f : Tables → Tables) (a b : State) (z : A)
+    → ((k l : Kept) → P k l → Makes f k l)
+    → (HasCleanDisk b → IsInside a → Changes P a b) → (HasCleanDisk b → KeepsCommit a b) → Survives a b (λ _. ⊥)
+    → Steps (Turns f) a b (Ok z)
 one_statement P f a b z makes done kept survives = record {
-  done = λ clean at. let one = done clean at in record { inside = inside_after P a b one; makes = makes (kept_in a.now.trees) (kept_in b.now.trees) one.change };
+  done =
+      λ clean at. let one =
+      done clean at in record { inside = inside_after P a b one; makes = makes (kept_in a.now.trees) (kept_in b.now.trees) one.change };
   kept = kept;
   survives = survives;
 }
@@ -53,12 +59,16 @@ one_statement P f a b z makes done kept survives = record {
 pub two_statements : {A : Type 0} (P Q : Kept → Kept → Type 0) (f : Tables → Tables) (a b c : State) (z : A)
     → ((k l m : Kept) → P k l → Q l m → Makes f k m)
     → (HasCleanDisk b → IsInside a → Changes P a b) → (HasCleanDisk b → KeepsCommit a b) → Survives a b (λ _. ⊥)
-    → (HasCleanDisk c → IsInside b → Changes Q b c) → (HasCleanDisk c → KeepsCommit b c) → Survives b c (λ _. ⊥) → Steps (Turns f) a c (Ok z)
+    → (HasCleanDisk c → IsInside b → Changes Q b c) → (HasCleanDisk c → KeepsCommit b c) → Survives b c (λ _. ⊥)
+    → Steps (Turns f) a c (Ok z)
 two_statements P Q f a b c z makes done kept survives done' kept' survives' = record {
   done = λ clean at.
       let one = done (clean_before b c _ survives' clean) at in
       let two = done' clean (inside_after P a b one) in
-      record { inside = inside_after Q b c two; makes = makes (kept_in a.now.trees) (kept_in b.now.trees) (kept_in c.now.trees) one.change two.change };
+      record {
+        inside = inside_after Q b c two;
+        makes = makes (kept_in a.now.trees) (kept_in b.now.trees) (kept_in c.now.trees) one.change two.change;
+      };
   kept = λ clean. keeps_then a b c (kept (clean_before b c _ survives' clean)) (kept' clean);
   survives = survives_on a b c survives survives';
 }
@@ -91,7 +101,8 @@ module _ {Item A : Type 0} (put : Item → Tables → Tables) (items : List Item
       → Steps {A = A} (Nears (with_each put (drop (i + 1) items)) (with_each put items)) a c (Ok y)
   nears_next i item a b c x y below is one two =
       let cut : drop i items ≡ item ∷ drop (suc i) items = drop-cons items i item below ∙ ap (λ it. it ∷ drop (suc i) items) (sym is) in
-      then (Nears (with_each put (drop i items)) (with_each put items)) (Turns (put item)) (Nears (with_each put (drop (i + 1) items)) (with_each put items)) a b c x (Ok y)
+      then (Nears (with_each put (drop i items)) (with_each put items)) (Turns (put item))
+      (Nears (with_each put (drop (i + 1) items)) (with_each put items)) a b c x (Ok y)
       (λ first. first.inside)
       (λ first second.
       let so_far = rw cut at first.tables in record {
@@ -102,8 +113,10 @@ module _ {Item A : Type 0} (put : Item → Tables → Tables) (items : List Item
       one two
 
   pub nears_last : (i : ℕ) (a b : State) (x y : A) → drop i items ≡ []
-      → Steps {A = A} (Nears (with_each put (drop i items)) (with_each put items)) a b (Ok x) → Steps {A = A} (Turns (with_each put items)) a b (Ok y)
+      → Steps {A = A} (Nears (with_each put (drop i items)) (with_each put items)) a b (Ok x)
+      → Steps {A = A} (Turns (with_each put items)) a b (Ok y)
   nears_last i a b x y none one =
       alone (Nears (with_each put (drop i items)) (with_each put items)) (Turns (with_each put items)) a b x y
-      (λ all. let whole = rw none at all.tables in record { inside = all.inside; makes = record { tables = whole; is_sound = all.is_sound } })
+      (λ all. let whole =
+      rw none at all.tables in record { inside = all.inside; makes = record { tables = whole; is_sound = all.is_sound } })
       one

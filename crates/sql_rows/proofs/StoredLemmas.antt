@@ -61,11 +61,19 @@ pub put_next : (item : NextNumber) (row : Row) (kept : Kept) (now : List Row) �
     → (tables_in (record kept { panel = now }) ≡ record (tables_in kept) { next = with_next item (tables_in kept).next })
     × (is_sound_in kept ≡ true → is_sound_in (record kept { panel = now }) ≡ true)
 put_next item row kept now says has =
-    let both = put-row next_said same_panel with_next (λ panel. 1) next-either item (next-absorb item) (next-commute item) (of_panel item.panel)
+    let both =
+    put-row next_said same_panel with_next (λ panel. 1) next-either item (next-absorb item) (next-commute item) (of_panel item.panel)
     (panel-agrees item.panel) row says kept.panel now has in (
       λ i. record (tables_in kept) { next = both.0 i },
       λ is. let are = sound-parts kept is in sound-from (record kept { panel = now })
-          (record { desk = are.desk; panel = both.1 are.panel; command = are.command; place = are.place; shown = are.shown; imported = are.imported }),
+          (record {
+            desk = are.desk;
+            panel = both.1 are.panel;
+            command = are.command;
+            place = are.place;
+            shown = are.shown;
+            imported = are.imported;
+          }),
     )
 
 pub put_command : (item : KeptRow) (row : Row) (kept : Kept) (now : List Row) → command_said row ≡ Some item
@@ -77,7 +85,14 @@ put_command item row kept now says has =
     (of_command item.panel item.number) (command-agrees item.panel item.number) row says kept.command now has in (
       λ i. record (tables_in kept) { row = both.0 i },
       λ is. let are = sound-parts kept is in sound-from (record kept { command = now })
-          (record { desk = are.desk; panel = are.panel; command = both.1 are.command; place = are.place; shown = are.shown; imported = are.imported }),
+          (record {
+            desk = are.desk;
+            panel = are.panel;
+            command = both.1 are.command;
+            place = are.place;
+            shown = are.shown;
+            imported = are.imported;
+          }),
     )
 
 pub drop_commands : (item : RowsBelow) (kept : Kept) (now : List Row) → HasLost (of_lower_command item.panel item.number) kept.command now
@@ -85,10 +100,18 @@ pub drop_commands : (item : RowsBelow) (kept : Kept) (now : List Row) → HasLos
     × (is_sound_in kept ≡ true → is_sound_in (record kept { command = now }) ≡ true)
 drop_commands item kept now left =
     let both = lost command_said same_command with_row (λ panel number. None) (of_lower_command item.panel item.number) (is_lower item)
-    (lower-agrees item.panel item.number) (without_rows item) (lower-absorb item) (lower-commute item) (lower-none item) kept.command now left in (
+    (lower-agrees item.panel item.number) (without_rows item) (lower-absorb item) (lower-commute item) (lower-none item)
+    kept.command now left in (
       λ i. record (tables_in kept) { row = both.0 i },
       λ is. let are = sound-parts kept is in sound-from (record kept { command = now })
-          (record { desk = are.desk; panel = are.panel; command = both.1 are.command; place = are.place; shown = are.shown; imported = are.imported }),
+          (record {
+            desk = are.desk;
+            panel = are.panel;
+            command = both.1 are.command;
+            place = are.place;
+            shown = are.shown;
+            imported = are.imported;
+          }),
     )
 
 pub put_place : (item : PlaceValue) (row : Row) (kept : Kept) (now : List Row) → place_said row ≡ Some item
@@ -100,18 +123,34 @@ put_place item row kept now says has =
     (of_place item.point item.priority) (place-agrees item.point item.priority) row says kept.place now has in (
       λ i. record (tables_in kept) { places = both.0 i },
       λ is. let are = sound-parts kept is in sound-from (record kept { place = now })
-          (record { desk = are.desk; panel = are.panel; command = are.command; place = both.1 are.place; shown = are.shown; imported = are.imported }),
+          (record {
+            desk = are.desk;
+            panel = are.panel;
+            command = are.command;
+            place = both.1 are.place;
+            shown = are.shown;
+            imported = are.imported;
+          }),
     )
 
-pub clear_place : (item : PlaceValue) (kept : Kept) (now : List Row) → item.value ≡ None → HasLost (of_place item.point item.priority) kept.place now
+pub clear_place : (item : PlaceValue) (kept : Kept) (now : List Row) → item.value ≡ None
+    → HasLost (of_place item.point item.priority) kept.place now
     → (tables_in (record kept { place = now }) ≡ record (tables_in kept) { places = with_place item (tables_in kept).places })
     × (is_sound_in kept ≡ true → is_sound_in (record kept { place = now }) ≡ true)
 clear_place item kept now quiet left =
     let both = lost place_said same_place with_place (λ point. empty) (of_place item.point item.priority) (same_place item)
-    (place-agrees item.point item.priority) (with_place item) (place-absorb item) (place-commute item) (place-none item quiet) kept.place now left in (
+    (place-agrees item.point item.priority) (with_place item) (place-absorb item) (place-commute item) (place-none item quiet)
+    kept.place now left in (
       λ i. record (tables_in kept) { places = both.0 i },
       λ is. let are = sound-parts kept is in sound-from (record kept { place = now })
-          (record { desk = are.desk; panel = are.panel; command = are.command; place = both.1 are.place; shown = are.shown; imported = are.imported }),
+          (record {
+            desk = are.desk;
+            panel = are.panel;
+            command = are.command;
+            place = both.1 are.place;
+            shown = are.shown;
+            imported = are.imported;
+          }),
     )
 
 pub put_shown : (item : ShownValue) (row : Row) (kept : Kept) (now : List Row) → shown_said row ≡ Some item
@@ -123,18 +162,34 @@ put_shown item row kept now says has =
     (of_schedule item.schedule) (schedule-agrees item.schedule) row says kept.shown now has in (
       λ i. record (tables_in kept) { shown = both.0 i },
       λ is. let are = sound-parts kept is in sound-from (record kept { shown = now })
-          (record { desk = are.desk; panel = are.panel; command = are.command; place = are.place; shown = both.1 are.shown; imported = are.imported }),
+          (record {
+            desk = are.desk;
+            panel = are.panel;
+            command = are.command;
+            place = are.place;
+            shown = both.1 are.shown;
+            imported = are.imported;
+          }),
     )
 
-pub clear_shown : (item : ShownValue) (kept : Kept) (now : List Row) → item.shown ≡ None → HasLost (of_schedule item.schedule) kept.shown now
+pub clear_shown : (item : ShownValue) (kept : Kept) (now : List Row) → item.shown ≡ None
+    → HasLost (of_schedule item.schedule) kept.shown now
     → (tables_in (record kept { shown = now }) ≡ record (tables_in kept) { shown = with_shown item (tables_in kept).shown })
     × (is_sound_in kept ≡ true → is_sound_in (record kept { shown = now }) ≡ true)
 clear_shown item kept now quiet left =
     let both = lost shown_said same_schedule with_shown (λ schedule. None) (of_schedule item.schedule) (same_schedule item)
-    (schedule-agrees item.schedule) (with_shown item) (shown-absorb item) (shown-commute item) (shown-none item quiet) kept.shown now left in (
+    (schedule-agrees item.schedule) (with_shown item) (shown-absorb item) (shown-commute item) (shown-none item quiet) kept.shown
+    now left in (
       λ i. record (tables_in kept) { shown = both.0 i },
       λ is. let are = sound-parts kept is in sound-from (record kept { shown = now })
-          (record { desk = are.desk; panel = are.panel; command = are.command; place = are.place; shown = both.1 are.shown; imported = are.imported }),
+          (record {
+            desk = are.desk;
+            panel = are.panel;
+            command = are.command;
+            place = are.place;
+            shown = both.1 are.shown;
+            imported = are.imported;
+          }),
     )
 
 pub put_imported : (item : ImportedEntry) (row : Row) (kept : Kept) (now : List Row) → imported_said row ≡ Some item
@@ -142,11 +197,19 @@ pub put_imported : (item : ImportedEntry) (row : Row) (kept : Kept) (now : List 
     → (tables_in (record kept { imported = now }) ≡ record (tables_in kept) { imported = with_imported item (tables_in kept).imported })
     × (is_sound_in kept ≡ true → is_sound_in (record kept { imported = now }) ≡ true)
 put_imported item row kept now says has =
-    let both = put-row imported_said same_entry with_imported (λ calendar text. false) entry-either item (entry-absorb item) (entry-commute item)
+    let both =
+    put-row imported_said same_entry with_imported (λ calendar text. false) entry-either item (entry-absorb item) (entry-commute item)
     (of_entry item.calendar (spelling item.entry)) (entry-agrees item.calendar (spelling item.entry)) row says kept.imported now has in (
       λ i. record (tables_in kept) { imported = both.0 i },
       λ is. let are = sound-parts kept is in sound-from (record kept { imported = now })
-          (record { desk = are.desk; panel = are.panel; command = are.command; place = are.place; shown = are.shown; imported = both.1 are.imported }),
+          (record {
+            desk = are.desk;
+            panel = are.panel;
+            command = are.command;
+            place = are.place;
+            shown = are.shown;
+            imported = both.1 are.imported;
+          }),
     )
 
 pub set_last : (moment : ℤ) (old new : Row) (kept : Kept) → kept.desk ≡ old ∷ [] → optional_in (column new 3) ≡ Some (Some moment)
@@ -155,11 +218,19 @@ pub set_last : (moment : ℤ) (old new : Row) (kept : Kept) → kept.desk ≡ ol
 set_last moment old new kept one says = (
   λ i. record (tables_in kept) { last_tick = unwrap_or (says i) None },
   λ is. let are = sound-parts kept is in sound-from (record kept { desk = new ∷ [] })
-      (record { desk = ap is_some says; panel = are.panel; command = are.command; place = are.place; shown = are.shown; imported = are.imported }),
+      (record {
+        desk = ap is_some says;
+        panel = are.panel;
+        command = are.command;
+        place = are.place;
+        shown = are.shown;
+        imported = are.imported;
+      }),
 )
 
 pub set_version : (old new : Row) (kept : Kept) → kept.desk ≡ old ∷ [] → column new 3 ≡ column old 3
-    → (tables_in (record kept { desk = new ∷ [] }) ≡ tables_in kept) × (is_sound_in kept ≡ true → is_sound_in (record kept { desk = new ∷ [] }) ≡ true)
+    → (tables_in (record kept { desk = new ∷ [] }) ≡ tables_in kept)
+    × (is_sound_in kept ≡ true → is_sound_in (record kept { desk = new ∷ [] }) ≡ true)
 set_version old new kept one same =
     let last : last_in (new ∷ []) ≡ last_in kept.desk = ap (λ v. unwrap_or (optional_in v) None) same ∙ sym (ap last_in one) in (
       λ i. record (tables_in kept) { last_tick = last i },
@@ -205,7 +276,8 @@ alike-number key m n first second = eq-eqb m n (sym (eqb-true key m first) ∙ e
 pub two_next : (panel : Text) (kept : Kept) (a b : Row) (more : List Row) → filter (of_panel panel) kept.panel ≡ a ∷ b ∷ more
     → is_sound_in kept ≡ false
 two_next panel kept a b more two =
-    false_from_ne_true _ (λ is. both_ways _ (two-rows next_said same_panel (of_panel panel) (λ y. bytes_eq panel y.panel) (panel-agrees panel)
+    false_from_ne_true _ (λ is. both_ways _ (two-rows next_said same_panel (of_panel panel) (λ y. bytes_eq panel y.panel)
+    (panel-agrees panel)
     (λ x y first second. alike-text panel x.panel y.panel first second)
     kept.panel a b more two) (sound-parts kept is).panel)
 
@@ -214,15 +286,18 @@ two_next panel kept a b more two =
 pub no_command : (panel : Text) (number : ℕ) (kept : Kept) → filter (of_command panel number) kept.command ≡ []
     → (tables_in kept).row panel number ≡ None
 no_command panel number kept none =
-    no-row command_said with_row (λ name n. None) (λ t. t panel number) (of_command panel number) (λ y. bytes_eq panel y.panel && number == y.number)
+    no-row command_said with_row (λ name n. None) (λ t. t panel number) (of_command panel number)
+    (λ y. bytes_eq panel y.panel && number == y.number)
     (command-agrees panel number)
     (λ y t other. row-at panel number y t false other)
     kept.command none
 
-pub one_command : (panel : Text) (number : ℕ) (kept : Kept) (row : Row) (item : KeptRow) → filter (of_command panel number) kept.command ≡ row ∷ []
+pub one_command : (panel : Text) (number : ℕ) (kept : Kept) (row : Row) (item : KeptRow)
+    → filter (of_command panel number) kept.command ≡ row ∷ []
     → command_said row ≡ Some item → (tables_in kept).row panel number ≡ Some item.row
 one_command panel number kept row item only says =
-    one-row command_said with_row (λ name n. None) (λ t. t panel number) (of_command panel number) (λ y. bytes_eq panel y.panel && number == y.number)
+    one-row command_said with_row (λ name n. None) (λ t. t panel number) (of_command panel number)
+    (λ y. bytes_eq panel y.panel && number == y.number)
     (command-agrees panel number)
     (λ y t other. row-at panel number y t false other)
     (λ y. Some y.row)
@@ -237,7 +312,8 @@ pub two_command : (panel : Text) (number : ℕ) (kept : Kept) (a b : Row) (more 
     → filter (of_command panel number) kept.command ≡ a ∷ b ∷ more
     → is_sound_in kept ≡ false
 two_command panel number kept a b more two =
-    false_from_ne_true _ (λ is. both_ways _ (two-rows command_said same_command (of_command panel number) (λ y. bytes_eq panel y.panel && number == y.number)
+    false_from_ne_true _ (λ is. both_ways _ (two-rows command_said same_command (of_command panel number)
+    (λ y. bytes_eq panel y.panel && number == y.number)
     (command-agrees panel number)
     (λ x y first second.
     let one = and_parts (bytes_eq panel x.panel) (number == x.number) first in
@@ -250,16 +326,19 @@ two_command panel number kept a b more two =
 pub no_place : (point : Text) (priority : ℕ) (kept : Kept) → filter (of_place point priority) kept.place ≡ []
     → get ((tables_in kept).places point) priority ≡ None
 no_place point priority kept none =
-    no-row place_said with_place (λ name. empty) (λ t. get (t point) priority) (of_place point priority) (λ y. bytes_eq point y.point && priority == y.priority)
+    no-row place_said with_place (λ name. empty) (λ t. get (t point) priority) (of_place point priority)
+    (λ y. bytes_eq point y.point && priority == y.priority)
     (place-agrees point priority)
     (λ y t other. place-at point priority y t false other)
     kept.place none
     ∙ get-empty nat_cmp priority
 
-pub one_place : (point : Text) (priority : ℕ) (kept : Kept) (row : Row) (item : PlaceValue) → filter (of_place point priority) kept.place ≡ row ∷ []
+pub one_place : (point : Text) (priority : ℕ) (kept : Kept) (row : Row) (item : PlaceValue)
+    → filter (of_place point priority) kept.place ≡ row ∷ []
     → place_said row ≡ Some item → get ((tables_in kept).places point) priority ≡ item.value
 one_place point priority kept row item only says =
-    one-row place_said with_place (λ name. empty) (λ t. get (t point) priority) (of_place point priority) (λ y. bytes_eq point y.point && priority == y.priority)
+    one-row place_said with_place (λ name. empty) (λ t. get (t point) priority) (of_place point priority)
+    (λ y. bytes_eq point y.point && priority == y.priority)
     (place-agrees point priority)
     (λ y t other. place-at point priority y t false other)
     (λ y. y.value)
@@ -270,10 +349,12 @@ pub bad_place : (kept : Kept) (row : Row) → Contains kept.place row → place_
 bad_place kept row here none =
     false_from_ne_true _ (λ is. both_ways _ (bad-row place_said same_place kept.place row here none) (sound-parts kept is).place)
 
-pub two_place : (point : Text) (priority : ℕ) (kept : Kept) (a b : Row) (more : List Row) → filter (of_place point priority) kept.place ≡ a ∷ b ∷ more
+pub two_place : (point : Text) (priority : ℕ) (kept : Kept) (a b : Row) (more : List Row)
+    → filter (of_place point priority) kept.place ≡ a ∷ b ∷ more
     → is_sound_in kept ≡ false
 two_place point priority kept a b more two =
-    false_from_ne_true _ (λ is. both_ways _ (two-rows place_said same_place (of_place point priority) (λ y. bytes_eq point y.point && priority == y.priority)
+    false_from_ne_true _ (λ is. both_ways _ (two-rows place_said same_place (of_place point priority)
+    (λ y. bytes_eq point y.point && priority == y.priority)
     (place-agrees point priority)
     (λ x y first second.
     let one = and_parts (bytes_eq point x.point) (priority == x.priority) first in
@@ -290,7 +371,8 @@ none-outside q outside (row ∷ rows) =
     (λ y says. let parts = place-parts row y says in outside y.priority parts.at_least_1 parts.at_most_16)
     (sym (none-outside q outside rows)))
 
-nothing-outside : (kept : Kept) (point : Text) (q : ℕ) → ((n : ℕ) → 1 ≤ n → n ≤ 16 → (q == n) ≡ false) → get ((tables_in kept).places point) q ≡ None
+nothing-outside : (kept : Kept) (point : Text) (q : ℕ) → ((n : ℕ) → 1 ≤ n → n ≤ 16 → (q == n) ≡ false)
+    → get ((tables_in kept).places point) q ≡ None
 nothing-outside kept point q outside =
     with_each-unseen with_place (λ t. get (t point) q) (λ y. q == y.priority) (λ y t other. place-other point q y t other)
     (filter_map place_said kept.place) (λ name. empty) (none-outside q outside kept.place)
@@ -306,14 +388,16 @@ outside_places point kept = record {
 
 pub no_shown : (schedule : Text) (kept : Kept) → filter (of_schedule schedule) kept.shown ≡ [] → (tables_in kept).shown schedule ≡ None
 no_shown schedule kept none =
-    no-row shown_said with_shown (λ name. None) (λ t. t schedule) (of_schedule schedule) (λ y. bytes_eq schedule y.schedule) (schedule-agrees schedule)
+    no-row shown_said with_shown (λ name. None) (λ t. t schedule) (of_schedule schedule) (λ y. bytes_eq schedule y.schedule)
+    (schedule-agrees schedule)
     (λ y t other. shown-at schedule y t false other)
     kept.shown none
 
 pub one_shown : (schedule : Text) (kept : Kept) (row : Row) (item : ShownValue) → filter (of_schedule schedule) kept.shown ≡ row ∷ []
     → shown_said row ≡ Some item → (tables_in kept).shown schedule ≡ item.shown
 one_shown schedule kept row item only says =
-    one-row shown_said with_shown (λ name. None) (λ t. t schedule) (of_schedule schedule) (λ y. bytes_eq schedule y.schedule) (schedule-agrees schedule)
+    one-row shown_said with_shown (λ name. None) (λ t. t schedule) (of_schedule schedule) (λ y. bytes_eq schedule y.schedule)
+    (schedule-agrees schedule)
     (λ y t other. shown-at schedule y t false other)
     (λ y. y.shown)
     (λ y t here. shown-at schedule y t true here)
@@ -326,7 +410,8 @@ bad_shown kept row here none =
 pub two_shown : (schedule : Text) (kept : Kept) (a b : Row) (more : List Row) → filter (of_schedule schedule) kept.shown ≡ a ∷ b ∷ more
     → is_sound_in kept ≡ false
 two_shown schedule kept a b more two =
-    false_from_ne_true _ (λ is. both_ways _ (two-rows shown_said same_schedule (of_schedule schedule) (λ y. bytes_eq schedule y.schedule) (schedule-agrees schedule)
+    false_from_ne_true _ (λ is. both_ways _ (two-rows shown_said same_schedule (of_schedule schedule)
+    (λ y. bytes_eq schedule y.schedule) (schedule-agrees schedule)
     (λ x y first second. alike-text schedule x.schedule y.schedule first second)
     kept.shown a b more two) (sound-parts kept is).shown)
 
@@ -351,7 +436,8 @@ pub bad_imported : (kept : Kept) (row : Row) → Contains kept.imported row → 
 bad_imported kept row here none =
     false_from_ne_true _ (λ is. both_ways _ (bad-row imported_said same_entry kept.imported row here none) (sound-parts kept is).imported)
 
-pub two_imported : (calendar text : Text) (kept : Kept) (a b : Row) (more : List Row) → filter (of_entry calendar text) kept.imported ≡ a ∷ b ∷ more
+pub two_imported : (calendar text : Text) (kept : Kept) (a b : Row) (more : List Row)
+    → filter (of_entry calendar text) kept.imported ≡ a ∷ b ∷ more
     → is_sound_in kept ≡ false
 two_imported calendar text kept a b more two =
     false_from_ne_true _ (λ is. both_ways _ (two-rows imported_said same_entry (of_entry calendar text)
@@ -359,12 +445,14 @@ two_imported calendar text kept a b more two =
     (λ x y first second.
     let one = and_parts (bytes_eq calendar x.calendar) (bytes_eq text (spelling x.entry)) first in
     let other = and_parts (bytes_eq calendar y.calendar) (bytes_eq text (spelling y.entry)) second in
-    and_from _ _ (alike-text calendar x.calendar y.calendar one.0 other.0) (alike-text text (spelling x.entry) (spelling y.entry) one.1 other.1))
+    and_from _ _ (alike-text calendar x.calendar y.calendar one.0 other.0)
+    (alike-text text (spelling x.entry) (spelling y.entry) one.1 other.1))
     kept.imported a b more two) (sound-parts kept is).imported)
 
 -- ---- reads of `desk`
 
-pub one_last : (kept : Kept) (row : Row) (last : Option ℤ) → kept.desk ≡ row ∷ [] → last_said row ≡ Some last → (tables_in kept).last_tick ≡ last
+pub one_last : (kept : Kept) (row : Row) (last : Option ℤ) → kept.desk ≡ row ∷ [] → last_said row ≡ Some last
+    → (tables_in kept).last_tick ≡ last
 one_last kept row last one says = ap last_in one ∙ ap (λ o. unwrap_or o None) says
 
 pub bad_last : (kept : Kept) (row : Row) → kept.desk ≡ row ∷ [] → last_said row ≡ None → is_sound_in kept ≡ false

@@ -75,7 +75,8 @@ module _ {Item Table : Type 0} (said : Row → Option Item) (same : Item → Ite
   pub lost : (g : Table → Table) → ((y : Item) (t : Table) → has_key y ≡ true → g (put y t) ≡ g t)
       → ((y : Item) (t : Table) → has_key y ≡ false → g (put y t) ≡ put y (g t)) → g start ≡ start
       → (old now : List Row) → HasLost of_key old now
-      → (with_each put (filter_map said now) start ≡ g (with_each put (filter_map said old) start)) × (can_stand said same old ≡ true → can_stand said same now ≡ true)
+      → (with_each put (filter_map said now) start ≡ g (with_each put (filter_map said old) start))
+      × (can_stand said same old ≡ true → can_stand said same now ≡ true)
   lost g absorb commute none old now left =
       let items : filter_map said now ≡ filter (λ y. not (has_key y)) (filter_map said old) =
       ap (filter_map said) left ∙ said-filter said (λ r. not (of_key r)) (λ y. not (has_key y)) left-agrees old in
@@ -86,9 +87,11 @@ module _ {Item Table : Type 0} (said : Row → Option Item) (same : Item → Ite
 
 module _ {Item Table : Type 0} (said : Row → Option Item) (same : Item → Item → Bool) (put : Item → Table → Table) (start : Table)
     (either : (x y : Item) → same x y ≡ same y x) (x : Item) (absorb : (y : Item) (t : Table) → same x y ≡ true → put x (put y t) ≡ put x t)
-    (commute : (y : Item) (t : Table) → same x y ≡ false → put x (put y t) ≡ put y (put x t)) (of_key : Row → Bool) (agrees : Agrees said of_key (same x)) where
+    (commute : (y : Item) (t : Table) → same x y ≡ false → put x (put y t) ≡ put y (put x t)) (of_key : Row → Bool)
+    (agrees : Agrees said of_key (same x)) where
   pub put-row : (row : Row) → said row ≡ Some x → (old now : List Row) → HasPut row of_key old now
-      → (with_each put (filter_map said now) start ≡ put x (with_each put (filter_map said old) start)) × (can_stand said same old ≡ true → can_stand said same now ≡ true)
+      → (with_each put (filter_map said now) start ≡ put x (with_each put (filter_map said old) start))
+      × (can_stand said same old ≡ true → can_stand said same now ≡ true)
   put-row row says old now has =
       let before = filter_map said has.before in
       let after = filter_map said has.after in
@@ -108,15 +111,19 @@ module _ {Item Table : Type 0} (said : Row → Option Item) (same : Item → Ite
       let both = and_parts (list_all (λ r. is_some (said r)) old) (are_apart same (filter_map said old)) stand in
       let kept : list_all (λ r. is_some (said r)) (has.before ++ has.after) ≡ true =
       sym (ap (list_all (λ r. is_some (said r))) has.left) ∙ all-kept (λ r. is_some (said r)) (λ r. not (of_key r)) old both.0 in
-      let left : are_apart same (before ++ after) ≡ true = sym (ap (are_apart same) items) ∙ apart-kept same others (filter_map said old) both.1 in
-      and_from _ _ (ap (list_all (λ r. is_some (said r))) has.is ∙ all-put (λ r. is_some (said r)) has.before row has.after kept (ap is_some says))
+      let left : are_apart same (before ++ after) ≡ true =
+      sym (ap (are_apart same) items) ∙ apart-kept same others (filter_map said old) both.1 in
+      and_from _ _ (ap (list_all (λ r. is_some (said r))) has.is
+      ∙ all-put (λ r. is_some (said r)) has.before row has.after kept (ap is_some says))
       (ap (are_apart same) made ∙ apart-put same either before x after left apart) in
       (table, stands)
 
 -- ---- what the rows of a key tell
 
-module _ {Item Table Seen : Type 0} (said : Row → Option Item) (put : Item → Table → Table) (start : Table) (seen : Table → Seen) (of_key : Row → Bool)
-    (has_key : Item → Bool) (agrees : Agrees said of_key has_key) (leaves : (y : Item) (t : Table) → has_key y ≡ false → seen (put y t) ≡ seen t) where
+module _ {Item Table Seen : Type 0} (said : Row → Option Item) (put : Item → Table → Table) (start : Table) (seen : Table → Seen)
+    (of_key : Row → Bool)
+    (has_key : Item → Bool) (agrees : Agrees said of_key has_key)
+    (leaves : (y : Item) (t : Table) → has_key y ≡ false → seen (put y t) ≡ seen t) where
   pub no-row : (rows : List Row) → filter of_key rows ≡ [] → seen (with_each put (filter_map said rows) start) ≡ seen start
   no-row rows none =
       with_each-unseen put seen has_key leaves (filter_map said rows) start

@@ -68,25 +68,30 @@ next-either x y = either-text x.panel y.panel
 
 pub next-absorb : (x y : NextNumber) (t : List ℕ → ℕ) → same_panel x y ≡ true → with_next x (with_next y t) ≡ with_next x t
 next-absorb x y t same =
-    λ i. λ q. over (bytes_eq x.panel q) (bytes_eq y.panel q) x.next y.next (t q) (λ no yes. both_ways (bytes_eq x.panel q) no (follow x.panel y.panel q same yes)) i
+    λ i. λ q. over (bytes_eq x.panel q) (bytes_eq y.panel q) x.next y.next (t q)
+    (λ no yes. both_ways (bytes_eq x.panel q) no (follow x.panel y.panel q same yes)) i
 
 pub next-commute : (x y : NextNumber) (t : List ℕ → ℕ) → same_panel x y ≡ false → with_next x (with_next y t) ≡ with_next y (with_next x t)
 next-commute x y t apart =
-    λ i. λ q. past (bytes_eq x.panel q) (bytes_eq y.panel q) x.next y.next (t q) (λ one two. both_ways (same_panel x y) apart (meet x.panel y.panel q one two)) i
+    λ i. λ q. past (bytes_eq x.panel q) (bytes_eq y.panel q) x.next y.next (t q)
+    (λ one two. both_ways (same_panel x y) apart (meet x.panel y.panel q one two)) i
 
 -- ---- what is shown
 
 pub shown-either : (x y : ShownValue) → same_schedule x y ≡ same_schedule y x
 shown-either x y = either-text x.schedule y.schedule
 
-pub shown-absorb : (x y : ShownValue) (t : List ℕ → Option (Option ℤ)) → same_schedule x y ≡ true → with_shown x (with_shown y t) ≡ with_shown x t
+pub shown-absorb : (x y : ShownValue) (t : List ℕ → Option (Option ℤ)) → same_schedule x y ≡ true
+    → with_shown x (with_shown y t) ≡ with_shown x t
 shown-absorb x y t same =
-    λ i. λ q. over (bytes_eq x.schedule q) (bytes_eq y.schedule q) x.shown y.shown (t q) (λ no yes. both_ways (bytes_eq x.schedule q) no (follow x.schedule y.schedule q same yes)) i
+    λ i. λ q. over (bytes_eq x.schedule q) (bytes_eq y.schedule q) x.shown y.shown (t q)
+    (λ no yes. both_ways (bytes_eq x.schedule q) no (follow x.schedule y.schedule q same yes)) i
 
 pub shown-commute : (x y : ShownValue) (t : List ℕ → Option (Option ℤ)) → same_schedule x y ≡ false
     → with_shown x (with_shown y t) ≡ with_shown y (with_shown x t)
 shown-commute x y t apart =
-    λ i. λ q. past (bytes_eq x.schedule q) (bytes_eq y.schedule q) x.shown y.shown (t q) (λ one two. both_ways (same_schedule x y) apart (meet x.schedule y.schedule q one two)) i
+    λ i. λ q. past (bytes_eq x.schedule q) (bytes_eq y.schedule q) x.shown y.shown (t q)
+    (λ one two. both_ways (same_schedule x y) apart (meet x.schedule y.schedule q one two)) i
 
 -- one that is quiet leaves nothing shown
 pub shown-none : (x : ShownValue) → x.shown ≡ None → with_shown x (λ schedule. None) ≡ (λ schedule. None)
@@ -117,11 +122,13 @@ row-meet x y q n one two =
 
 pub row-absorb : (x y : KeptRow) (t : List ℕ → Rows) → same_command x y ≡ true → with_row x (with_row y t) ≡ with_row x t
 row-absorb x y t same =
-    λ i. λ q n. over (at-row x q n) (at-row y q n) (Some x.row) (Some y.row) (t q n) (λ no yes. both_ways (at-row x q n) no (row-follow x y q n same yes)) i
+    λ i. λ q n. over (at-row x q n) (at-row y q n) (Some x.row) (Some y.row) (t q n)
+    (λ no yes. both_ways (at-row x q n) no (row-follow x y q n same yes)) i
 
 pub row-commute : (x y : KeptRow) (t : List ℕ → Rows) → same_command x y ≡ false → with_row x (with_row y t) ≡ with_row y (with_row x t)
 row-commute x y t apart =
-    λ i. λ q n. past (at-row x q n) (at-row y q n) (Some x.row) (Some y.row) (t q n) (λ one two. both_ways (same_command x y) apart (row-meet x y q n one two)) i
+    λ i. λ q n. past (at-row x q n) (at-row y q n) (Some x.row) (Some y.row) (t q n)
+    (λ one two. both_ways (same_command x y) apart (row-meet x y q n one two)) i
 
 -- the rows below a number go
 
@@ -138,14 +145,17 @@ lower-here x y q n there =
     let numbers : n ≡ y.number = sym (eqb-true y.number n b.1) in
     λ i. below-row x (texts i) (numbers i)
 
-pub lower-absorb : (x : RowsBelow) (y : KeptRow) (t : List ℕ → Rows) → is_lower x y ≡ true → without_rows x (with_row y t) ≡ without_rows x t
+pub lower-absorb : (x : RowsBelow) (y : KeptRow) (t : List ℕ → Rows) → is_lower x y ≡ true
+    → without_rows x (with_row y t) ≡ without_rows x t
 lower-absorb x y t low =
-    λ i. λ q n. over (below-row x q n) (at-row y q n) None (Some y.row) (t q n) (λ no yes. both_ways (below-row x q n) no (lower-here x y q n yes ∙ low)) i
+    λ i. λ q n. over (below-row x q n) (at-row y q n) None (Some y.row) (t q n)
+    (λ no yes. both_ways (below-row x q n) no (lower-here x y q n yes ∙ low)) i
 
 pub lower-commute : (x : RowsBelow) (y : KeptRow) (t : List ℕ → Rows) → is_lower x y ≡ false
     → without_rows x (with_row y t) ≡ with_row y (without_rows x t)
 lower-commute x y t high =
-    λ i. λ q n. past (below-row x q n) (at-row y q n) None (Some y.row) (t q n) (λ one two. both_ways (below-row x q n) (lower-here x y q n two ∙ high) one) i
+    λ i. λ q n. past (below-row x q n) (at-row y q n) None (Some y.row) (t q n)
+    (λ one two. both_ways (below-row x q n) (lower-here x y q n two ∙ high) one) i
 
 pub lower-none : (x : RowsBelow) → without_rows x (λ panel number. None) ≡ (λ panel number. None)
 lower-none x = λ i. λ q n. both-same (below-row x q n) None i
@@ -164,7 +174,8 @@ pub get-put_at : (places : Places) (priority : ℕ) (value : Option ℤ) (q : �
     → get (put places priority value) q ≡ cond (q == priority) value (get places q)
 get-put_at places priority value q = get-put places priority value q ∙ ap (λ b. cond b value (get places q)) (tied-is q priority)
 
-put-twice : (places : Places) (m n : ℕ) (u v : Option ℤ) (q : ℕ) → get (put (put places n v) m u) q ≡ cond (q == m) u (cond (q == n) v (get places q))
+put-twice : (places : Places) (m n : ℕ) (u v : Option ℤ) (q : ℕ)
+    → get (put (put places n v) m u) q ≡ cond (q == m) u (cond (q == n) v (get places q))
 put-twice places m n u v q = get-put_at (put places n v) m u q ∙ ap (λ o. cond (q == m) u o) (get-put_at places n v q)
 
 put-over : (places : Places) (m n : ℕ) (u v : Option ℤ) → (m == n) ≡ true → put (put places n v) m u ≡ put places m u
@@ -176,12 +187,14 @@ put-over places m n u v same =
 put-past : (places : Places) (m n : ℕ) (u v : Option ℤ) → (m == n) ≡ false → put (put places n v) m u ≡ put (put places m u) n v
 put-past places m n u v apart =
     same_map nat_cmp_total nat_cmp-IsAntisymmetric _ _ (λ q. put-twice places m n u v q
-    ∙ past (q == m) (q == n) u v (get places q) (λ one two. both_ways (m == n) apart (eq-eqb m n (sym (eqb-true q m one) ∙ eqb-true q n two)))
+    ∙ past (q == m) (q == n) u v (get places q) (λ one two. both_ways (m == n) apart
+    (eq-eqb m n (sym (eqb-true q m one) ∙ eqb-true q n two)))
     ∙ sym (put-twice places n m v u q))
 
 put-none : (m : ℕ) → put empty m None ≡ empty
 put-none m =
-    same_map nat_cmp_total nat_cmp-IsAntisymmetric _ _ (λ q. get-put_at empty m None q ∙ ap (λ o. cond (q == m) None o) (get-empty nat_cmp q)
+    same_map nat_cmp_total nat_cmp-IsAntisymmetric _ _
+    (λ q. get-put_at empty m None q ∙ ap (λ o. cond (q == m) None o) (get-empty nat_cmp q)
     ∙ both-same (q == m) None ∙ sym (get-empty nat_cmp q))
 
 pub place-either : (x y : PlaceValue) → same_place x y ≡ same_place y x
@@ -211,11 +224,13 @@ place-absorb x y t same =
     λ i. λ q. place-over (bytes_eq x.point q) (bytes_eq y.point q) x y (t q) parts.1
     (λ no yes. both_ways (bytes_eq x.point q) no (follow x.point y.point q parts.0 yes)) i
 
-pub place-commute : (x y : PlaceValue) (t : List ℕ → Places) → same_place x y ≡ false → with_place x (with_place y t) ≡ with_place y (with_place x t)
+pub place-commute : (x y : PlaceValue) (t : List ℕ → Places) → same_place x y ≡ false
+    → with_place x (with_place y t) ≡ with_place y (with_place x t)
 place-commute x y t apart =
     λ i. λ q. place-past (bytes_eq x.point q) (bytes_eq y.point q) x y (t q)
     (λ one two. false_from_ne_true (x.priority == y.priority)
-    (λ same. both_ways (same_place x y) apart (and_from (bytes_eq x.point y.point) (x.priority == y.priority) (meet x.point y.point q one two) same))) i
+    (λ same. both_ways (same_place x y) apart (and_from (bytes_eq x.point y.point) (x.priority == y.priority)
+    (meet x.point y.point q one two) same))) i
 
 pub place-none : (x : PlaceValue) → x.value ≡ None → with_place x (λ point. empty) ≡ (λ point. empty)
 place-none x quiet = λ i. λ q. none (bytes_eq x.point q) i where

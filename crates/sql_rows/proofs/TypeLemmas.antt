@@ -55,4 +55,7 @@ pub second_filled : (table : Table) (c : Column) (name : List ℕ) (k : Kind) (c
 second_filled table c name k cs no_key columns db row typed present =
     let typed_all = subst₂ (λ key cols. are_typed key 0 cols (drop 1 row) ≡ true) no_key columns (and_parts _ _ typed).0 in
     let present_all = subst₂ (λ key cols. are_present key 0 cols row ≡ true) no_key columns present in
-    record { of = second_typed c name k true cs row typed_all; filled = not_true (is_null (column row 2)) (and_parts _ _ (and_parts _ _ present_all).1).0 }
+    record {
+      of = second_typed c name k true cs row typed_all;
+      filled = not_true (is_null (column row 2)) (and_parts _ _ (and_parts _ _ present_all).1).0;
+    }

@@ -42,68 +42,97 @@ pub record Ran (old new : State) (edit : Edit) : Type 0 where
   pub sound : IsDatabase new.now
   pub applies : Applies desk_schema Enforced old.now.trees edit new.now.trees
 
-module _ (sql : List ℕ) (at : ℕ) (table : Table) (found : slice_get desk_schema.tables at ≡ Some table) (plain : IsPlain (understood desk_schema sql)) where
+module _ (sql : List ℕ) (at : ℕ) (table : Table) (found : slice_get desk_schema.tables at ≡ Some table)
+    (plain : IsPlain (understood desk_schema sql)) where
   pub removes : (tree : ℕ) (terms : List Term) → command_of (understood desk_schema sql) ≡ deletion at tree terms
       → (old new : State) (params : Row) (count : ℕ) → old.now.schema ≡ desk_schema → Executes sql params old new (Ok count)
-      → (rows : List Row) × IsPermutation (map (λ r. rowid r ∷ []) (filter (passes terms params) (old.now.trees tree))) rows × Ran old new (edit_of old.now.trees table (ids_of rows) Given 0 [])
+      → (rows : List Row) × IsPermutation (map (λ r. rowid r ∷ []) (filter (passes terms params) (old.now.trees tree))) rows
+      × Ran old new (edit_of old.now.trees table (ids_of rows) Given 0 [])
   removes tree terms is old new params count has h =
       let db = old.now.trees in
       let text = statement_of sql (understood desk_schema sql) in
       let w = runs_as sql params old new desk_schema has (deletion at tree terms) is plain count h in
-      let on = subst (λ s. Does old.step_limit (mode_of old) params (record old.now { schema = s }) text None (deletion at tree terms) (Ok (w.tally, new.now))) has w.changed in
+      let on =
+      subst (λ s. Does old.step_limit (mode_of old) params (record old.now { schema = s }) text None (deletion at tree terms)
+      (Ok (w.tally, new.now))) has w.changed in
       let task : Task = record { limit = old.step_limit; keys = Enforced; schema = desk_schema; table = table; params = params } in
-      let done = went (at_place (λ (t : Table). OnRows (record task { table = t }) (mode_of old) None (deletion at tree terms) db) (slice_get desk_schema.tables at) table (Ok (w.tally, new.now)) found on) in
+      let done =
+      went (at_place (λ (t : Table). OnRows (record task { table = t }) (mode_of old) None (deletion at tree terms) db)
+      (slice_get desk_schema.tables at) table (Ok (w.tally, new.now)) found on) in
       let deleted = went done.1 in
       let written = went deleted.2 in
       let concluded = went (went done.2).2 in
       let now = ap (λ (p : Tally × Database). p.1) (same_value concluded.2) in
-      let left : written.0 ≡ new.now.trees = ap (λ (it : Written). it.trees) (sym (same_value written.2)) ∙ sym (ap (λ (d : Database). d.trees) now) in
+      let left : written.0 ≡ new.now.trees =
+      ap (λ (it : Written). it.trees) (sym (same_value written.2)) ∙ sym (ap (λ (d : Database). d.trees) now) in
       let edit = edit_of db table (ids_of deleted.0) Given 0 [] in (
         deleted.0,
         plain_program tree terms (col 1 0 ∷ []) db params deleted.0 deleted.1.answer,
-        record { schema = ap (λ (d : Database). d.schema) now; sound = w.sound; applies = subst (Applies desk_schema Enforced db edit) left (one_step desk_schema Enforced db written.0 edit refl written.1) },
+        record {
+          schema = ap (λ (d : Database). d.schema) now;
+          sound = w.sound;
+          applies = subst (Applies desk_schema Enforced db edit) left (one_step desk_schema Enforced db written.0 edit refl written.1);
+        },
       )
 
   pub updates : (tree : ℕ) (terms project : List Term)
       → command_of (understood desk_schema sql) ≡ Update at (record { lets = []; body = plain_query tree terms project })
       → (old new : State) (params : Row) (count : ℕ) → old.now.schema ≡ desk_schema → Executes sql params old new (Ok count)
-      → (rows : List Row) × IsPermutation (map (shows project params) (filter (passes terms params) (old.now.trees tree))) rows × Ran old new (edit_of old.now.trees table (ids_of rows) Given 1 rows) × (count ≡ length rows)
+      → (rows : List Row) × IsPermutation (map (shows project params) (filter (passes terms params) (old.now.trees tree))) rows
+      × Ran old new (edit_of old.now.trees table (ids_of rows) Given 1 rows) × (count ≡ length rows)
   updates tree terms project is old new params count has h =
       let db = old.now.trees in
       let command = Update at (record { lets = []; body = plain_query tree terms project }) in
       let text = statement_of sql (understood desk_schema sql) in
       let w = runs_as sql params old new desk_schema has command is plain count h in
-      let on = subst (λ s. Does old.step_limit (mode_of old) params (record old.now { schema = s }) text None command (Ok (w.tally, new.now))) has w.changed in
+      let on =
+      subst (λ s. Does old.step_limit (mode_of old) params (record old.now { schema = s }) text None command
+      (Ok (w.tally, new.now))) has w.changed in
       let task : Task = record { limit = old.step_limit; keys = Enforced; schema = desk_schema; table = table; params = params } in
-      let done = went (at_place (λ (t : Table). OnRows (record task { table = t }) (mode_of old) None command db) (slice_get desk_schema.tables at) table (Ok (w.tally, new.now)) found on) in
+      let done =
+      went (at_place (λ (t : Table). OnRows (record task { table = t }) (mode_of old) None command db)
+      (slice_get desk_schema.tables at) table (Ok (w.tally, new.now)) found on) in
       let updated = went done.1 in
       let written = went updated.2 in
       let concluded = went (went done.2).2 in
       let now = ap (λ (p : Tally × Database). p.1) (same_value concluded.2) in
-      let left : written.0 ≡ new.now.trees = ap (λ (it : Written). it.trees) (sym (same_value written.2)) ∙ sym (ap (λ (d : Database). d.trees) now) in
+      let left : written.0 ≡ new.now.trees =
+      ap (λ (it : Written). it.trees) (sym (same_value written.2)) ∙ sym (ap (λ (d : Database). d.trees) now) in
       let edit = edit_of db table (ids_of updated.0) Given 1 updated.0 in
-      let told = w.counted ∙ ap (λ (p : Tally × Database). unwrap_or p.0.rows 0) (same_value concluded.2) ∙ ap (λ (it : Written). length it.rows) (same_value written.2) in (
+      let told =
+      w.counted ∙ ap (λ (p : Tally × Database). unwrap_or p.0.rows 0) (same_value concluded.2)
+      ∙ ap (λ (it : Written). length it.rows) (same_value written.2) in (
         updated.0,
         plain_program tree terms project db params updated.0 updated.1.answer,
-        record { schema = ap (λ (d : Database). d.schema) now; sound = w.sound; applies = subst (Applies desk_schema Enforced db edit) left (one_step desk_schema Enforced db written.0 edit refl written.1) },
+        record {
+          schema = ap (λ (d : Database). d.schema) now;
+          sound = w.sound;
+          applies = subst (Applies desk_schema Enforced db edit) left (one_step desk_schema Enforced db written.0 edit refl written.1);
+        },
         told ∙ ap length (numbered_given _ _) ∙ length-map updated.0 _,
       )
 
 module _ (sql : List ℕ) (at : ℕ) (name : List ℕ) (tree : ℕ) (columns : List Column) (key : List ℕ) (checks : List Term)
-    (found : slice_get desk_schema.tables at ≡ Some (keyed_table name tree columns key checks)) (plain : IsPlain (understood desk_schema sql)) where
+    (found : slice_get desk_schema.tables at ≡ Some (keyed_table name tree columns key checks))
+    (plain : IsPlain (understood desk_schema sql)) where
   -- the row that an INSERT puts into the table, with the rowid that it chose
   pub adds : (terms : List Term) (width : ℕ) → command_of (understood desk_schema sql) ≡ Insert at (Values terms width)
       → (old new : State) (params : Row) (count : ℕ) → old.now.schema ≡ desk_schema → Executes sql params old new (Ok count)
-      → Ran old new (edit_of old.now.trees (keyed_table name tree columns key checks) [] Chosen 0 (value_rows (params ++ []) width (length terms / width) terms))
+      → Ran old new (edit_of old.now.trees (keyed_table name tree columns key checks) [] Chosen 0
+      (value_rows (params ++ []) width (length terms / width) terms))
   adds terms width is old new params count has h =
       let db = old.now.trees in
       let table = keyed_table name tree columns key checks in
       let command = Insert at (Values terms width) in
       let text = statement_of sql (understood desk_schema sql) in
       let w = runs_as sql params old new desk_schema has command is plain count h in
-      let on = subst (λ s. Does old.step_limit (mode_of old) params (record old.now { schema = s }) text None command (Ok (w.tally, new.now))) has w.changed in
+      let on =
+      subst (λ s. Does old.step_limit (mode_of old) params (record old.now { schema = s }) text None command
+      (Ok (w.tally, new.now))) has w.changed in
       let task : Task = record { limit = old.step_limit; keys = Enforced; schema = desk_schema; table = table; params = params } in
-      let done = went (at_place (λ (t : Table). OnRows (record task { table = t }) (mode_of old) None command db) (slice_get desk_schema.tables at) table (Ok (w.tally, new.now)) found on) in
+      let done =
+      went (at_place (λ (t : Table). OnRows (record task { table = t }) (mode_of old) None command db)
+      (slice_get desk_schema.tables at) table (Ok (w.tally, new.now)) found on) in
       let given = went done.1 in
       let counted = went given.2 in
       let written = went counted.2 in
@@ -113,4 +142,8 @@ module _ (sql : List ℕ) (at : ℕ) (name : List ℕ) (tree : ℕ) (columns : L
       let left : written.0 ≡ new.now.trees = sym trees ∙ sym (ap (λ (d : Database). d.trees) now) in
       let edit = edit_of db table [] Chosen 0 given.0 in
       let applied = subst (Applies desk_schema Enforced db edit) left (one_step desk_schema Enforced db written.0 edit refl written.1) in
-      record { schema = ap (λ (d : Database). d.schema) now; sound = w.sound; applies = subst (λ rows. Applies desk_schema Enforced db (edit_of db table [] Chosen 0 rows) new.now.trees) given.1.1 applied }
+      record {
+        schema = ap (λ (d : Database). d.schema) now;
+        sound = w.sound;
+        applies = subst (λ rows. Applies desk_schema Enforced db (edit_of db table [] Chosen 0 rows) new.now.trees) given.1.1 applied;
+      }

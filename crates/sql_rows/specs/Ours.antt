@@ -15,7 +15,15 @@ use Rattle.sql_rows.specs.Stored.{HasPut, Kept, content_in, is_sound_in, tables_
 
 -- the rows of the six tables
 abbrev pub kept_in : Trees → Kept
-kept_in db = record { desk = db desk_tree; panel = db panel_tree; command = db command_tree; place = db place_tree; shown = db shown_tree; imported = db imported_tree }
+kept_in db =
+    record {
+      desk = db desk_tree;
+      panel = db panel_tree;
+      command = db command_tree;
+      place = db place_tree;
+      shown = db shown_tree;
+      imported = db imported_tree;
+    }
 
 abbrev pub content_of : Trees → Content
 content_of db = content_in (kept_in db)

@@ -21,7 +21,9 @@ use Rattle.sql_rows.specs.Cells.{is_text, is_count, is_below, name_in, count_in,
 -- ---- panel: name, next
 
 abbrev pub next_said : Row → Option NextNumber
-next_said row = option_and_then (λ name. option_map (λ next. record { panel = name; next = next }) (count_in 1 1_000_000_000_001 (column row 2))) (name_in (column row 1))
+next_said row =
+    option_and_then (λ name. option_map (λ next. record { panel = name; next = next })
+    (count_in 1 1_000_000_000_001 (column row 2))) (name_in (column row 1))
 
 -- ---- command: panel, number, point, priority, value, state, a, b
 
@@ -46,36 +48,47 @@ refused_in (Int (pos n)) Null = option_map (λ rule. Answered (Refused rule)) (r
 refused_in _ _ = None
 
 abbrev pub state_in : Value → Value → Value → Option CommandState
-state_in state a b = if is_count 0 state then parked_in a b else if is_count 1 state then done_in a b else if is_count 2 state then refused_in a b else None
+state_in state a b =
+    if is_count 0 state then parked_in a b else if is_count 1 state then done_in a b else if is_count 2 state then refused_in a b else None
 
 abbrev pub content_in : Value → Value → Value → Option Content
 content_in point priority value =
-    option_and_then (λ name. option_and_then (λ at. option_map (λ asked. record { point = name; priority = at; value = asked }) (optional_in value)) (number_in priority)) (name_in point)
+    option_and_then (λ name. option_and_then (λ at. option_map (λ asked. record { point = name; priority = at; value = asked })
+    (optional_in value)) (number_in priority)) (name_in point)
 
 -- the six cells of a command's content and state
 abbrev pub command_in : Value → Value → Value → Value → Value → Value → Option CommandRow
 command_in point priority value state a b =
-    option_and_then (λ content. option_map (λ stands. record { content = content; state = stands }) (state_in state a b)) (content_in point priority value)
+    option_and_then (λ content. option_map (λ stands. record { content = content; state = stands }) (state_in state a b))
+    (content_in point priority value)
 
 abbrev pub command_said : Row → Option KeptRow
-command_said row = option_and_then (λ name. option_and_then (λ number. option_map (λ kept. record { panel = name; number = number; row = kept })
-    (command_in (column row 3) (column row 4) (column row 5) (column row 6) (column row 7) (column row 8))) (count_in 1 1_000_000_000_000 (column row 2))) (name_in (column row 1))
+command_said row =
+    option_and_then (λ name. option_and_then (λ number. option_map (λ kept. record { panel = name; number = number; row = kept })
+    (command_in (column row 3) (column row 4) (column row 5) (column row 6) (column row 7) (column row 8)))
+    (count_in 1 1_000_000_000_000 (column row 2))) (name_in (column row 1))
 
 -- ---- place: point, priority, value
 
 abbrev pub place_said : Row → Option PlaceValue
-place_said row = option_and_then (λ name. option_and_then (λ priority. option_map (λ value. record { point = name; priority = priority; value = Some value })
+place_said row =
+    option_and_then (λ name. option_and_then (λ priority. option_map
+    (λ value. record { point = name; priority = priority; value = Some value })
     (number_in (column row 3))) (count_in 1 16 (column row 2))) (name_in (column row 1))
 
 -- ---- shown: schedule, value
 
 abbrev pub shown_said : Row → Option ShownValue
-shown_said row = option_and_then (λ name. option_map (λ value. record { schedule = name; shown = Some value }) (optional_in (column row 2))) (name_in (column row 1))
+shown_said row =
+    option_and_then (λ name. option_map (λ value. record { schedule = name; shown = Some value }) (optional_in (column row 2)))
+    (name_in (column row 1))
 
 -- ---- imported: calendar, entry
 
 abbrev pub imported_said : Row → Option ImportedEntry
-imported_said row = option_and_then (λ name. option_map (λ entry. record { calendar = name; entry = entry }) (entry_in (column row 2))) (name_in (column row 1))
+imported_said row =
+    option_and_then (λ name. option_map (λ entry. record { calendar = name; entry = entry }) (entry_in (column row 2)))
+    (name_in (column row 1))
 
 -- ---- desk: id, version, last
 

@@ -57,4 +57,5 @@ with_commands change tables =
 -- what the points, the schedules and the calendars have, and the last tick
 abbrev pub with_values : Change → Tables → Tables
 with_values change tables =
-    last_put change.last_tick (with_each imported_put change.imported.items (with_each shown_put change.shown.items (with_each place_put change.places.items tables)))
+    last_put change.last_tick (with_each imported_put change.imported.items
+    (with_each shown_put change.shown.items (with_each place_put change.places.items tables)))

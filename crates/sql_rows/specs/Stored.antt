@@ -50,7 +50,8 @@ is_desk (row ∷ other ∷ rows) = false
 
 abbrev pub is_sound_in : Kept → Bool
 is_sound_in kept =
-    is_desk kept.desk && (can_stand next_said same_panel kept.panel && (can_stand command_said same_command kept.command && (can_stand place_said same_place kept.place
+    is_desk kept.desk && (can_stand next_said same_panel kept.panel
+    && (can_stand command_said same_command kept.command && (can_stand place_said same_place kept.place
     && (can_stand shown_said same_schedule kept.shown && can_stand imported_said same_entry kept.imported))))
 
 abbrev pub content_in : Kept → Content

@@ -19,8 +19,10 @@ abbrev pub ShowsCommitted : State → State → Type 0
 ShowsCommitted old new = (new.now ≡ old.committed) × (new.committed ≡ old.committed)
 
 module _ {S : Type 0} (g : Ghosts S) (old mid new : Held S) where
-  failed : (e : Error) → KeepsCommit (state g (record old { in_transaction = true })) (state g mid) → FailsToCommit (state g mid) (state g new) e
-      → (IsTrue (state g new).is_open → (state g new).now ≡ (state g new).committed) → IsTrue (state g new).is_open → ShowsCommitted (state g old) (state g new)
+  failed : (e : Error) → KeepsCommit (state g (record old { in_transaction = true })) (state g mid)
+      → FailsToCommit (state g mid) (state g new) e
+      → (IsTrue (state g new).is_open → (state g new).now ≡ (state g new).committed) → IsTrue (state g new).is_open
+      → ShowsCommitted (state g old) (state g new)
   failed e kept (inl fails) settled is_open =
       let back = fails.3 in
       let same = kept.committed (back.was_open is_open) in
@@ -31,7 +33,8 @@ module _ {S : Type 0} (g : Ghosts S) (old mid new : Held S) where
 
   -- a commit that failed
   pub not_committed : {A : Type 0} (told : Result A Error) → KeepsCommit (state g (record old { in_transaction = true })) (state g mid)
-      → IfErr told (FailsToCommit (state g mid) (state g new)) → (IsTrue (state g new).is_open → (state g new).now ≡ (state g new).committed)
+      → IfErr told (FailsToCommit (state g mid) (state g new))
+      → (IsTrue (state g new).is_open → (state g new).now ≡ (state g new).committed)
       → IsTrue (state g new).is_open → OnErr told (ShowsCommitted (state g old) (state g new))
   not_committed (Ok x) kept fails settled is_open = tt
   not_committed (Err e) kept fails settled is_open = failed e kept fails settled is_open
@@ -40,7 +43,8 @@ module _ {S : Type 0} (g : Ghosts S) (old mid new : Held S) where
   pub survives_whole : {A : Type 0} (change : Change) (x : A)
       → Steps {A = A} (Turns (with_change change)) (state g (record old { in_transaction = true })) (state g mid) (Ok x)
       → Survives (state g mid) (state g new) (λ trees. trees ≡ (state g mid).now.trees)
-      → Survives (state g old) (state g new) (λ trees. IsOurs (state g old).now → Makes (with_change change) (kept_in (state g old).now.trees) (kept_in trees))
+      → Survives (state g old) (state g new) (λ trees. IsOurs (state g old).now
+      → Makes (with_change change) (kept_in (state g old).now.trees) (kept_in trees))
   survives_whole change x steps commits =
       let begun = state g (record old { in_transaction = true }) in
       let P = λ (trees : Trees). IsOurs (state g old).now → Makes (with_change change) (kept_in (state g old).now.trees) (kept_in trees) in

@@ -45,9 +45,11 @@ whole change t =
     let three : Tables = record two { row = with_each without_rows change.dropped.items two.row } in
     let four : Tables = record three { places = with_each with_place change.places.items t.places } in
     let five : Tables = record four { shown = with_each with_shown change.shown.items t.shown } in
-    ap (λ u. with_values change (with_each rows_dropped change.dropped.items (with_each row_put change.rows.items u))) (nexts change.nexts.items t)
+    ap (λ u. with_values change (with_each rows_dropped change.dropped.items (with_each row_put change.rows.items u)))
+    (nexts change.nexts.items t)
     ∙ ap (λ u. with_values change (with_each rows_dropped change.dropped.items u)) (rows change.rows.items one)
     ∙ ap (with_values change) (dropped change.dropped.items two)
-    ∙ ap (λ u. last_put change.last_tick (with_each imported_put change.imported.items (with_each shown_put change.shown.items u))) (places change.places.items three)
+    ∙ ap (λ u. last_put change.last_tick (with_each imported_put change.imported.items (with_each shown_put change.shown.items u)))
+    (places change.places.items three)
     ∙ ap (λ u. last_put change.last_tick (with_each imported_put change.imported.items u)) (shown change.shown.items four)
     ∙ ap (last_put change.last_tick) (imported change.imported.items five)

@@ -27,7 +27,8 @@ is_not : false ≡ true → ⊥
 is_not e = cc
 
 -- a call behind a read
-Goes-after : (fault : Option StoreFault) (first second third : Standing) → Goes None first second → Goes fault second third → Goes fault first third
+Goes-after : (fault : Option StoreFault) (first second third : Standing) → Goes None first second → Goes fault second third
+    → Goes fault first third
 Goes-after fault first second third before after = record {
   honest = λ honest. before.honest (after.honest honest);
   shut = (
@@ -37,7 +38,8 @@ Goes-after fault first second third before after = record {
   untouched = λ honest shut. absurd (not_shut (before.shut.1 shut));
   goes_on = λ told. after.goes_on told ∙ before.goes_on not_failed;
   steady = λ told. after.steady told ∙ before.steady not_failed;
-  failed = λ told. let rises = after.failed told in (rises.0, subst (λ count. HasRisen count third.failures) (before.steady not_failed) rises.1);
+  failed =
+      λ told. let rises = after.failed told in (rises.0, subst (λ count. HasRisen count third.failures) (before.steady not_failed) rises.1);
   settled = after.settled;
 }
 
@@ -49,7 +51,9 @@ Reads-then fault first second third before after = record {
   kept = λ honest told. after.kept honest told ∙ before.kept (after.goes.honest honest) not_failed;
   left = λ honest was content left.
       after.left honest (stays_open first second before.goes) content left ∙ before.kept (after.goes.honest honest) not_failed;
-  bad_row = λ honest told. sym (ap (λ (content : Content). content.is_sound) (before.kept (after.goes.honest honest) not_failed)) ∙ after.bad_row honest told;
+  bad_row =
+      λ honest told. sym (ap (λ (content : Content). content.is_sound) (before.kept (after.goes.honest honest) not_failed))
+      ∙ after.bad_row honest told;
 }
 
 -- a commit behind a read
@@ -57,7 +61,9 @@ pub Commits-then : (change : Change) (fault : Option StoreFault) (first second t
     → Commits change fault second third → Commits change fault first third
 Commits-then change fault first second third before after = record {
   goes = Goes-after fault first second third before.goes after.goes;
-  made = λ honest none. subst (λ content. Makes change content third.content) (before.kept (after.goes.honest honest) not_failed) (after.made honest none);
+  made =
+      λ honest none. subst (λ content. Makes change content third.content) (before.kept (after.goes.honest honest) not_failed)
+      (after.made honest none);
   unchanged = λ honest goes_on told is. after.unchanged honest goes_on told is ∙ before.kept (after.goes.honest honest) not_failed;
   left = λ honest was content left.
       subst (λ old. (content ≡ old) ⊎ Makes change old content) (before.kept (after.goes.honest honest) not_failed)

@@ -35,7 +35,8 @@ HasRisen old new = (old < new) ⊎ ((old ≡ 2 ^ 64 - 1) × (new ≡ old))
 
 -- while a store is open, a stop leaves what it holds and nothing else
 abbrev pub IsSettled : Standing → Type 0
-IsSettled standing = standing.is_honest → standing.is_shut ≡ false → (content : Content) → standing.may_leave content → content ≡ standing.content
+IsSettled standing =
+    standing.is_honest → standing.is_shut ≡ false → (content : Content) → standing.may_leave content → content ≡ standing.content
 
 -- nothing is touched: it holds the same, and a stop leaves nothing that it could not leave before
 pub record IsUntouched (old new : Standing) : Type 0 where

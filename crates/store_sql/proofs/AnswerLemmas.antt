@@ -54,7 +54,9 @@ pair_empty tree terms db rows answer = (there, back)
 
     back : ((a b : Row) → Has (db tree) a → Has (db tree) b → pair_passes terms a b ≡ false) → rows ≡ []
     back none =
-        let staged = answer.grouped ∙ all_empty _ (db tree) (λ a ha. all_empty _ (db tree) (λ b hb. empty_cond (pair_passes terms a b) _ (none a b ha hb))) in
+        let staged =
+        answer.grouped ∙ all_empty _ (db tree) (λ a ha. all_empty _ (db tree)
+        (λ b hb. empty_cond (pair_passes terms a b) _ (none a b ha hb))) in
         let kept = answer.distinct ∙ ap (map (output (pair_query tree terms))) staged in
         let ordered = empty_permuted answer.kept answer.ordered answer.same kept in
         answer.shown ∙ ap (map (λ (o : Output). o.1)) ordered

@@ -20,7 +20,8 @@ Saying = Bool → Database → Type 0
 -- an answer says what follows from it
 pub asks_as : (P Q : Saying) → ((b : Bool) (db : Database) → IsFitting db → P b db → Q b db) → (old new : State) (r : Result Bool Error)
     → Asks P old new r → Asks Q old new r
-asks_as P Q f old new r h = record { same = h.same; rests = h.rests; told = λ clean fit. follows r fit (h.told clean fit); survives = h.survives }
+asks_as P Q f old new r h =
+    record { same = h.same; rests = h.rests; told = λ clean fit. follows r fit (h.told clean fit); survives = h.survives }
   where
     follows : (r : Result Bool Error) → IsFitting old.now → IfOk r (λ b. P b old.now) → IfOk r (λ b. Q b old.now)
     follows (Ok b) fit p = f b old.now fit p
@@ -33,7 +34,8 @@ plain_here sql s ask fit = subst (λ schema. IsPlain (understood schema sql)) (s
 never_here : (sql : List ℕ) (old new : State) → IsAskable sql → Survives old new (λ _. IsPlain (understood old.now.schema sql) → ⊥)
     → Survives old new (λ _. IsFitting old.now → ⊥)
 never_here sql old new ask survives =
-    survives_weaker old new (λ _. IsPlain (understood old.now.schema sql) → ⊥) (λ _. IsFitting old.now → ⊥) (λ _ db never fit. never (plain_here sql old ask fit)) survives
+    survives_weaker old new (λ _. IsPlain (understood old.now.schema sql) → ⊥) (λ _. IsFitting old.now → ⊥)
+    (λ _ db never fit. never (plain_here sql old ask fit)) survives
 
 -- what was looked at, of a question with an answer in a Bool
 module _ (says : Saying) (sql : List ℕ) (ask : IsAskable sql) (old new : State) where
@@ -61,4 +63,9 @@ module _ (says : Saying) (sql : List ℕ) (ask : IsAskable sql) (old new : State
       → Asks says old new r
   look_failed (Ok b) failed rests survives = absurd (true≢false (sym failed))
   look_failed (Err e) failed rests survives =
-      record { same = λ clean fit. tt; rests = λ clean fit. rests clean (plain_here sql old ask fit); told = λ clean fit. tt; survives = never_here sql old new ask survives }
+      record {
+        same = λ clean fit. tt;
+        rests = λ clean fit. rests clean (plain_here sql old ask fit);
+        told = λ clean fit. tt;
+        survives = never_here sql old new ask survives;
+      }

@@ -33,7 +33,8 @@ no_number (Blob b) = truth_of _ ∙ ap is_ne (value_cmp-Text (codes "blob") (cod
 pub shares : (v w : Value) → is_int v ≡ true → is_int w ≡ true → (is_true (binary (Compare Eq Binary) v w) ≡ true) ↔ (v ≡ w)
 unfolding binary
 shares (Int m) (Int n) vi wi =
-    let told : is_true (from_truth (Some (is_eq (value_cmp (Int m) (Int n))))) ≡ is_eq (int_cmp m n) = truth_of _ ∙ ap is_eq (value_cmp-Int m n) in
+    let told : is_true (from_truth (Some (is_eq (value_cmp (Int m) (Int n))))) ≡ is_eq (int_cmp m n) =
+    truth_of _ ∙ ap is_eq (value_cmp-Int m n) in
     (λ is. ap Int ((Decides-int_eq m n).0 (sym told ∙ is)), λ same. told ∙ (Decides-int_eq m n).1 (int_same m n same))
   where
     int_same : (m n : ℤ) → Int m ≡ Int n → m ≡ n
@@ -76,7 +77,8 @@ pub tied_same : (v w : Value) → v ≡ w → ties v w ≡ true
 tied_same v w same = ap (λ x. is_eq (value_cmp v x)) (sym same) ∙ ap is_eq (tied_itself value_cmp_total v)
 
 pub text_tied : (v w : Value) → IsFilled kind.Text v → IsFilled kind.Text w → ties v w ≡ true → v ≡ w
-text_tied (Text s) (Text t) fv fw is = ap Text ((bytes_eq-Decides s t).0 (sym (is_eq-slice_cmp s t) ∙ ap is_eq (sym (value_cmp-Text s t)) ∙ is))
+text_tied (Text s) (Text t) fv fw is =
+    ap Text ((bytes_eq-Decides s t).0 (sym (is_eq-slice_cmp s t) ∙ ap is_eq (sym (value_cmp-Text s t)) ∙ is))
 text_tied (Text s) Null fv fw is = absurd (true≢false fw.filled)
 text_tied (Text s) (Int n) fv fw is = absurd (true≢false (sym fw.of))
 text_tied (Text s) (Real x) fv fw is = absurd (true≢false (sym fw.of))

@@ -40,7 +40,8 @@ commits_shut change s failures is_shut shut = record {
 }
 
 -- Before a commit, after it, and once its refusal was told.
-module _ (change : Change) (old new : State) (failures : ℕ) (was_shut : Bool) (was_open : was_shut ≡ false) (fit : IsFit old was_shut) (settles_old : Settles old) (settles_new : Settles new)
+module _ (change : Change) (old new : State) (failures : ℕ) (was_shut : Bool) (was_open : was_shut ≡ false)
+    (fit : IsFit old was_shut) (settles_old : Settles old) (settles_new : Settles new)
     (mode : new.in_transaction ≡ false)
     (survives : Survives old new (λ trees. IsOurs old.now → ours.Makes (with_change change) (kept_in old.now.trees) (kept_in trees))) where
   stood : HasCleanDisk new → Stands old
@@ -58,7 +59,8 @@ module _ (change : Change) (old new : State) (failures : ℕ) (was_shut : Bool) 
   left_before clean content left =
       elim (survives.crash clean left.0 left.1) [
         | inl could ↦ inl (left.2 ∙ ap content_of (settles_old left.0 (stood clean).is_open could))
-        | inr makes ↦ inr (subst (Makes change (content_of old.committed.trees)) (sym left.2) (made_of clean left.0 (makes (stood clean).ours)))
+        | inr makes ↦ inr (subst (Makes change (content_of old.committed.trees)) (sym left.2)
+            (made_of clean left.0 (makes (stood clean).ours)))
       ]
 
   -- the change is committed
@@ -66,7 +68,12 @@ module _ (change : Change) (old new : State) (failures : ℕ) (was_shut : Bool) 
       → IsFit new now_shut × Commits change None (standing_at old failures was_shut) (standing_at new failures now_shut)
   commit_made done now_shut same_shut =
       let committed : HasCleanDisk new → IsCommitted change old new = λ clean. done clean (stood clean).ours in
-      let now_fit : IsFit new now_shut = record { mode = mode; stands = λ clean _. record { is_open = (committed clean).is_open; ours = (committed clean).ours; same = (committed clean).same } } in (
+      let now_fit : IsFit new now_shut =
+      record {
+        mode = mode;
+        stands =
+            λ clean _. record { is_open = (committed clean).is_open; ours = (committed clean).ours; same = (committed clean).same };
+      } in (
         now_fit,
         record {
           goes = record {
@@ -78,7 +85,9 @@ module _ (change : Change) (old new : State) (failures : ℕ) (was_shut : Bool) 
             failed = λ is. absurd (let e = is in cc);
             settled = settled_at new failures now_shut settles_new now_fit;
           };
-          made = λ clean _. subst (λ d. Makes change (content_of old.committed.trees) (content_of d.trees)) (committed clean).same (made_of clean new.now.trees (committed clean).makes);
+          made =
+              λ clean _. subst (λ d. Makes change (content_of old.committed.trees) (content_of d.trees)) (committed clean).same
+              (made_of clean new.now.trees (committed clean).makes);
           unchanged = λ _ _ it is. absurd (let e = is in cc);
           left = λ clean _. left_before clean;
           never_bad = λ is. absurd (let e = is in cc);
@@ -141,12 +150,15 @@ module _ (change : Change) (old new : State) (failures : ℕ) (was_shut : Bool) 
 -- A commit that was refused, before it, after it, and once that was told.
 module _ {S : Type 0} (g : Ghosts S) (change : Change) (before after now : Session S) (told : StoreFault)
     (same_failures : after.failures ≡ before.failures) (same_shut : after.is_shut ≡ before.is_shut)
-    (was_open : before.is_shut ≡ false) (fit : IsFit (state g before.connection) before.is_shut) (settles : (h : Held S) → Settles (state g h))
+    (was_open : before.is_shut ≡ false) (fit : IsFit (state g before.connection) before.is_shut)
+    (settles : (h : Held S) → Settles (state g h))
     (mode : (state g after.connection).in_transaction ≡ false)
     (undone : HasCleanDisk (state g after.connection) → IsTrue (state g after.connection).is_open
-    → ((state g after.connection).now ≡ (state g before.connection).committed) × ((state g after.connection).committed ≡ (state g before.connection).committed))
+    → ((state g after.connection).now ≡ (state g before.connection).committed)
+    × ((state g after.connection).committed ≡ (state g before.connection).committed))
     (survives : Survives (state g before.connection) (state g after.connection)
-    (λ trees. IsOurs (state g before.connection).now → ours.Makes (with_change change) (kept_in (state g before.connection).now.trees) (kept_in trees)))
+    (λ trees. IsOurs (state g before.connection).now
+    → ours.Makes (with_change change) (kept_in (state g before.connection).now.trees) (kept_in trees)))
     (told_mode : (state g after.connection).in_transaction ≡ false → (state g now.connection).in_transaction ≡ false)
     (told_survives : Survives (state g after.connection) (state g now.connection) (λ _. ⊥))
     (refusal : IsRefusal g after now told) where
@@ -166,7 +178,8 @@ module _ {S : Type 0} (g : Ghosts S) (change : Change) (before after now : Sessi
   both = survives_then old mid new CouldMake (λ _. ⊥) CouldMake (λ _ db makes. makes) (λ _ db none. absurd none) survives told_survives
 
   abbrev Left : StoreFault → ℕ → Bool → Type 0
-  Left it failures is_shut = IsFit new is_shut × Commits change (Some it) (standing_at old before.failures before.is_shut) (standing_at new failures is_shut)
+  Left it failures is_shut =
+      IsFit new is_shut × Commits change (Some it) (standing_at old before.failures before.is_shut) (standing_at new failures is_shut)
 
   went_back : HasCleanDisk new → IsUnchanged mid new → (new.now ≡ old.committed) × (new.committed ≡ old.committed) × IsTrue new.is_open
   went_back clean same =
@@ -178,10 +191,12 @@ module _ {S : Type 0} (g : Ghosts S) (change : Change) (before after now : Sessi
     | inl h ↦
         subst (λ t. Left t now.failures now.is_shut) (sym h.0)
         (subst (λ n. Left NoMemory n now.is_shut) (sym (h.1.failures_are ∙ same_failures))
-        (commit_refused change old new before.failures before.is_shut was_open fit (settles before.connection) (settles now.connection) (told_mode mode) both
+        (commit_refused change old new before.failures before.is_shut was_open fit (settles before.connection)
+        (settles now.connection) (told_mode mode) both
         (λ clean. went_back clean (h.1.unchanged clean)) now.is_shut (h.1.shut_is ∙ same_shut)))
     | inr h ↦
         subst (λ t. Left t now.failures now.is_shut) (sym h.0)
-        (commit_failed change old new before.failures before.is_shut was_open fit (settles before.connection) (settles now.connection) (told_mode mode) both now.failures now.is_shut h.1.shut
+        (commit_failed change old new before.failures before.is_shut was_open fit (settles before.connection)
+        (settles now.connection) (told_mode mode) both now.failures now.is_shut h.1.shut
         (subst (λ n. HasRisen n now.failures) same_failures h.1.risen))
   ]

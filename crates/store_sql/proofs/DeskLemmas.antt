@@ -40,7 +40,8 @@ alone_told rows n counted db compiled is h =
     let read = subst (λ k. Reads k db [] rows) (sym (ap command_of is) ∙ find_is) h in
     let shown = plain_program desk_tree [] (col 1 2 ∷ col 1 3 ∷ []) db.trees [] rows read.answer in
     let many : n ≡ length (db.trees desk_tree) =
-    counted ∙ length_permutation _ rows shown ∙ length-map _ (shows (col 1 2 ∷ col 1 3 ∷ []) []) ∙ ap length (filter_all (db.trees desk_tree)) in (
+    counted ∙ length_permutation _ rows shown ∙ length-map _ (shows (col 1 2 ∷ col 1 3 ∷ []) [])
+    ∙ ap length (filter_all (db.trees desk_tree)) in (
       λ told. one_from_length (db.trees desk_tree) (sym many ∙ (Decides-eqb n 1).0 told),
       λ one. (Decides-eqb n 1).1 (many ∙ ap length one.1),
     )
@@ -53,7 +54,10 @@ desk_told own db fit h = elim h.is [
         λ told. record { row = one.0; is = one.1; numbered = both.1.0 told one.0 (subst (λ l. Has l one.0) (sym one.1) (inl refl)) },
         λ numbered. both.1.1 (λ row has. only numbered.row row numbered.numbered (subst (λ l. Has l row) numbered.is has)),
       )
-  | inr stopped ↦ (λ told. absurd (true≢false (sym told ∙ stopped.1)), λ numbered. absurd (true≢false (sym (stopped.0.1 (numbered.row, numbered.is)))))
+  | inr stopped ↦ (
+    λ told. absurd (true≢false (sym told ∙ stopped.1)),
+    λ numbered. absurd (true≢false (sym (stopped.0.1 (numbered.row, numbered.is)))),
+  )
 ]
   where
     only : (row other : Row) → IsTrue (is_int (rowid row)) → Has (row ∷ []) other → IsTrue (is_int (rowid other))

@@ -26,7 +26,8 @@ module _ (next : Text → ℕ) where
   stays_gone : (panels : List Text) (row : Text → Rows) (p : Text) (n : ℕ) → row p n ≡ None → after panels row p n ≡ None
   stays_gone [] row p n none = none
   stays_gone (q ∷ panels) row p n none =
-      stays_gone panels (without_rows (early_rows next q) row) p n (ap (cond (bytes_eq q p && nat_lt n (next q - 1_000)) None) none ∙ both_same (bytes_eq q p && nat_lt n (next q - 1_000)) None)
+      stays_gone panels (without_rows (early_rows next q) row) p n
+      (ap (cond (bytes_eq q p && nat_lt n (next q - 1_000)) None) none ∙ both_same (bytes_eq q p && nat_lt n (next q - 1_000)) None)
 
   late_step : (q p : Text) (n : ℕ) (kept : Option CommandRow) → nat_lt n (next p - 1_000) ≡ false
       → cond (bytes_eq q p && nat_lt n (next q - 1_000)) None kept ≡ kept
@@ -39,7 +40,8 @@ module _ (next : Text → ℕ) where
   ]
 
   -- a row that is not early stays
-  late_stays : (panels : List Text) (row : Text → Rows) (p : Text) (n : ℕ) → nat_lt n (next p - 1_000) ≡ false → after panels row p n ≡ row p n
+  late_stays : (panels : List Text) (row : Text → Rows) (p : Text) (n : ℕ) → nat_lt n (next p - 1_000) ≡ false
+      → after panels row p n ≡ row p n
   late_stays [] row p n late = refl
   late_stays (q ∷ panels) row p n late = late_stays panels (without_rows (early_rows next q) row) p n late ∙ late_step q p n (row p n) late
 
@@ -56,7 +58,8 @@ module _ (next : Text → ℕ) where
   early_goes [] row p n (k, below, at) early = absurd (omega (arith, below))
   early_goes (q ∷ panels) row p n (zero, below, at) early =
       stays_gone panels (without_rows (early_rows next q) row) p n (early_step q p n (row p n) at early)
-  early_goes (q ∷ panels) row p n (suc k, below, at) early = early_goes panels (without_rows (early_rows next q) row) p n (k, omega (arith, below), at) early
+  early_goes (q ∷ panels) row p n (suc k, below, at) early =
+      early_goes panels (without_rows (early_rows next q) row) p n (k, omega (arith, below), at) early
 
 -- each panel with an early row is of the list
 module _ (tables : Tables) (panels : List Text) (are : AreTexts (HasPanel tables) panels) where
@@ -79,8 +82,10 @@ module _ (tables : Tables) (panels : List Text) (are : AreTexts (HasPanel tables
   unfolding with_change
   drops_early change nexts rows dropped places shown imported last = record {
     makes =
-        let rows_are : with_each without_rows change.dropped.items (with_each with_row change.rows.items tables.row) ≡ (without_early_rows tables).row =
-        ap (λ l. with_each without_rows change.dropped.items (with_each with_row l tables.row)) rows ∙ ap (λ l. with_each without_rows l tables.row) dropped ∙ (λ i. λ p n. row_after p n i) in
+        let rows_are : with_each without_rows change.dropped.items (with_each with_row change.rows.items tables.row)
+        ≡ (without_early_rows tables).row =
+        ap (λ l. with_each without_rows change.dropped.items (with_each with_row l tables.row)) rows
+        ∙ ap (λ l. with_each without_rows l tables.row) dropped ∙ (λ i. λ p n. row_after p n i) in
         λ i. record {
           places = with_each with_place (places i) tables.places;
           next = with_each with_next (nexts i) tables.next;
@@ -100,4 +105,5 @@ far_more next panels i panel dropped longer below is far put =
     let cut : drop i panels ≡ panel ∷ drop (suc i) panels = drop-cons panels i panel below ∙ ap (λ it. it ∷ drop (suc i) panels) (sym is) in
     let rest = map (early_rows next) (drop (suc i) panels) in
     rw add-one
-    (ap (λ l. l ++ rest) put ∙ append_assoc dropped (early_rows next panel ∷ []) rest ∙ sym (ap (λ l. dropped ++ map (early_rows next) l) cut) ∙ far)
+    (ap (λ l. l ++ rest) put ∙ append_assoc dropped (early_rows next panel ∷ []) rest
+    ∙ sym (ap (λ l. dropped ++ map (early_rows next) l) cut) ∙ far)

@@ -38,4 +38,7 @@ empty_cond true x is = absurd (true≢false is)
 empty_cond false x is = refl
 
 pub empty_told : {X : Type 0} (xs : List X) (n : ℕ) (b : Bool) → n ≡ length xs → b ≡ (n == 0) → IsTrue b ↔ (xs ≡ [])
-empty_told xs n b counted is = (λ told. nil_from_length xs (sym counted ∙ (Decides-eqb n 0).0 (sym is ∙ told)), λ none. is ∙ (Decides-eqb n 0).1 (counted ∙ ap length none))
+empty_told xs n b counted is = (
+  λ told. nil_from_length xs (sym counted ∙ (Decides-eqb n 0).0 (sym is ∙ told)),
+  λ none. is ∙ (Decides-eqb n 0).1 (counted ∙ ap length none),
+)

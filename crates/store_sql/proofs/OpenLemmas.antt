@@ -14,7 +14,8 @@ use Rattle.sql_rows.specs.Ours.{IsOurs}
 use Rattle.store_sql.specs.Opening.{IsFound, IsJudged, IsSettled, version_in, version_of}
 
 pub sees_unchanged : (old new : State) → IsUnchanged old new → Sees old new
-sees_unchanged old new same = record { now = same.0.now_is; committed = same.0.committed_is; is_open = same.0.is_open ∙ sym same.0.was_open }
+sees_unchanged old new same =
+    record { now = same.0.now_is; committed = same.0.committed_is; is_open = same.0.is_open ∙ sym same.0.was_open }
 
 -- a text that was not run leaves what the connection saw
 pub not_run_rests : (sql : List ℕ) (params : Row) (old new : State) (e : Error) → IsNotRun old new sql params e → Rests old new
@@ -33,7 +34,8 @@ first_cell : (kept answer : List Row) (row : Row) (one : IsOne kept)
     → Finds (λ row. true) (λ row. column row 2 ∷ column row 3 ∷ []) kept answer → Some row ≡ slice_get answer 0
     → version_in kept ≡ number_in (column row 0)
 first_cell kept answer row one found first =
-    let same : Some row ≡ Some (column one.row 2 ∷ column one.row 3 ∷ []) = first ∙ ap (λ l. slice_get l 0) (one_answer kept answer one found) in
+    let same : Some row ≡ Some (column one.row 2 ∷ column one.row 3 ∷ []) =
+    first ∙ ap (λ l. slice_get l 0) (one_answer kept answer one found) in
     let row_is : row ≡ column one.row 2 ∷ column one.row 3 ∷ [] = cc in
     ap version_in one.is ∙ ap (λ r. number_in (column r 0)) (sym row_is)
 

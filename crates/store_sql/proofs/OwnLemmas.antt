@@ -32,8 +32,10 @@ numbered_row row = and_true _ ∙ no_number (rowid row)
 pub numbered_told : (sql : List ℕ) (tree : ℕ) → command_of (understood desk_schema sql) ≡ unnumbered tree → (none : Bool) (db : Database)
     → FindsNone sql none db → IsTrue none ↔ AreNumbered (db.trees tree)
 numbered_told sql tree is none db h =
-    let told = plain_none sql tree is none db h in
-    (λ t row has. not_false (is_int (rowid row)) (sym (numbered_row row) ∙ told.0 t row has), λ numbered. told.1 (λ row has. numbered_row row ∙ ap not (numbered row has)))
+    let told = plain_none sql tree is none db h in (
+      λ t row has. not_false (is_int (rowid row)) (sym (numbered_row row) ∙ told.0 t row has),
+      λ numbered. told.1 (λ row has. numbered_row row ∙ ap not (numbered row has)),
+    )
 
 -- ---- two rows that share a number
 
@@ -62,22 +64,28 @@ row_pair different tie is a b ia ib tied = elim (cases_Bool (pair_passes (share 
 pub own_told : (first second : List ℕ) (tree : ℕ) (different : Term) (tie : Row → Row → Bool) (key : List ℕ)
     → command_of (understood desk_schema first) ≡ unnumbered tree
     → command_of (understood desk_schema second) ≡ pairing tree different → ((a b : Row) → pair_passes (different ∷ []) a b ≡ not (tie a b))
-    → (own : Bool) (db : Database) → IsTie tie key (db.trees tree) → Joins (FindsNone first) (FindsNone second) own db → IsTrue own ↔ AreOwn key (db.trees tree)
+    → (own : Bool) (db : Database) → IsTie tie key (db.trees tree) → Joins (FindsNone first) (FindsNone second) own db
+    → IsTrue own ↔ AreOwn key (db.trees tree)
 own_told first second tree different tie key first_is second_is differing own db ties_key h = (there h.is, back h.is)
   where
-    there : (FindsNone first true db × FindsNone second own db) ⊎ (FindsNone first false db × (own ≡ false)) → IsTrue own → AreOwn key (db.trees tree)
+    there : (FindsNone first true db × FindsNone second own db) ⊎ (FindsNone first false db × (own ≡ false)) → IsTrue own
+        → AreOwn key (db.trees tree)
     there (inl both) told =
         let numbered = (numbered_told first tree first_is true db both.0).0 refl in
         let apart = (pair_none second tree different second_is own db both.1).0 told in
         record {
           numbered = numbered;
-          apart = λ a b ha hb same. (ties_key a b ha hb).0 (pair_row different tie differing a b (apart a b ha hb) (numbered a ha) (numbered b hb) same);
+          apart =
+              λ a b ha hb same. (ties_key a b ha hb).0 (pair_row different tie differing a b (apart a b ha hb) (numbered a ha)
+              (numbered b hb) same);
         }
     there (inr stopped) told = absurd (true≢false (sym told ∙ stopped.1))
 
-    back : (FindsNone first true db × FindsNone second own db) ⊎ (FindsNone first false db × (own ≡ false)) → AreOwn key (db.trees tree) → IsTrue own
+    back : (FindsNone first true db × FindsNone second own db) ⊎ (FindsNone first false db × (own ≡ false))
+        → AreOwn key (db.trees tree) → IsTrue own
     back (inl both) ours = (pair_none second tree different second_is own db both.1).1
-        (λ a b ha hb. row_pair different tie differing a b (ours.numbered a ha) (ours.numbered b hb) (λ same. (ties_key a b ha hb).1 (ours.apart a b ha hb same)))
+        (λ a b ha hb. row_pair different tie differing a b (ours.numbered a ha) (ours.numbered b hb)
+        (λ same. (ties_key a b ha hb).1 (ours.apart a b ha hb same)))
     back (inr stopped) ours = absurd (true≢false (sym ((numbered_told first tree first_is false db stopped.0).1 ours.numbered)))
 
 -- ---- keys of one column and of two
@@ -111,7 +119,8 @@ rest_same : (v w : Value) (vs ws : List Value) → v ∷ vs ≡ w ∷ ws → vs 
 rest_same v w vs ws e = cc
 
 pub one_key : (rows : List Row) → AreTied 1 rows → IsTie tie_one (1 ∷ []) rows
-one_key rows tied a b ha hb = (λ is. ap (λ v. v ∷ []) (tied a b ha hb is), λ same. tied_same (column a 1) (column b 1) (first_same _ _ _ _ same))
+one_key rows tied a b ha hb =
+    (λ is. ap (λ v. v ∷ []) (tied a b ha hb is), λ same. tied_same (column a 1) (column b 1) (first_same _ _ _ _ same))
 
 pub two_key : (rows : List Row) → AreTied 1 rows → AreTied 2 rows → IsTie tie_two (1 ∷ 2 ∷ []) rows
 two_key rows one two a b ha hb = (

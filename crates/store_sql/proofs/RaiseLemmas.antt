@@ -23,7 +23,8 @@ pub raised : {A B C : Type 0} (change : Change) (a b c : State) (x : A) (y : B) 
     → Steps {A = A} (Turns (with_change change)) a b (Ok x) → Steps {A = B} SetsVersion b c (Ok y)
     → Steps {A = C} (Raises change) a c (Ok z)
 raised {A} {B} {C} change a b c x y z one two =
-    let last : Steps {A = C} SetsVersion b c (Ok z) = record { done = λ clean at. two.done clean at; kept = two.kept; survives = two.survives } in
+    let last : Steps {A = C} SetsVersion b c (Ok z) =
+    record { done = λ clean at. two.done clean at; kept = two.kept; survives = two.survives } in
     then (Turns (with_change change)) SetsVersion (Raises change) a b c x (Ok z) (λ first. first.inside)
     (λ first second. record {
       turns = record {
@@ -42,7 +43,8 @@ module _ {S : Type 0} (g : Ghosts S) (old mid new : Held S) where
   begun = state g (record old { in_transaction = true })
 
   failed : (e : Error) → KeepsCommit begun (state g mid) → FailsToCommit (state g mid) (state g new) e
-      → (IsTrue (state g new).is_open → (state g new).now ≡ (state g new).committed) → IsTrue (state g new).is_open → ShowsCommitted (state g old) (state g new)
+      → (IsTrue (state g new).is_open → (state g new).now ≡ (state g new).committed) → IsTrue (state g new).is_open
+      → ShowsCommitted (state g old) (state g new)
   failed e kept (inl fails) settled is_open =
       let back = fails.3 in
       let was = back.was_open is_open in
@@ -54,8 +56,10 @@ module _ {S : Type 0} (g : Ghosts S) (old mid new : Held S) where
       record { was_open = kept.was_open was; now = settled is_open ∙ same; committed = same }
 
   -- a commit that failed
-  pub not_committed : {A : Type 0} (told : Result A Error) → KeepsCommit begun (state g mid) → IfErr told (FailsToCommit (state g mid) (state g new))
-      → (IsTrue (state g new).is_open → (state g new).now ≡ (state g new).committed) → IsTrue (state g new).is_open → OnErr told (ShowsCommitted (state g old) (state g new))
+  pub not_committed : {A : Type 0} (told : Result A Error) → KeepsCommit begun (state g mid)
+      → IfErr told (FailsToCommit (state g mid) (state g new))
+      → (IsTrue (state g new).is_open → (state g new).now ≡ (state g new).committed) → IsTrue (state g new).is_open
+      → OnErr told (ShowsCommitted (state g old) (state g new))
   not_committed (Ok x) kept fails settled is_open = tt
   not_committed (Err e) kept fails settled is_open = failed e kept fails settled is_open
 
@@ -69,7 +73,8 @@ module _ {S : Type 0} (g : Ghosts S) (old mid new : Held S) where
       (survives_then begun (state g mid) (state g new) (λ _. ⊥) (λ trees. trees ≡ (state g mid).now.trees) P (λ _ db none. absurd none)
       (λ clean db is ours.
       let done = steps.done (clean_before (state g mid) (state g new) _ commits clean) (record { in_transaction = refl; ours = ours }) in
-      subst (λ (trees : Trees). IsChangedBy change (state g old).now.trees trees) (sym is) (record { makes = done.turns.makes; version = done.version }))
+      subst (λ (trees : Trees). IsChangedBy change (state g old).now.trees trees) (sym is)
+      (record { makes = done.turns.makes; version = done.version }))
       steps.survives commits)
 
 -- the change of the early rows, with the version, raises the tables
@@ -78,7 +83,8 @@ raised_by : (change : Change) (a b : State) (db : Trees) → IsFirst a → b.now
 raised_by change a b db first now drops changed =
     let same = now ∙ first.stands.same in
     let here : IsChangedBy change a.committed.trees db = subst (λ d. IsChangedBy change d.trees db) same changed in
-    let early : DropsEarly (tables_in (kept_in a.committed.trees)) change = subst (λ d. DropsEarly (tables_in (kept_in d.trees)) change) first.stands.same drops in
+    let early : DropsEarly (tables_in (kept_in a.committed.trees)) change =
+    subst (λ d. DropsEarly (tables_in (kept_in d.trees)) change) first.stands.same drops in
     record {
       was = first.version;
       makes = record { tables = here.makes.tables ∙ early.makes; is_sound = here.makes.is_sound };
@@ -86,11 +92,14 @@ raised_by change a b db first now drops changed =
     }
 
 -- a stop leaves what was there before, or the raised tables
-pub survives_migration : (change : Change) (a b c : State) → Survives a b (λ _. IsOurs a.now → ⊥) → (HasCleanDisk b → IsOurs a.now → Asks None a b)
-    → (HasCleanDisk b → IsOurs a.now → DropsEarly (tables_in (kept_in a.now.trees)) change) → Survives b c (λ trees. IsOurs b.now → IsChangedBy change b.now.trees trees)
+pub survives_migration : (change : Change) (a b c : State) → Survives a b (λ _. IsOurs a.now → ⊥)
+    → (HasCleanDisk b → IsOurs a.now → Asks None a b)
+    → (HasCleanDisk b → IsOurs a.now → DropsEarly (tables_in (kept_in a.now.trees)) change)
+    → Survives b c (λ trees. IsOurs b.now → IsChangedBy change b.now.trees trees)
     → Survives a c (λ trees. IsFirst a → IsRaised a.committed.trees trees)
 survives_migration change a b c one asks value two =
-    survives_then a b c (λ _. IsOurs a.now → ⊥) (λ trees. IsOurs b.now → IsChangedBy change b.now.trees trees) (λ trees. IsFirst a → IsRaised a.committed.trees trees)
+    survives_then a b c (λ _. IsOurs a.now → ⊥) (λ trees. IsOurs b.now → IsChangedBy change b.now.trees trees)
+    (λ trees. IsFirst a → IsRaised a.committed.trees trees)
     (λ _ db never first. absurd (never first.stands.ours))
     (λ clean db changed first.
     let was = clean_before b c _ two clean in

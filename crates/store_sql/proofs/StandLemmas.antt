@@ -27,7 +27,8 @@ abbrev pub Settles : State → Type 0
 Settles s = (db : Trees) → IsTrue s.is_open → s.may_leave db → db ≡ s.committed.trees
 
 pub settled_at : (s : State) (failures : ℕ) (is_shut : Bool) → Settles s → IsFit s is_shut → IsSettled (standing_at s failures is_shut)
-settled_at s failures is_shut settles fit clean unshut content left = left.2 ∙ ap content_of (settles left.0 (fit.stands clean unshut).is_open left.1)
+settled_at s failures is_shut settles fit clean unshut content left =
+    left.2 ∙ ap content_of (settles left.0 (fit.stands clean unshut).is_open left.1)
 
 -- a shut store answers S3 and is left as it is
 pub reads_shut : (s : State) (failures : ℕ) (is_shut : Bool) → is_shut ≡ true
@@ -55,13 +56,15 @@ sees_stands old new sees stands = record {
 }
 
 unchanged_sees : (old new : State) → IsUnchanged old new → Sees old new
-unchanged_sees old new same = record { now = same.0.now_is; committed = same.0.committed_is; is_open = same.0.is_open ∙ sym same.0.was_open }
+unchanged_sees old new same =
+    record { now = same.0.now_is; committed = same.0.committed_is; is_open = same.0.is_open ∙ sym same.0.was_open }
 
 sees_both : (a b c : State) → Sees a b → Sees b c → Sees a c
 sees_both a b c one two = record { now = two.now ∙ one.now; committed = two.committed ∙ one.committed; is_open = two.is_open ∙ one.is_open }
 
 -- What a read of a store that was open leaves: old before it, new after its fault was told.
-module _ (old new : State) (failures : ℕ) (was_shut : Bool) (was_open : was_shut ≡ false) (fit : IsFit old was_shut) (settles_old : Settles old) (settles_new : Settles new)
+module _ (old new : State) (failures : ℕ) (was_shut : Bool) (was_open : was_shut ≡ false) (fit : IsFit old was_shut)
+    (settles_old : Settles old) (settles_new : Settles new)
     (mode : old.in_transaction ≡ false → new.in_transaction ≡ false) (survives : Survives old new (λ _. IsOurs old.now → ⊥)) where
   ours_before : HasCleanDisk new → Stands old
   ours_before clean = fit.stands (clean_before old new survives.clean clean) was_open
@@ -77,9 +80,11 @@ module _ (old new : State) (failures : ℕ) (was_shut : Bool) (was_open : was_sh
   -- it was answered, or refused with a fault that leaves the store open
   pub goes_open : (fault : Option StoreFault) (now_shut : Bool) → now_shut ≡ was_shut → (fault ≡ Some Shut → ⊥) → (fault ≡ Some Failed → ⊥)
       → (HasCleanDisk new → Sees old new)
-      → (fault ≡ Some BadRow → HasCleanDisk new → is_sound_in (kept_in old.now.trees) ≡ false) → IsFit new now_shut × Reads fault (standing_at old failures was_shut) (standing_at new failures now_shut)
+      → (fault ≡ Some BadRow → HasCleanDisk new → is_sound_in (kept_in old.now.trees) ≡ false)
+      → IsFit new now_shut × Reads fault (standing_at old failures was_shut) (standing_at new failures now_shut)
   goes_open fault now_shut same_shut unshut unfailed sees bad =
-      let now_fit : IsFit new now_shut = record { mode = mode fit.mode; stands = λ clean _. sees_stands old new (sees clean) (ours_before clean) } in (
+      let now_fit : IsFit new now_shut =
+      record { mode = mode fit.mode; stands = λ clean _. sees_stands old new (sees clean) (ours_before clean) } in (
         now_fit,
         record {
           goes = record {
@@ -128,10 +133,13 @@ refused_sees old mid new stands rests same =
 -- What a read says, once its answer was told: before it, after the question, and now.
 module _ {S A : Type 0} (g : Ghosts S) (before after now : Session S) (asked : Result A ReadFault) (told : Result A StoreFault)
     (same_failures : after.failures ≡ before.failures) (same_shut : after.is_shut ≡ before.is_shut)
-    (was_open : before.is_shut ≡ false) (fit : IsFit (state g before.connection) before.is_shut) (settles : (h : Held S) → Settles (state g h))
+    (was_open : before.is_shut ≡ false) (fit : IsFit (state g before.connection) before.is_shut)
+    (settles : (h : Held S) → Settles (state g h))
     (asked_mode : (state g before.connection).in_transaction ≡ false → (state g after.connection).in_transaction ≡ false)
-    (asks : HasCleanDisk (state g after.connection) → IsOurs (state g before.connection).now → Asks (result_err asked) (state g before.connection) (state g after.connection))
-    (bad : HasCleanDisk (state g after.connection) → IsOurs (state g before.connection).now → asked ≡ Err read.BadRow → is_sound_in (kept_in (state g before.connection).now.trees) ≡ false)
+    (asks : HasCleanDisk (state g after.connection) → IsOurs (state g before.connection).now
+    → Asks (result_err asked) (state g before.connection) (state g after.connection))
+    (bad : HasCleanDisk (state g after.connection) → IsOurs (state g before.connection).now → asked ≡ Err read.BadRow
+    → is_sound_in (kept_in (state g before.connection).now.trees) ≡ false)
     (asked_survives : Survives (state g before.connection) (state g after.connection) (λ _. IsOurs (state g before.connection).now → ⊥))
     (told_mode : (state g after.connection).in_transaction ≡ false → (state g now.connection).in_transaction ≡ false)
     (told_survives : Survives (state g after.connection) (state g now.connection) (λ _. ⊥))
@@ -146,10 +154,13 @@ module _ {S A : Type 0} (g : Ghosts S) (before after now : Session S) (asked : R
   new = state g now.connection
 
   abbrev Left : Option StoreFault → ℕ → Bool → Type 0
-  Left it failures is_shut = IsFit new is_shut × Reads it (standing_at old before.failures before.is_shut) (standing_at new failures is_shut)
+  Left it failures is_shut =
+      IsFit new is_shut × Reads it (standing_at old before.failures before.is_shut) (standing_at new failures is_shut)
 
   both : Survives old new (λ _. IsOurs old.now → ⊥)
-  both = survives_then old mid new (λ _. IsOurs old.now → ⊥) (λ _. ⊥) (λ _. IsOurs old.now → ⊥) (λ _ db never. never) (λ _ db none. absurd none) asked_survives told_survives
+  both =
+      survives_then old mid new (λ _. IsOurs old.now → ⊥) (λ _. ⊥) (λ _. IsOurs old.now → ⊥) (λ _ db never. never)
+      (λ _ db none. absurd none) asked_survives told_survives
 
   clean_mid : HasCleanDisk new → HasCleanDisk mid
   clean_mid clean = clean_before mid new told_survives.clean clean
@@ -162,7 +173,8 @@ module _ {S A : Type 0} (g : Ghosts S) (before after now : Session S) (asked : R
       → now.failures ≡ before.failures → now.is_shut ≡ before.is_shut → Left it now.failures now.is_shut
   left_open it unshut unfailed sees unsound failures_are shut_is =
       subst (λ n. Left it n now.is_shut) (sym failures_are)
-      (goes_open old new before.failures before.is_shut was_open fit (settles before.connection) (settles now.connection) (λ m. told_mode (asked_mode m)) both it now.is_shut shut_is
+      (goes_open old new before.failures before.is_shut was_open fit (settles before.connection) (settles now.connection)
+      (λ m. told_mode (asked_mode m)) both it now.is_shut shut_is
       unshut unfailed sees unsound)
 
   -- a question that the database did not refuse leaves what it saw
@@ -181,18 +193,22 @@ module _ {S A : Type 0} (g : Ghosts S) (before after now : Session S) (asked : R
       (λ x. absurd (let y = x in cc)) (h.1.failures_are ∙ same_failures) (h.1.shut_is ∙ same_shut))
   by_refusal it (inr h) =
       subst (λ t. Left (Some t) now.failures now.is_shut) (sym h.0)
-      (goes_shut old new before.failures before.is_shut was_open fit (settles before.connection) (settles now.connection) (λ m. told_mode (asked_mode m)) both now.failures now.is_shut h.1.shut
+      (goes_shut old new before.failures before.is_shut was_open fit (settles before.connection) (settles now.connection)
+      (λ m. told_mode (asked_mode m)) both now.failures now.is_shut h.1.shut
       (subst (λ n. HasRisen n now.failures) same_failures h.1.risen))
 
-  by_answer : (answer : Result A ReadFault) → asked ≡ answer → IsTold g after now answer told → Left (result_err told) now.failures now.is_shut
+  by_answer : (answer : Result A ReadFault) → asked ≡ answer → IsTold g after now answer told
+      → Left (result_err told) now.failures now.is_shut
   by_answer (Ok value) is h =
       subst (λ t. Left (result_err t) now.failures now.is_shut) (sym h.0)
-      (left_open None (λ e. absurd (let x = e in cc)) (λ e. absurd (let x = e in cc)) (seen (Ok value) is refl h.1) (λ e. absurd (let x = e in cc))
+      (left_open None (λ e. absurd (let x = e in cc)) (λ e. absurd (let x = e in cc)) (seen (Ok value) is refl h.1)
+      (λ e. absurd (let x = e in cc))
       (ap (λ (o : Session S). o.failures) h.1 ∙ same_failures) (ap (λ (o : Session S). o.is_shut) h.1 ∙ same_shut))
   by_answer (Err read.BadRow) is h =
       subst (λ t. Left (result_err t) now.failures now.is_shut) (sym h.1)
       (subst (λ t. Left (Some t) now.failures now.is_shut) (sym h.2.0)
-      (left_open (Some BadRow) (λ e. absurd (let x = e in cc)) (λ e. absurd (let x = e in cc)) (seen (Err read.BadRow) is refl h.2.1) (λ _ clean. bad (clean_mid clean) (stood clean).ours is)
+      (left_open (Some BadRow) (λ e. absurd (let x = e in cc)) (λ e. absurd (let x = e in cc))
+      (seen (Err read.BadRow) is refl h.2.1) (λ _ clean. bad (clean_mid clean) (stood clean).ours is)
       (ap (λ (o : Session S). o.failures) h.2.1 ∙ same_failures) (ap (λ (o : Session S). o.is_shut) h.2.1 ∙ same_shut)))
   by_answer (Err (read.Sql e)) is h =
       subst (λ t. Left (result_err t) now.failures now.is_shut) (sym h.1) (by_refusal h.0 h.2)

@@ -30,71 +30,92 @@ panel_first db fit row h =
 pub panel_told : (own : Bool) (db : Database) → IsFitting db → Joins (FindsNone panel_numbered_text) (FindsNone panel_apart_text) own db
     → TellsOf panel_tree (AreOwn (1 ∷ [])) own db
 panel_told own db fit h =
-    own_told panel_numbered_text panel_apart_text panel_tree (differs 1) tie_one (1 ∷ []) panel_numbered_is panel_apart_is one_differs own db
+    own_told panel_numbered_text panel_apart_text panel_tree (differs 1) tie_one (1 ∷ []) panel_numbered_is panel_apart_is
+    one_differs own db
     (one_key (db.trees panel_tree) (texts_tied 1 (db.trees panel_tree) (panel_first db fit))) h
 
 command_first : (db : Database) → IsFitting db → (row : Row) → Has (db.trees command_tree) row → IsFilled kind.Text (column row 1)
 command_first db fit row h =
     let typed = all_has _ (db.trees command_tree) row (ruled Datatype db fit).1.1.0 h in
     let present = all_has _ (db.trees command_tree) row (ruled NotNull db fit).1.1.0 h in
-    first_filled command_table (codes "panel") kind.Text (column_of (codes "number") kind.Integer true ∷ column_of (codes "point") kind.Text true ∷ column_of (codes "priority") kind.Integer true ∷ column_of (codes "value") kind.Integer false ∷ column_of (codes "state") kind.Integer true ∷ column_of (codes "a") kind.Integer false ∷ column_of (codes "b") kind.Integer false ∷ []) refl refl db.trees row typed present
+    first_filled command_table (codes "panel") kind.Text
+    (column_of (codes "number") kind.Integer true ∷ column_of (codes "point") kind.Text true
+    ∷ column_of (codes "priority") kind.Integer true ∷ column_of (codes "value") kind.Integer false
+    ∷ column_of (codes "state") kind.Integer true ∷ column_of (codes "a") kind.Integer false
+    ∷ column_of (codes "b") kind.Integer false ∷ []) refl refl db.trees row typed present
 
 command_second : (db : Database) → IsFitting db → (row : Row) → Has (db.trees command_tree) row → IsFilled kind.Integer (column row 2)
 command_second db fit row h =
     let typed = all_has _ (db.trees command_tree) row (ruled Datatype db fit).1.1.0 h in
     let present = all_has _ (db.trees command_tree) row (ruled NotNull db fit).1.1.0 h in
-    second_filled command_table (column_of (codes "panel") kind.Text true) (codes "number") kind.Integer (column_of (codes "point") kind.Text true ∷ column_of (codes "priority") kind.Integer true ∷ column_of (codes "value") kind.Integer false ∷ column_of (codes "state") kind.Integer true ∷ column_of (codes "a") kind.Integer false ∷ column_of (codes "b") kind.Integer false ∷ []) refl refl db.trees row typed present
+    second_filled command_table (column_of (codes "panel") kind.Text true) (codes "number") kind.Integer
+    (column_of (codes "point") kind.Text true ∷ column_of (codes "priority") kind.Integer true
+    ∷ column_of (codes "value") kind.Integer false ∷ column_of (codes "state") kind.Integer true
+    ∷ column_of (codes "a") kind.Integer false ∷ column_of (codes "b") kind.Integer false ∷ []) refl refl db.trees row typed present
 
 pub command_told : (own : Bool) (db : Database) → IsFitting db
     → Joins (FindsNone command_numbered_text) (FindsNone command_apart_text) own db → TellsOf command_tree (AreOwn (1 ∷ 2 ∷ [])) own db
 command_told own db fit h =
-    own_told command_numbered_text command_apart_text command_tree (differ 1 2) tie_two (1 ∷ 2 ∷ []) command_numbered_is command_apart_is two_differ own db
-    (two_key (db.trees command_tree) (texts_tied 1 (db.trees command_tree) (command_first db fit)) (numbers_tied 2 (db.trees command_tree) (command_second db fit))) h
+    own_told command_numbered_text command_apart_text command_tree (differ 1 2) tie_two (1 ∷ 2 ∷ []) command_numbered_is
+    command_apart_is two_differ own db
+    (two_key (db.trees command_tree) (texts_tied 1 (db.trees command_tree) (command_first db fit))
+    (numbers_tied 2 (db.trees command_tree) (command_second db fit))) h
 
 place_first : (db : Database) → IsFitting db → (row : Row) → Has (db.trees place_tree) row → IsFilled kind.Text (column row 1)
 place_first db fit row h =
     let typed = all_has _ (db.trees place_tree) row (ruled Datatype db fit).1.1.1.0 h in
     let present = all_has _ (db.trees place_tree) row (ruled NotNull db fit).1.1.1.0 h in
-    first_filled place_table (codes "point") kind.Text (column_of (codes "priority") kind.Integer true ∷ column_of (codes "value") kind.Integer true ∷ []) refl refl db.trees row typed present
+    first_filled place_table (codes "point") kind.Text
+    (column_of (codes "priority") kind.Integer true ∷ column_of (codes "value") kind.Integer true ∷ []) refl refl db.trees row
+    typed present
 
 place_second : (db : Database) → IsFitting db → (row : Row) → Has (db.trees place_tree) row → IsFilled kind.Integer (column row 2)
 place_second db fit row h =
     let typed = all_has _ (db.trees place_tree) row (ruled Datatype db fit).1.1.1.0 h in
     let present = all_has _ (db.trees place_tree) row (ruled NotNull db fit).1.1.1.0 h in
-    second_filled place_table (column_of (codes "point") kind.Text true) (codes "priority") kind.Integer (column_of (codes "value") kind.Integer true ∷ []) refl refl db.trees row typed present
+    second_filled place_table (column_of (codes "point") kind.Text true) (codes "priority") kind.Integer
+    (column_of (codes "value") kind.Integer true ∷ []) refl refl db.trees row typed present
 
 pub place_told : (own : Bool) (db : Database) → IsFitting db → Joins (FindsNone place_numbered_text) (FindsNone place_apart_text) own db
     → TellsOf place_tree (AreOwn (1 ∷ 2 ∷ [])) own db
 place_told own db fit h =
-    own_told place_numbered_text place_apart_text place_tree (differ 1 2) tie_two (1 ∷ 2 ∷ []) place_numbered_is place_apart_is two_differ own db
-    (two_key (db.trees place_tree) (texts_tied 1 (db.trees place_tree) (place_first db fit)) (numbers_tied 2 (db.trees place_tree) (place_second db fit))) h
+    own_told place_numbered_text place_apart_text place_tree (differ 1 2) tie_two (1 ∷ 2 ∷ []) place_numbered_is place_apart_is
+    two_differ own db
+    (two_key (db.trees place_tree) (texts_tied 1 (db.trees place_tree) (place_first db fit))
+    (numbers_tied 2 (db.trees place_tree) (place_second db fit))) h
 
 shown_first : (db : Database) → IsFitting db → (row : Row) → Has (db.trees shown_tree) row → IsFilled kind.Text (column row 1)
 shown_first db fit row h =
     let typed = all_has _ (db.trees shown_tree) row (ruled Datatype db fit).1.1.1.1.0 h in
     let present = all_has _ (db.trees shown_tree) row (ruled NotNull db fit).1.1.1.1.0 h in
-    first_filled shown_table (codes "schedule") kind.Text (column_of (codes "value") kind.Integer false ∷ []) refl refl db.trees row typed present
+    first_filled shown_table (codes "schedule") kind.Text (column_of (codes "value") kind.Integer false ∷ []) refl refl db.trees row
+    typed present
 
 pub shown_told : (own : Bool) (db : Database) → IsFitting db → Joins (FindsNone shown_numbered_text) (FindsNone shown_apart_text) own db
     → TellsOf shown_tree (AreOwn (1 ∷ [])) own db
 shown_told own db fit h =
-    own_told shown_numbered_text shown_apart_text shown_tree (differs 1) tie_one (1 ∷ []) shown_numbered_is shown_apart_is one_differs own db
+    own_told shown_numbered_text shown_apart_text shown_tree (differs 1) tie_one (1 ∷ []) shown_numbered_is shown_apart_is
+    one_differs own db
     (one_key (db.trees shown_tree) (texts_tied 1 (db.trees shown_tree) (shown_first db fit))) h
 
 imported_first : (db : Database) → IsFitting db → (row : Row) → Has (db.trees imported_tree) row → IsFilled kind.Text (column row 1)
 imported_first db fit row h =
     let typed = all_has _ (db.trees imported_tree) row (ruled Datatype db fit).1.1.1.1.1.0 h in
     let present = all_has _ (db.trees imported_tree) row (ruled NotNull db fit).1.1.1.1.1.0 h in
-    first_filled imported_table (codes "calendar") kind.Text (column_of (codes "entry") kind.Text true ∷ []) refl refl db.trees row typed present
+    first_filled imported_table (codes "calendar") kind.Text (column_of (codes "entry") kind.Text true ∷ []) refl refl db.trees row
+    typed present
 
 imported_second : (db : Database) → IsFitting db → (row : Row) → Has (db.trees imported_tree) row → IsFilled kind.Text (column row 2)
 imported_second db fit row h =
     let typed = all_has _ (db.trees imported_tree) row (ruled Datatype db fit).1.1.1.1.1.0 h in
     let present = all_has _ (db.trees imported_tree) row (ruled NotNull db fit).1.1.1.1.1.0 h in
-    second_filled imported_table (column_of (codes "calendar") kind.Text true) (codes "entry") kind.Text ([]) refl refl db.trees row typed present
+    second_filled imported_table (column_of (codes "calendar") kind.Text true) (codes "entry") kind.Text ([]) refl refl db.trees row
+    typed present
 
 pub imported_told : (own : Bool) (db : Database) → IsFitting db
     → Joins (FindsNone imported_numbered_text) (FindsNone imported_apart_text) own db → TellsOf imported_tree (AreOwn (1 ∷ 2 ∷ [])) own db
 imported_told own db fit h =
-    own_told imported_numbered_text imported_apart_text imported_tree (differ 1 2) tie_two (1 ∷ 2 ∷ []) imported_numbered_is imported_apart_is two_differ own db
-    (two_key (db.trees imported_tree) (texts_tied 1 (db.trees imported_tree) (imported_first db fit)) (texts_tied 2 (db.trees imported_tree) (imported_second db fit))) h
+    own_told imported_numbered_text imported_apart_text imported_tree (differ 1 2) tie_two (1 ∷ 2 ∷ []) imported_numbered_is
+    imported_apart_is two_differ own db
+    (two_key (db.trees imported_tree) (texts_tied 1 (db.trees imported_tree) (imported_first db fit))
+    (texts_tied 2 (db.trees imported_tree) (imported_second db fit))) h

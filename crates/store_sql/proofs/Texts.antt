@@ -52,7 +52,8 @@ unfolding understood everything
 command_numbered_askable = record { plain = (refl, refl); unlisted = refl }
 
 abbrev pub command_apart_text : List ℕ
-command_apart_text = codes "SELECT 1 FROM command a, command b WHERE a.rowid = b.rowid AND (a.panel IS NOT b.panel OR a.number IS NOT b.number)"
+command_apart_text =
+    codes "SELECT 1 FROM command a, command b WHERE a.rowid = b.rowid AND (a.panel IS NOT b.panel OR a.number IS NOT b.number)"
 
 pub command_apart_is : command_of (understood desk_schema command_apart_text) ≡ pairing command_tree (differ 1 2)
 unfolding understood everything
@@ -74,7 +75,8 @@ unfolding understood everything
 place_numbered_askable = record { plain = (refl, refl); unlisted = refl }
 
 abbrev pub place_apart_text : List ℕ
-place_apart_text = codes "SELECT 1 FROM place a, place b WHERE a.rowid = b.rowid AND (a.point IS NOT b.point OR a.priority IS NOT b.priority)"
+place_apart_text =
+    codes "SELECT 1 FROM place a, place b WHERE a.rowid = b.rowid AND (a.point IS NOT b.point OR a.priority IS NOT b.priority)"
 
 pub place_apart_is : command_of (understood desk_schema place_apart_text) ≡ pairing place_tree (differ 1 2)
 unfolding understood everything
@@ -118,7 +120,8 @@ unfolding understood everything
 imported_numbered_askable = record { plain = (refl, refl); unlisted = refl }
 
 abbrev pub imported_apart_text : List ℕ
-imported_apart_text = codes "SELECT 1 FROM imported a, imported b WHERE a.rowid = b.rowid AND (a.calendar IS NOT b.calendar OR a.entry IS NOT b.entry)"
+imported_apart_text =
+    codes "SELECT 1 FROM imported a, imported b WHERE a.rowid = b.rowid AND (a.calendar IS NOT b.calendar OR a.entry IS NOT b.entry)"
 
 pub imported_apart_is : command_of (understood desk_schema imported_apart_text) ≡ pairing imported_tree (differ 1 2)
 unfolding understood everything

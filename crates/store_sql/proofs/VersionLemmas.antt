@@ -62,7 +62,9 @@ taken_out row answer int same = rw (same, has_own_id row int) refl
 
 one_shown : (project : List Term) (params : Row) (rows answer : List Row) (row : Row) → rows ≡ row ∷ []
     → IsPermutation (map (shows project params) (filter (passes [] params) rows)) answer → answer ≡ shows project params row ∷ []
-one_shown project params rows answer row is same = one_permutation (shows project params row) answer (subst (λ l. IsPermutation (map (shows project params) (filter (passes [] params) l)) answer) is same)
+one_shown project params rows answer row is same =
+    one_permutation (shows project params row) answer
+    (subst (λ l. IsPermutation (map (shows project params) (filter (passes [] params) l)) answer) is same)
 
 pub sets_version : (old new : State) (result : Result ℕ Error) → IsInside old → ExecutesInside 0 set_version_text [] old new result
     → OnOk result (SetsVersion old new)
@@ -72,15 +74,19 @@ sets_version old new (Ok count) inside h =
     let was = desk.row in
     let db = old.now.trees in
     let shown = shows version_set [] was in
-    let gave = updates set_version_text 0 desk_table refl set_version_plain desk_tree [] version_set set_version_is old new [] count inside.ours.schema_is h.0 in
+    let gave =
+    updates set_version_text 0 desk_table refl set_version_plain desk_tree [] version_set set_version_is old new [] count
+    inside.ours.schema_is h.0 in
     let one = one_shown version_set [] (db desk_tree) gave.0 was desk.is gave.1 in
     let ran = subst (λ l. Ran old new (edit_of db desk_table (ids_of l) Given 1 l)) one gave.2 in
     let own = int_is (rowid was) desk.numbered in
     let last = last_kept old.now inside.ours was desk.is in
     let row : Row = rowid was ∷ Null ∷ Int (pos 2) ∷ column was 3 ∷ [] in
     let made : cast_row desk_table (drop 1 shown) ≡ row = rw (last, cast_null, cast_int (pos 2), own, cast_int (id_in (rowid was))) refl in
-    let left : without_all (db desk_tree) (ids_of (shown ∷ [])) ≡ [] = ap (λ l. without_all l (ids_of (shown ∷ []))) desk.is ∙ taken_out was shown desk.numbered refl in
-    let now : new.now.trees desk_tree ≡ row ∷ [] = ran.applies.rows ∙ ap (λ l. put_all l (numbered Given l (cast_row desk_table (drop 1 shown) ∷ []))) left
+    let left : without_all (db desk_tree) (ids_of (shown ∷ [])) ≡ [] =
+    ap (λ l. without_all l (ids_of (shown ∷ []))) desk.is ∙ taken_out was shown desk.numbered refl in
+    let now : new.now.trees desk_tree ≡ row ∷ [] =
+    ran.applies.rows ∙ ap (λ l. put_all l (numbered Given l (cast_row desk_table (drop 1 shown) ∷ []))) left
     ∙ ap (put_all []) (numbered_given [] (cast_row desk_table (drop 1 shown) ∷ [])) ∙ ap (λ r. put_all [] (r ∷ [])) made in
     let tables = ran.applies.tables in
     let others : kept_in new.now.trees ≡ record (kept_in db) { desk = row ∷ [] } = λ i. record {
@@ -93,13 +99,24 @@ sets_version old new (Ok count) inside h =
     } in
     let ours = inside.ours.rows in
     let stand : AreOurs (record (kept_in db) { desk = row ∷ [] }) =
-    record { desk = record { row = row; is = refl; numbered = desk.numbered }; panel = ours.panel; command = ours.command; place = ours.place; shown = ours.shown; imported = ours.imported } in
+    record {
+      desk = record { row = row; is = refl; numbered = desk.numbered };
+      panel = ours.panel;
+      command = ours.command;
+      place = ours.place;
+      shown = ours.shown;
+      imported = ours.imported;
+    } in
     let same = set_version was row (kept_in db) desk.is refl in
     let makes : Makes (λ t. t) (kept_in db) (kept_in new.now.trees) =
     subst (Makes (λ t. t) (kept_in db)) (sym others) (record { tables = same.0; is_sound = same.1 }) in
     record {
       turns = record {
-        inside = record { in_transaction = h.1.mode; ours = record { schema_is = ran.schema; sound = ran.sound; rows = subst AreOurs (sym others) stand } };
+        inside =
+            record {
+              in_transaction = h.1.mode;
+              ours = record { schema_is = ran.schema; sound = ran.sound; rows = subst AreOurs (sym others) stand };
+            };
         makes = makes;
       };
       version = ap version_in now;

@@ -85,7 +85,8 @@ pub record IsFound (told : ℤ) (old new : State) : Type 0 where
 
 -- the tables without the rows of each panel that are more than 1,000 below its next number
 abbrev pub without_early_rows : Tables → Tables
-without_early_rows tables = record tables { row = λ panel number. if nat_lt (number + 1_000) (tables.next panel) then None else tables.row panel number }
+without_early_rows tables =
+    record tables { row = λ panel number. if nat_lt (number + 1_000) (tables.next panel) then None else tables.row panel number }
 
 -- tables of the first version are those of the second, without their early rows
 pub record IsRaised (old new : Trees) : Type 0 where

@@ -20,9 +20,11 @@ content_in-and_at-same number (Some content) rest none = let same : (number == n
 content_in-and_at-apart : (from number : ℕ) (content : Option Content) (rest : List NumberedContent) → from ≢ number
     → content_in (and_at from content rest) number ≡ content_in rest number
 content_in-and_at-apart from number None rest apart = refl
-content_in-and_at-apart from number (Some content) rest apart = let other : (from == number) ≡ false = grind (arith, nat_tests) in rw other refl
+content_in-and_at-apart from number (Some content) rest apart =
+    let other : (from == number) ≡ false = grind (arith, nat_tests) in rw other refl
 
-content_in-contents_from-below : (count : ℕ) (t : Taken) (from number : ℕ) → number < from → content_in (contents_from count t from) number ≡ None
+content_in-contents_from-below : (count : ℕ) (t : Taken) (from number : ℕ) → number < from
+    → content_in (contents_from count t from) number ≡ None
 content_in-contents_from-below zero t from number below = refl
 content_in-contents_from-below (suc count) t from number below =
     let apart : from ≢ number = omega arith in

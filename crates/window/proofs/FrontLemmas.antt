@@ -142,7 +142,8 @@ front-grows old new grows =
       | inl below ↦
           let at_new = IsFront-front new in
           let from : old.upto ≤ front new = omega (arith, grows.upto, at_new.given_up) in
-          absurd (both_ways (is_key new (front new)) at_new.missing (grows.keys (front new) ((IsFront-front old).least (front new) from below)))
+          absurd (both_ways (is_key new (front new)) at_new.missing
+          (grows.keys (front new) ((IsFront-front old).least (front new) from below)))
       | inr h ↦ h
     ]
 

@@ -147,7 +147,8 @@ front-skip t u rows run keeps above is =
     front-is (with_skip t u) is.end (record {
       given_up = omega arith;
       missing = sym (is_some-rows rows t is.end (Keeps-from_front rows t is.end keeps (omega arith))) ∙ ap is_some is.gap;
-      least = λ n from below. sym (is_some-rows rows t n (Keeps-from_front rows t n keeps (omega arith))) ∙ is.unbroken n (omega arith) below;
+      least =
+          λ n from below. sym (is_some-rows rows t n (Keeps-from_front rows t n keeps (omega arith))) ∙ is.unbroken n (omega arith) below;
     })
 
 -- what was accepted under a number stays under it
@@ -161,7 +162,8 @@ unfolding applied
 applied-skip t u rows run keeps above is =
     ap (λ end. contents_from (end - front t) (with_skip t u) (front t)) (front-skip t u rows run keeps above is)
     ∙ (contents_from-skip (is.end - front t) t u (front t)
-    ∙ sym (ap contents_of is.is_between ∙ contents_of-rows_from (is.end - front t) rows t (front t) (λ n from. Keeps-from_front rows t n keeps from)))
+    ∙ sym (ap contents_of is.is_between
+    ∙ contents_of-rows_from (is.end - front t) rows t (front t) (λ n from. Keeps-from_front rows t n keeps from)))
 
 -- a number past the front leaves the front
 pub front-parked : (t : Taken) (n : ℕ) (content : Content) → front t < n → front (with_command t n content) ≡ front t
@@ -183,7 +185,8 @@ applied-same_front old new same = none_from (front new - front old) new (front o
 
 -- plans
 
-parked_when : (accepted past : Bool) (entry : NumberedContent) → (accepted && past) ≡ false → cond (accepted && past) (Some entry) None ≡ None
+parked_when : (accepted past : Bool) (entry : NumberedContent) → (accepted && past) ≡ false
+    → cond (accepted && past) (Some entry) None ≡ None
 parked_when accepted past entry not_both = rw not_both refl
 
 and_false : (accepted past : Bool) → accepted ≡ false → (accepted && past) ≡ false
@@ -193,10 +196,16 @@ not_past : (accepted : Bool) (f n : ℕ) → n ≤ f → (accepted && nat_lt f n
 not_past true f n low = grind (arith, nat_tests)
 not_past false f n low = refl
 
-pub Plans-applies : (t : Taken) (n : ℕ) (content : Content) (asked : Option CommandRow) (rows : Rows) (run : List NumberedRow) (verdict : Verdict)
+pub Plans-applies : (t : Taken) (n : ℕ) (content : Content) (asked : Option CommandRow) (rows : Rows) (run : List NumberedRow)
+    (verdict : Verdict)
     → Keeps rows t → n ≡ front t → IsRun rows (front t + 1) (front t + 1) run → verdict ≡ verdict_of t (Command n content) asked
     → Plans t (Command n content) asked
-    (record { next = end_of (n + 1) run; apply = (record { number = n; content = content } ∷ []) ++ contents_of run; park = None; verdict = verdict })
+    (record {
+      next = end_of (n + 1) run;
+      apply = (record { number = n; content = content } ∷ []) ++ contents_of run;
+      park = None;
+      verdict = verdict;
+    })
 Plans-applies t n content asked rows run verdict keeps same is said =
     let grown = ap (λ m. take t (Command m content)) same ∙ take-accepted t (front t) content (accepts-front t) in
     record {
@@ -254,7 +263,8 @@ Plans-skips t u asked rows run keeps above within is =
       verdict = skip_done t u asked within;
     }
 
-Plans-same : (t : Taken) (u : ℕ) (asked : Option CommandRow) (verdict : Verdict) → accepts_skip t u ≡ false → verdict ≡ verdict_of t (Skip u) asked
+Plans-same : (t : Taken) (u : ℕ) (asked : Option CommandRow) (verdict : Verdict) → accepts_skip t u ≡ false
+    → verdict ≡ verdict_of t (Skip u) asked
     → Plans t (Skip u) asked (record { next = front t; apply = []; park = None; verdict = verdict })
 Plans-same t u asked verdict refused said =
     let same = take-skip_refused t u refused in

@@ -6,7 +6,8 @@ use Rattle.body_reading.proofs.body_bytes.fill.Given as goal
 abbrev pub invariant-loop-filled : goal.invariant-loop-filled
 invariant-loop-filled g l = (length l.body ≡ length l.initial.body)
     × (l.filled ≤ length l.body)
-    × Stands (take l.start l.initial.body) (g.R.Read.remaining l.initial.reader.inner) (g.R.Read.remaining l.reader.inner) (take l.filled l.body)
+    × Stands (take l.start l.initial.body) (g.R.Read.remaining l.initial.reader.inner) (g.R.Read.remaining l.reader.inner)
+    (take l.filled l.body)
     × (l.reader.failures ≡ l.initial.reader.failures)
 
 abbrev pub decreases-loop-filled : goal.decreases-loop-filled

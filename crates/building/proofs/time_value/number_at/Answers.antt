@@ -4,5 +4,7 @@ use Rattle.building.proofs.time_value.number_at.Goals as goal
 
 pub returns-then-is_number : goal.returns-then-is_number
 returns-then-is_number c = record {
-  value = c.ok.ensures.value ∙ number_read c.args.text.now c.parse.result (sym c.is_number.ensures ∙ c.if-is_number.true) c.parse.ensures.value.0;
+  value =
+      c.ok.ensures.value ∙ number_read c.args.text.now c.parse.result (sym c.is_number.ensures ∙ c.if-is_number.true)
+      c.parse.ensures.value.0;
 }

@@ -24,6 +24,7 @@ loop-row-preserved g c =
           let rest = drop_more c.args.rows.now c.loop-row.row-index c.row-item.result within in
           let next : drop c.loop-row.row-index c.args.rows.now ≡ c.row-item.result ∷ drop (c.loop-row.row-index + 1) c.args.rows.now =
           rest ∙ ap (λ (first : CalendarEntry). first ∷ drop (c.loop-row.row-index + 1) c.args.rows.now) (sym c.row-item.is) in
-          added-more c.args.building.now imported c.args.rows.now c.loop-row.row-index c.row-item.result c.loop-row.items.items c.add_row.new.items.items
+          added-more c.args.building.now imported c.args.rows.now c.loop-row.row-index c.row-item.result c.loop-row.items.items
+          c.add_row.new.items.items
           _ next (adds.adds honest imported here) (so_far.added before imported tells);
     }

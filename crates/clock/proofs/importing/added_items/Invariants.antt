@@ -12,5 +12,6 @@ invariant-loop-row g l =
     record {
       reads : Reads None first (g.S.Store.standing l.store);
       added : (g.S.Store.standing l.store).is_honest → (imported : Text → List Text) → Tells first.content.tables.imported imported
-          → l.items.items ++ added l.building (with_items imported l.items.items) (drop l.row-index l.rows) ≡ added l.building imported l.rows;
+          → l.items.items ++ added l.building (with_items imported l.items.items) (drop l.row-index l.rows)
+          ≡ added l.building imported l.rows;
     }

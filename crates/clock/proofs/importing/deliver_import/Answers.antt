@@ -14,4 +14,5 @@ returns-in-Some-clause-delivers g c = λ earlier honest held.
     let second = g.S.Store.standing c.last_tick.new.self in
     let refused = sym c.refused_record.ensures ∙ c.in-Some.is in
     Delivers-read_only b earlier (Import rows) (ImportRefused c.in-Some.record) first second c.in_ok-last.ensures.reads honest held
-    (sym (reply-refused b earlier rows c.in-Some.record refused)) (tables-refused b earlier rows (not_all-known b rows c.in-Some.record refused))
+    (sym (reply-refused b earlier rows c.in-Some.record refused))
+    (tables-refused b earlier rows (not_all-known b rows c.in-Some.record refused))

@@ -33,7 +33,8 @@ returns-in-Ok-clause-delivers g c = λ earlier none last_is honest held.
     let raw = c.in_ok-change.ensures.settles changed imported here in
     subst (λ local. Settles b (with_items imported items) first.content.tables.shown local items None change)
     (c.local_of-local.ensures ∙ ap (local_of b) last)
-    (subst (λ (content : Content). Settles b (with_items imported items) content.tables.shown c.local_of-local.result items None change) kept raw) in
+    (subst (λ (content : Content). Settles b (with_items imported items) content.tables.shown c.local_of-local.result items None
+    change) kept raw) in
     let count : c.len.result ≡ length change.places.items = search rules in
     let new : c.len-added.result ≡ length items = search rules in
     let known : c.saturating_sub.result ≡ length rows - length items = search rules in
@@ -64,6 +65,7 @@ returns-clause-delivers g c = λ earlier none last_is honest held.
     let raw = c.in_ok-change.ensures.settles changed imported here in
     subst (λ local. Settles b (with_items imported items) first.content.tables.shown local items None change)
     (c.local_of-local.ensures ∙ ap (local_of b) last)
-    (subst (λ (content : Content). Settles b (with_items imported items) content.tables.shown c.local_of-local.result items None change) kept raw) in
+    (subst (λ (content : Content). Settles b (with_items imported items) content.tables.shown c.local_of-local.result items None
+    change) kept raw) in
     Delivers-not_made b earlier (Import rows) change first second third reads honest held
     (imported-tables b earlier first held rows none items items_are change settles) c.in-Err.fault commits

@@ -20,7 +20,8 @@ returns-in-Ok-clause-delivers g c = λ earlier is_at later honest held.
     let whole : to_z w64 (of_z w64 moment) ≡ moment = search rules in
     let settles : Settled-over b first [] (Some local) (Some moment) change = λ imported tells.
     subst (λ z. Settles b (with_items imported []) first.content.tables.shown (Some local) [] (Some z) change) whole
-    (subst (λ items. Settles b (with_items imported items) first.content.tables.shown (Some local) items (Some (to_z w64 (of_z w64 moment))) change)
+    (subst (λ items. Settles b (with_items imported items) first.content.tables.shown (Some local) items
+    (Some (to_z w64 (of_z w64 moment))) change)
     c.new-nothing.ensures.items (c.in_ok-change.ensures.settles (commits.goes.honest honest) imported tells)) in
     let count : c.len.result ≡ length change.places.items = search rules in
     Delivers-made b earlier (Tick moment) change first second third c.in_ok-change.ensures.reads honest held
@@ -40,7 +41,8 @@ returns-clause-delivers g c = λ earlier is_at later honest held.
     let whole : to_z w64 (of_z w64 moment) ≡ moment = search rules in
     let settles : Settled-over b first [] (Some local) (Some moment) change = λ imported tells.
     subst (λ z. Settles b (with_items imported []) first.content.tables.shown (Some local) [] (Some z) change) whole
-    (subst (λ items. Settles b (with_items imported items) first.content.tables.shown (Some local) items (Some (to_z w64 (of_z w64 moment))) change)
+    (subst (λ items. Settles b (with_items imported items) first.content.tables.shown (Some local) items
+    (Some (to_z w64 (of_z w64 moment))) change)
     c.new-nothing.ensures.items (c.in_ok-change.ensures.settles (commits.goes.honest honest) imported tells)) in
     Delivers-not_made b earlier (Tick moment) change first second third c.in_ok-change.ensures.reads honest held
     (ticked-tables b earlier first held moment local change is_at later settles) c.in-Err.fault commits

@@ -14,6 +14,7 @@ returns c =
     let fits : FitsSigned w32 c.from.result = omega (arith, signed_arith, c.from.type_inv) in
     let exists = rw c.from.ensures at (simp to_z-of_z at c.new.ensures.exists) in
     let value = rw c.from.ensures at (simp to_z-of_z at c.new.ensures.value) in
-    let is = rw c.number-year.ensures.value at (day_of-new c.number-year.result c.in_ok-month.month c.in_ok-day.day c.new.result exists value) in
+    let is =
+    rw c.number-year.ensures.value at (day_of-new c.number-year.result c.in_ok-month.month c.in_ok-day.day c.new.result exists value) in
     let told = c.ok_or-4.ensures.value ∙ ap (λ day. ok_or day Day) is in
     search rules

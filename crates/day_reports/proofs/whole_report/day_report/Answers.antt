@@ -23,11 +23,15 @@ returns-clause-text g c = λ honest imported tells.
     let third_kept = kept-read second third c.in_ok-today.ensures.reads third_honest ∙ second_kept in
     let tells_second = subst (λ (content : Content). Tells content.tables.imported imported) (sym second_kept) tells in
     let held : hold_on day today ≡ hold_on day (calendars_of b imported) =
-    c.in_ok-today.ensures.today third_honest imported tells_second ∙ ap (λ texts. hold_on day (calendars_of b texts)) (with_items-none imported) in
-    let schedules : flat_map (schedule_lines c.as_slice.result.now day) c.schedules.result.now ≡ flat_map (schedule_lines (calendars_of b imported) day) b.schedules =
+    c.in_ok-today.ensures.today third_honest imported tells_second
+    ∙ ap (λ texts. hold_on day (calendars_of b texts)) (with_items-none imported) in
+    let schedules : flat_map (schedule_lines c.as_slice.result.now day) c.schedules.result.now
+    ≡ flat_map (schedule_lines (calendars_of b imported) day) b.schedules =
     (λ i. flat_map (schedule_lines (c.as_slice.ensures.value i) day) (c.schedules.ensures.schedules i))
     ∙ all_lines-same day today (calendars_of b imported) b.schedules held in
-    let points : flat_map (line_of_point third.content.tables.places) c.points.result.now ≡ flat_map (line_of_point first.content.tables.places) b.points =
+    let points : flat_map (line_of_point third.content.tables.places) c.points.result.now
+    ≡ flat_map (line_of_point first.content.tables.places) b.points =
     (λ i. flat_map (line_of_point (third_kept i).tables.places) (c.points.ensures i)) in
-    joined-parts _ _ _ _ _ _ c.in_ok-text.ensures (c.in_ok-push_schedules.ensures ∙ ap (λ lines. string_bytes c.in_ok-text.text ++ lines) schedules)
+    joined-parts _ _ _ _ _ _ c.in_ok-text.ensures (c.in_ok-push_schedules.ensures
+    ∙ ap (λ lines. string_bytes c.in_ok-text.text ++ lines) schedules)
     (c.in_ok-push_points.ensures.lines honest ∙ ap (λ lines. string_bytes c.push_schedules.new.text ++ lines) points)

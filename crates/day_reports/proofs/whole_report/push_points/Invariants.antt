@@ -11,5 +11,6 @@ invariant-loop-point g l =
     record {
       reads : Reads None first (g.S.Store.standing l.store);
       lines : (g.S.Store.standing l.store).is_honest
-          → string_bytes l.text ≡ string_bytes l.initial.text ++ flat_map (line_of_point first.content.tables.places) (take l.point-index l.points);
+          → string_bytes l.text ≡ string_bytes l.initial.text
+          ++ flat_map (line_of_point first.content.tables.places) (take l.point-index l.points);
     }

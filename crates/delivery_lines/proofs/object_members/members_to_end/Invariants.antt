@@ -8,7 +8,8 @@ use Rattle.delivery_lines.proofs.object_members.members_to_end.Given as goal
 abbrev pub invariant-members : goal.invariant-members
 invariant-members l =
     (n : ℕ) × (ms : Members) × (length l.reader ≤ n) × (length l.reader ≤ length l.initial.reader)
-    × (converted (λ js. of_members js no_members) (members (value 126) (length l.initial.reader) l.initial.reader) ≡ converted (λ js. of_members js ms) (members (value 126) n l.reader))
+    × (converted (λ js. of_members js no_members) (members (value 126) (length l.initial.reader) l.initial.reader)
+    ≡ converted (λ js. of_members js ms) (members (value 126) n l.reader))
     × IsReadAs l.told ms
 
 abbrev pub decreases-members : goal.decreases-members

@@ -10,4 +10,5 @@ returns c = λ ms is.
     let whole_priority : to_z w64 (of_z w64 priority) ≡ priority = search rules in
     let default : priority ≡ unwrap_or c.args.members.now.priority (pos 16) = search rules in
     rw (whole, whole_priority, default)
-    (command_told c.args.members.now ms is c.in_ok-members-3.field-0 c.in_ok-members.field-0 number c.in_ok-members-2.field-0 c.in_ok-members-3.was c.in_ok-members-4.was c.in_ok-members.was c.in_ok-members-2.was)
+    (command_told c.args.members.now ms is c.in_ok-members-3.field-0 c.in_ok-members.field-0 number c.in_ok-members-2.field-0
+    c.in_ok-members-3.was c.in_ok-members-4.was c.in_ok-members.was c.in_ok-members-2.was)

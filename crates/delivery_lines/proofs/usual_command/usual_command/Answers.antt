@@ -11,4 +11,5 @@ returns c =
     let found = c.in_ok-members.ensures in
     let texted : text_of c.args.line.now ≡ Some text = search rules in
     some-weaker _ (λ command. option_and_then delivery_in (json_of c.args.line.now) ≡ Some command) c.command_of.result
-    (λ command tells. read_delivery c.args.line.now text (object found.0) command texted found.1 (tells found.0 found.2)) c.command_of.ensures
+    (λ command tells. read_delivery c.args.line.now text (object found.0) command texted found.1 (tells found.0 found.2))
+    c.command_of.ensures

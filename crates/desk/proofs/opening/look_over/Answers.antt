@@ -12,11 +12,16 @@ returns-then-not-are_known g c =
 
 pub returns-then-not-is_ticked : goal.returns-then-not-is_ticked
 returns-then-not-is_ticked g c =
-    Opens-unticked c.args.building.now (g.S.Store.standing c.args.store.now) (g.S.Store.standing c.names.new.self) (g.S.Store.standing c.last_tick.new.self)
-    c.in_ok-last.last c.in_ok-names.ensures.reads c.in_ok-last.ensures.reads c.in_ok-last.ensures.value (sym c.is_ticked.ensures ∙ c.if-not-is_ticked.true)
+    Opens-unticked c.args.building.now (g.S.Store.standing c.args.store.now) (g.S.Store.standing c.names.new.self)
+    (g.S.Store.standing c.last_tick.new.self)
+    c.in_ok-last.last c.in_ok-names.ensures.reads c.in_ok-last.ensures.reads c.in_ok-last.ensures.value
+    (sym c.is_ticked.ensures ∙ c.if-not-is_ticked.true)
 
 pub returns : goal.returns
 returns g c =
-    Opens-read c.args.building.now (g.S.Store.standing c.args.store.now) (g.S.Store.standing c.names.new.self) (g.S.Store.standing c.last_tick.new.self)
-    c.in_ok-last.last c.in_ok-names.ensures.reads c.in_ok-last.ensures.reads c.in_ok-last.ensures.value (result_err c.read_rows.result) (g.S.Store.standing c.read_rows.new.store)
-    c.in_ok-names.names c.in_ok-names.ensures.value (sym c.are_known.ensures ∙ c.if-not-are_known.false) (sym c.is_ticked.ensures ∙ c.if-not-is_ticked.false) c.read_rows.ensures
+    Opens-read c.args.building.now (g.S.Store.standing c.args.store.now) (g.S.Store.standing c.names.new.self)
+    (g.S.Store.standing c.last_tick.new.self)
+    c.in_ok-last.last c.in_ok-names.ensures.reads c.in_ok-last.ensures.reads c.in_ok-last.ensures.value
+    (result_err c.read_rows.result) (g.S.Store.standing c.read_rows.new.store)
+    c.in_ok-names.names c.in_ok-names.ensures.value (sym c.are_known.ensures ∙ c.if-not-are_known.false)
+    (sym c.is_ticked.ensures ∙ c.if-not-is_ticked.false) c.read_rows.ensures

@@ -21,18 +21,22 @@ returns-in-Ok-eq0-clause-prints g c = λ bytes E honest left holds. Progress-end
     (c.loop-number.invariant.so_far bytes E honest left holds) (c.in-Ok-eq0.ensures.end c.in-Ok-eq0.field-0-test)
 
 pub returns-in-Ok-eq0-clause-no_more : goal.returns-in-Ok-eq0-clause-no_more
-returns-in-Ok-eq0-clause-no_more g c = λ bytes E honest left holds. Progress-stops _ E bytes _ _ _ _ (c.loop-number.invariant.so_far bytes E honest left holds)
+returns-in-Ok-eq0-clause-no_more g c =
+    λ bytes E honest left holds. Progress-stops _ E bytes _ _ _ _ (c.loop-number.invariant.so_far bytes E honest left holds)
 
 pub returns-in-Err-clause-no_more : goal.returns-in-Err-clause-no_more
-returns-in-Err-clause-no_more g c = λ bytes E honest left holds. Progress-stops _ E bytes _ _ _ _ (c.loop-number.invariant.so_far bytes E honest left holds)
+returns-in-Err-clause-no_more g c =
+    λ bytes E honest left holds. Progress-stops _ E bytes _ _ _ _ (c.loop-number.invariant.so_far bytes E honest left holds)
 
 pub returns-clause-no_more : goal.returns-clause-no_more
-returns-clause-no_more g c = λ bytes E honest left holds. Progress-stops _ E bytes _ _ _ _ (c.loop-number.invariant.so_far bytes E honest left holds)
+returns-clause-no_more g c =
+    λ bytes E honest left holds. Progress-stops _ E bytes _ _ _ _ (c.loop-number.invariant.so_far bytes E honest left holds)
 
 pub returns-in_err-print_reply_and_flush-in-Ok-clause-no_more : goal.returns-in_err-print_reply_and_flush-in-Ok-clause-no_more
 returns-in_err-print_reply_and_flush-in-Ok-clause-no_more g c = λ bytes E honest left holds.
     let line : List ℕ = c.read_until.new.buf.items in
-    let ended : c.without_end-line.result.now ≡ strip_last 10 line = c.without_end-line.ensures ∙ ap (strip_last 10) c.as_slice.ensures.value in
+    let ended : c.without_end-line.result.now ≡ strip_last 10 line =
+    c.without_end-line.ensures ∙ ap (strip_last 10) c.as_slice.ensures.value in
     Progress-stops-at c.args.desk.now.building E bytes line _ _ _ _ _ _
     (c.loop-number.invariant.so_far bytes E (c.print_reply_and_flush.ensures.honest honest) left holds)
     (subst (λ (start : List ℕ). IfSome (reader_remaining g.D.Read.remaining c.loop-number.reader)
@@ -41,7 +45,8 @@ returns-in_err-print_reply_and_flush-in-Ok-clause-no_more g c = λ bytes E hones
     (let fewer = c.read_until.new.buf.ok.0 in let test = c.in-Ok.field-0-test.1 in omega (arith, c.in-Ok.ensures.ok))
     (λ F now. first-same c.loop-number.desk.building c.args.desk.now.building F c.without_end-line.result.now (strip_last 10 line) _ _
     c.loop-number.invariant.building ended
-    (c.print_reply_and_flush.ensures.no_more F honest (now ∙ ap (λ (b : Building). sound (tables b F)) (sym c.loop-number.invariant.building))))
+    (c.print_reply_and_flush.ensures.no_more F honest
+    (now ∙ ap (λ (b : Building). sound (tables b F)) (sym c.loop-number.invariant.building))))
 
 pub loop-number-preserved : goal.loop-number-preserved
 loop-number-preserved g c = record {
@@ -49,7 +54,8 @@ loop-number-preserved g c = record {
   honest = λ honest. c.loop-number.invariant.honest (c.print_reply_and_flush.ensures.honest honest);
   so_far = λ bytes E honest left holds.
       let line : List ℕ = c.read_until.new.buf.items in
-      let ended : c.without_end-line.result.now ≡ strip_last 10 line = c.without_end-line.ensures ∙ ap (strip_last 10) c.as_slice.ensures.value in
+      let ended : c.without_end-line.result.now ≡ strip_last 10 line =
+      c.without_end-line.ensures ∙ ap (strip_last 10) c.as_slice.ensures.value in
       Progress-line c.args.desk.now.building E bytes line _ _ _ _ _ _ _
       (c.loop-number.invariant.so_far bytes E (c.print_reply_and_flush.ensures.honest honest) left holds)
       (subst (λ (start : List ℕ). IfSome (reader_remaining g.D.Read.remaining c.loop-number.reader)
@@ -58,5 +64,6 @@ loop-number-preserved g c = record {
       (let fewer = c.read_until.new.buf.ok.0 in let test = c.in-Ok.field-0-test.1 in omega (arith, c.in-Ok.ensures.ok))
       (λ F now. Prints-same c.loop-number.desk.building c.args.desk.now.building F c.without_end-line.result.now (strip_last 10 line) _ _ _
       c.loop-number.invariant.building ended
-      (c.in_ok-print_reply_and_flush-in-Ok.ensures.prints F honest (now ∙ ap (λ (b : Building). sound (tables b F)) (sym c.loop-number.invariant.building))));
+      (c.in_ok-print_reply_and_flush-in-Ok.ensures.prints F honest
+      (now ∙ ap (λ (b : Building). sound (tables b F)) (sym c.loop-number.invariant.building))));
 }

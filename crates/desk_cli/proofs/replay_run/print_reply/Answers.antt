@@ -11,11 +11,13 @@ at_ok {T} {E} (Ok x) P Q f p = f p
 at_ok {T} {E} (Err e) P Q f p = tt
 
 pub returns-in-Ok-clause-prints : goal.returns-in-Ok-clause-prints
-returns-in-Ok-clause-prints g c = at_ok c.print_text.result _ _ (λ printed E honest holds. Prints-answered _ E _ _ c.in-Ok.text _ _ _ (search rules)
+returns-in-Ok-clause-prints g c =
+    at_ok c.print_text.result _ _ (λ printed E honest holds. Prints-answered _ E _ _ c.in-Ok.text _ _ _ (search rules)
     (c.in-Ok.ensures.answers E honest holds) (search rules) printed) c.print_text.ensures.whole
 
 pub returns-in-Ok-clause-no_more : goal.returns-in-Ok-clause-no_more
-returns-in-Ok-clause-no_more g c = λ E honest holds. first-replied _ E _ _ c.in-Ok.text _ _ _ (search rules) (c.in-Ok.ensures.answers E honest holds)
+returns-in-Ok-clause-no_more g c =
+    λ E honest holds. first-replied _ E _ _ c.in-Ok.text _ _ _ (search rules) (c.in-Ok.ensures.answers E honest holds)
     (search rules) c.print_text.ensures.no_more
 
 pub returns-in-Err-NotDelivery-clause-no_more : goal.returns-in-Err-NotDelivery-clause-no_more

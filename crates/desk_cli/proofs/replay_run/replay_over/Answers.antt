@@ -14,7 +14,8 @@ on_ok {T} {E} (Err e) {P} {Q} f p = tt
 pub returns-clause-done : goal.returns-clause-done
 returns-clause-done g c =
     let empty : (standing_of c.new-desk.result.store).content ≡ sound (tables c.new-desk.result.building []) =
-    ap (λ store. (standing_of store).content) c.new-desk.ensures.store ∙ (c.new.ensures.empty ∙ ap sound (tables-none c.new-desk.result.building)) in
+    ap (λ store. (standing_of store).content) c.new-desk.ensures.store
+    ∙ (c.new.ensures.empty ∙ ap sound (tables-none c.new-desk.result.building)) in
     on_ok c.print_list.result (λ done file_bytes list_bytes file list.
     done file_bytes list_bytes tt
     (c.in_ok-building.ensures file_bytes file ∙ ap (λ (b : Building). Ok (contents_of b)) (sym c.new-desk.ensures.building))
@@ -23,7 +24,8 @@ returns-clause-done g c =
 pub returns-clause-no_more : goal.returns-clause-no_more
 returns-clause-no_more g c = λ file_bytes list_bytes file list.
     let empty : (standing_of c.new-desk.result.store).content ≡ sound (tables c.new-desk.result.building []) =
-    ap (λ store. (standing_of store).content) c.new-desk.ensures.store ∙ (c.new.ensures.empty ∙ ap sound (tables-none c.new-desk.result.building)) in
+    ap (λ store. (standing_of store).content) c.new-desk.ensures.store
+    ∙ (c.new.ensures.empty ∙ ap sound (tables-none c.new-desk.result.building)) in
     c.print_list.ensures.no_more file_bytes list_bytes tt
     (c.in_ok-building.ensures file_bytes file ∙ ap (λ (b : Building). Ok (contents_of b)) (sym c.new-desk.ensures.building))
     list empty

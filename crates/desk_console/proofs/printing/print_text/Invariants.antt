@@ -4,7 +4,8 @@ use Rattle.desk_console.proofs.printing.print_text.Given as goal
 
 -- what is printed and what is left are the text
 abbrev pub invariant-loop-rest : goal.invariant-loop-rest
-invariant-loop-rest g l = (printed : List ℕ) × (l.text ≡ printed ++ l.rest) × Appends (g.W.Write.contents l.initial.out) (g.W.Write.contents l.out) printed
+invariant-loop-rest g l =
+    (printed : List ℕ) × (l.text ≡ printed ++ l.rest) × Appends (g.W.Write.contents l.initial.out) (g.W.Write.contents l.out) printed
 
 abbrev pub decreases-loop-rest : goal.decreases-loop-rest
 decreases-loop-rest g l = length l.rest

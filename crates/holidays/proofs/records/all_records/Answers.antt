@@ -33,13 +33,22 @@ loop-record-preserved c =
     let s = rw (c.in-Some.is, c.in-Ok.is) at ((c.next.ensures.steps inv.2 inv.0).0 inv.1) in
     let items = c.in_ok-push-in-Ok.ensures.items in
     let m = rows-more (λ (s : Bor (List ℕ)). Some s.now) c.loop-record.record-iterator.rdr c.next.new.self.rdr (fields_of c.in-Ok.record)
-    default_config st.StartRecord (strip_bom c.args.text.now) inv.4 (map fields_of c.loop-record.records.items) inv.3 inv.5 inv.6 s.0 in
-    (s.0.3 ∙ inv.0, inl s.1, s.2, s.0.2 ∙ inv.3, m.0, m.1, rw (items, map-append fields_of c.loop-record.records.items (c.in-Ok.record ∷ [])) m.2)
+    default_config st.StartRecord (strip_bom c.args.text.now) inv.4 (map fields_of c.loop-record.records.items) inv.3 inv.5 inv.6 s.0 in (
+      s.0.3 ∙ inv.0,
+      inl s.1,
+      s.2,
+      s.0.2 ∙ inv.3,
+      m.0,
+      m.1,
+      rw (items, map-append fields_of c.loop-record.records.items (c.in-Ok.record ∷ [])) m.2,
+    )
 
 pub returns : goal.returns
 returns c =
     let inv = c.loop-record.invariant in
     let s = rw c.in-None.is at ((c.next.ensures.steps inv.2 inv.0).0 inv.1) in
-    let end = rows-end (λ (s : Bor (List ℕ)). Some s.now) c.loop-record.record-iterator.rdr c.next.new.self.rdr [] default_config inv.4 inv.3 inv.5 s in
+    let end =
+    rows-end (λ (s : Bor (List ℕ)). Some s.now) c.loop-record.record-iterator.rdr c.next.new.self.rdr [] default_config inv.4
+    inv.3 inv.5 s in
     are_records (strip_bom c.args.text.now) (map fields_of c.loop-record.records.items)
     (c.loop-record.record-iterator.rdr.state, inv.4, inv.6, end)

@@ -40,4 +40,6 @@ returns-then-is_some c = has_some c.args.array.now c.loop-priority.priority (ap 
     (sym c.value_at.ensures.value) ∙ sym c.is_some.ensures ∙ c.if-is_some.true)
 
 pub returns : goal.returns
-returns c = has_none c.args.array.now (c.loop-priority.invariant.places (omega arith)) (λ p least most. c.loop-priority.invariant.none p least (omega arith))
+returns c =
+    has_none c.args.array.now (c.loop-priority.invariant.places (omega arith))
+    (λ p least most. c.loop-priority.invariant.none p least (omega arith))

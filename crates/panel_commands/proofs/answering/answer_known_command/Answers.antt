@@ -15,7 +15,9 @@ returns-in_default-clause-delivers g c = λ earlier next_is honest held.
     let b = c.args.building.now in
     let panel = c.args.panel.now in
     let d = Command panel.name c.args.number c.args.content.now in
-    let none = ap (λ n. ask_command n c.args.content.now) (ap (number_upto LAST_NUMBER) (sym whole) ∙ (sym c.number_upto.ensures.found ∙ c.in_default.is)) in
+    let none =
+    ap (λ n. ask_command n c.args.content.now) (ap (number_upto LAST_NUMBER) (sym whole)
+    ∙ (sym c.number_upto.ensures.found ∙ c.in_default.is)) in
     (sym (reply-bad_number b earlier d panel tt c.requires.known none), held ∙ sym (ap sound (tables-bad_number b earlier d tt none)))
 
 pub returns-clause-delivers : goal.returns-clause-delivers
@@ -28,7 +30,9 @@ returns-clause-delivers g c = λ earlier next_is honest held.
     let before = c.answer_plan.ensures.goes.honest honest in
     let same = ap (λ (held : Content). held.tables) held in
     let planned = planned-command b earlier panel.name c.args.next old.content.tables same next_is c.in_ok-view.view c.in_ok-plan.plan
-    c.args.number c.in-Some.natural content (ap (number_upto LAST_NUMBER) (sym whole) ∙ (sym c.number_upto.ensures.found ∙ c.in-Some.is)) (c.in_ok-view.ensures.views before) c.in_ok-plan.ensures in
+    c.args.number c.in-Some.natural content (ap (number_upto LAST_NUMBER) (sym whole)
+    ∙ (sym c.number_upto.ensures.found ∙ c.in-Some.is)) (c.in_ok-view.ensures.views before) c.in_ok-plan.ensures in
     c.answer_plan.ensures.delivers earlier (Command panel.name c.args.number content) (asks.Command c.in-Some.natural content)
-    (subst (λ z. IsPlanned b earlier (Command panel.name c.args.number content) (asks.Command c.in-Some.natural content) panel.name c.args.next z c.in_ok-plan.plan) (sym whole) planned) honest
+    (subst (λ z. IsPlanned b earlier (Command panel.name c.args.number content) (asks.Command c.in-Some.natural content) panel.name
+    c.args.next z c.in_ok-plan.plan) (sym whole) planned) honest
     (c.in_ok-view.ensures.reads.kept before (λ e. cc) ∙ held)

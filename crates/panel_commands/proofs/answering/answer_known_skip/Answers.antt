@@ -27,7 +27,9 @@ returns-clause-delivers g c = λ earlier next_is honest held.
     let before = c.answer_plan.ensures.goes.honest honest in
     let same = ap (λ (held : Content). held.tables) held in
     let planned = planned-skip b earlier panel.name c.args.next old.content.tables same next_is c.in_ok-view.view c.in_ok-plan.plan
-    c.args.upto c.in-Some.natural (ap (number_upto (LAST_NUMBER + 1)) (sym whole) ∙ (sym c.number_upto.ensures.found ∙ c.in-Some.is)) (c.in_ok-view.ensures.views before) c.in_ok-plan.ensures in
+    c.args.upto c.in-Some.natural (ap (number_upto (LAST_NUMBER + 1)) (sym whole)
+    ∙ (sym c.number_upto.ensures.found ∙ c.in-Some.is)) (c.in_ok-view.ensures.views before) c.in_ok-plan.ensures in
     c.answer_plan.ensures.delivers earlier (Skip panel.name c.args.upto) (asks.Skip c.in-Some.natural)
-    (subst (λ z. IsPlanned b earlier (Skip panel.name c.args.upto) (asks.Skip c.in-Some.natural) panel.name c.args.next z c.in_ok-plan.plan) (sym whole) planned) honest
+    (subst (λ z. IsPlanned b earlier (Skip panel.name c.args.upto) (asks.Skip c.in-Some.natural) panel.name c.args.next z
+    c.in_ok-plan.plan) (sym whole) planned) honest
     (c.in_ok-view.ensures.reads.kept before (λ e. cc) ∙ held)

@@ -9,7 +9,8 @@ use Rattle.panel_commands.proofs.PlannedLemmas.{next-held}
 use Rattle.panel_commands.proofs.answering.deliver_command.Goals as goal
 
 pub answer_known_command-requires-clause-known : goal.answer_known_command-requires-clause-known
-answer_known_command-requires-clause-known g c = named-again c.args.building.now c.args.name.now c.in-Some.panel.now (sym c.find_panel.ensures ∙ ap option_copied c.in-Some.is)
+answer_known_command-requires-clause-known g c =
+    named-again c.args.building.now c.args.name.now c.in-Some.panel.now (sym c.find_panel.ensures ∙ ap option_copied c.in-Some.is)
 
 pub returns-in-Some-clause-delivers : goal.returns-in-Some-clause-delivers
 returns-in-Some-clause-delivers g c = λ earlier honest held.
@@ -31,4 +32,5 @@ returns-in-None-clause-delivers g c = λ earlier honest held.
     let old = g.S.Store.standing c.args.store.now in
     let new = g.S.Store.standing c.panel_next.new.self in
     let unknown : panel_named b c.args.name.now ≡ None = sym c.find_panel.ensures ∙ ap option_copied c.in-None.is in
-    Delivers-read_only b earlier d _ old new c.in_ok-next.ensures.reads honest held (sym (reply-unknown b earlier d tt unknown)) (tables-unknown b earlier d tt unknown)
+    Delivers-read_only b earlier d _ old new c.in_ok-next.ensures.reads honest held (sym (reply-unknown b earlier d tt unknown))
+    (tables-unknown b earlier d tt unknown)

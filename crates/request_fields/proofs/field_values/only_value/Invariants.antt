@@ -5,4 +5,5 @@ use Rattle.request_fields.proofs.field_values.only_value.Given as goal
 
 abbrev pub invariant-loop-header : goal.invariant-loop-header
 invariant-loop-header l =
-    values_at l.buffer l.name l.headers ≡ option_to_list (option_map (λ v. v.now) l.only) ++ values_at l.buffer l.name (drop l.header-index l.headers)
+    values_at l.buffer l.name l.headers
+    ≡ option_to_list (option_map (λ v. v.now) l.only) ++ values_at l.buffer l.name (drop l.header-index l.headers)

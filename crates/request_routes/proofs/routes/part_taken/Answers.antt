@@ -11,6 +11,7 @@ returns c =
     let target = c.args.target.now in
     let steps = c.in_ok-part.ensures.steps in
     let all : list_all is_ascii_byte target ≡ true = search rules in
-    let walked = c.iter.ensures.value ∙ ap (λ (path : List ℕ). walk params.pattern.now params.text.now path params.names.now 0 0) c.requires in
+    let walked =
+    c.iter.ensures.value ∙ ap (λ (path : List ℕ). walk params.pattern.now params.text.now path params.names.now 0 0) c.requires in
     part-told params.pattern.now params.text.now target params.names.now steps.0 c.next.new.self c.in_ok-part.part.now
     all (sym walked ∙ steps.1) steps.3

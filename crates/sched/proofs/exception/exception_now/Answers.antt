@@ -11,6 +11,8 @@ pub returns : goal.returns
 unfolding exception_now
 returns c =
     let passes = speaks c.args.calendars.now c.args.day c.args.time in
-    chosen-min_by_key (λ x. x.event_priority) settles_lower passes c.args.exceptions.now nat_cmp c.min_by_key.result c.min_by_key.ensures.ran
-    (YieldsList-from_filter _ passes (YieldsList-from_slice c.args.exceptions.now cc) c.filter.ensures.closure (λ x r q k. search (rules, tests)))
+    chosen-min_by_key (λ x. x.event_priority) settles_lower passes c.args.exceptions.now nat_cmp c.min_by_key.result
+    c.min_by_key.ensures.ran
+    (YieldsList-from_filter _ passes (YieldsList-from_slice c.args.exceptions.now cc) c.filter.ensures.closure
+    (λ x r q k. search (rules, tests)))
     (λ x k q h. search rules) (λ x y. lower-is_gt x.event_priority y.event_priority)

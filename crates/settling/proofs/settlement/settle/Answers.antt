@@ -14,7 +14,8 @@ use Rattle.settling.proofs.settlement.settle.Goals as goal
 pub settle_each-requires-clause-priorities : goal.settle_each-requires-clause-priorities
 settle_each-requires-clause-priorities g c =
     let b = c.args.building.now in
-    subst (λ (schedules : List NamedSchedule). IsTrue (list_all (λ (schedule : NamedSchedule). is_write_priority schedule.priority) schedules))
+    subst (λ (schedules : List NamedSchedule). IsTrue
+    (list_all (λ (schedule : NamedSchedule). is_write_priority schedule.priority) schedules))
     (sym c.schedules.ensures.schedules) (write_priorities b.points b.calendars b.schedules c.schedules.ensures.sound)
 
 pub returns-clause-places : goal.returns-clause-places

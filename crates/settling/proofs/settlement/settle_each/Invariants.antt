@@ -21,7 +21,8 @@ invariant-loop-schedule g l =
       priorities : IsTrue (list_all (λ (schedule : NamedSchedule). is_write_priority schedule.priority) rest);
       cleared : (g.S.Store.standing l.store).is_honest → l.all.cleared.items ++ flat_map (cleared_by now shown) rest
           ≡ flat_map (cleared_by now shown) l.schedules;
-      put : (g.S.Store.standing l.store).is_honest → l.all.put.items ++ flat_map (put_by now shown) rest ≡ flat_map (put_by now shown) l.schedules;
+      put : (g.S.Store.standing l.store).is_honest
+          → l.all.put.items ++ flat_map (put_by now shown) rest ≡ flat_map (put_by now shown) l.schedules;
       told : (g.S.Store.standing l.store).is_honest → l.all.shown.items ++ flat_map (shown_by now shown) rest
           ≡ flat_map (shown_by now shown) l.schedules;
       placed_cleared : All IsPlace l.all.cleared.items;

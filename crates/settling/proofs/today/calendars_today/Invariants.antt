@@ -11,6 +11,7 @@ invariant-loop-calendar g l =
     record {
       reads : Reads None first (g.S.Store.standing l.store);
       today : (g.S.Store.standing l.store).is_honest → (imported : Text → List Text) → Tells first.content.tables.imported imported
-          → hold_on l.day l.today.items ++ hold_on l.day (map (with_texts (with_items imported l.items)) (drop l.calendar-index l.building.calendars))
+          → hold_on l.day l.today.items ++ hold_on l.day
+          (map (with_texts (with_items imported l.items)) (drop l.calendar-index l.building.calendars))
           ≡ hold_on l.day (calendars_of l.building (with_items imported l.items));
     }

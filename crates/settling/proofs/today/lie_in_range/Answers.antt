@@ -12,4 +12,5 @@ loop-entry-preserved c =
 
 pub returns : goal.returns
 returns c =
-    subst (All IsEntry) (take_all c.loop-entry.entry-index c.args.entries.now (omega (arith, c.loop-entry-test.false))) c.loop-entry.invariant
+    subst (All IsEntry) (take_all c.loop-entry.entry-index c.args.entries.now (omega (arith, c.loop-entry-test.false)))
+    c.loop-entry.invariant

@@ -3,13 +3,21 @@ use Rattle.sql_reading.proofs.ToldLemmas.{if_err, next_err, next_none, next_ok, 
 use Rattle.sql_reading.proofs.finding.told_next.Goals as goal
 
 pub returns-in_err-only-clause-bad : goal.returns-in_err-only-clause-bad
-returns-in_err-only-clause-bad c kept found = if_err c.from_residual.result (next_several c.args.panel.now kept c.args.rows.items c.as_str-name.ensures.is_name found c.in_err-only.ensures.several)
+returns-in_err-only-clause-bad c kept found =
+    if_err c.from_residual.result (next_several c.args.panel.now kept c.args.rows.items c.as_str-name.ensures.is_name found
+    c.in_err-only.ensures.several)
 
 pub returns-in-Some-clause-value : goal.returns-in-Some-clause-value
-returns-in-Some-clause-value c kept found = next_ok c.args.panel.now kept c.args.rows.items c.as_str-name.ensures.is_name found c.count_at.result c.in-Some.row (rw c.in-Some.is at c.in_ok-only.ensures.one) c.count_at.ensures.value
+returns-in-Some-clause-value c kept found =
+    next_ok c.args.panel.now kept c.args.rows.items c.as_str-name.ensures.is_name found c.count_at.result c.in-Some.row
+    (rw c.in-Some.is at c.in_ok-only.ensures.one) c.count_at.ensures.value
 
 pub returns-in-Some-clause-bad : goal.returns-in-Some-clause-bad
-returns-in-Some-clause-bad c kept found = next_err c.args.panel.now kept c.args.rows.items c.as_str-name.ensures.is_name found c.count_at.result c.in-Some.row (rw c.in-Some.is at c.in_ok-only.ensures.one) c.count_at.ensures.bad
+returns-in-Some-clause-bad c kept found =
+    next_err c.args.panel.now kept c.args.rows.items c.as_str-name.ensures.is_name found c.count_at.result c.in-Some.row
+    (rw c.in-Some.is at c.in_ok-only.ensures.one) c.count_at.ensures.bad
 
 pub returns-in-None-clause-value : goal.returns-in-None-clause-value
-returns-in-None-clause-value c kept found = sym (next_none c.args.panel.now kept c.args.rows.items c.as_str-name.ensures.is_name found (c.in_ok-only.ensures.none (rw c.in-None.is refl)))
+returns-in-None-clause-value c kept found =
+    sym (next_none c.args.panel.now kept c.args.rows.items c.as_str-name.ensures.is_name found
+    (c.in_ok-only.ensures.none (rw c.in-None.is refl)))

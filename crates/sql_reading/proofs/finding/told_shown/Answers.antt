@@ -3,13 +3,22 @@ use Rattle.sql_reading.proofs.ToldLemmas.{if_err, shown_bad, shown_none, shown_o
 use Rattle.sql_reading.proofs.finding.told_shown.Goals as goal
 
 pub returns-in_err-only-clause-bad : goal.returns-in_err-only-clause-bad
-returns-in_err-only-clause-bad c kept found = if_err c.from_residual.result (shown_several c.args.schedule.now kept c.args.rows.items c.as_str-name.ensures.is_name found c.in_err-only.ensures.several)
+returns-in_err-only-clause-bad c kept found =
+    if_err c.from_residual.result (shown_several c.args.schedule.now kept c.args.rows.items c.as_str-name.ensures.is_name found
+    c.in_err-only.ensures.several)
 
 pub returns-in-None-clause-value : goal.returns-in-None-clause-value
-returns-in-None-clause-value c kept found = sym (shown_none c.args.schedule.now kept c.args.rows.items c.as_str-name.ensures.is_name found (c.in_ok-only.ensures.none (rw c.in-None.is refl)))
+returns-in-None-clause-value c kept found =
+    sym (shown_none c.args.schedule.now kept c.args.rows.items c.as_str-name.ensures.is_name found
+    (c.in_ok-only.ensures.none (rw c.in-None.is refl)))
 
 pub returns-in_ok-optional_at-in-Some-clause-value : goal.returns-in_ok-optional_at-in-Some-clause-value
-returns-in_ok-optional_at-in-Some-clause-value c kept found = sym (shown_one c.args.schedule.now kept c.args.rows.items c.as_str-name.ensures.is_name found c.in-Some.row _ (rw c.in-Some.is at c.in_ok-only.ensures.one) c.in_ok-optional_at-in-Some.ensures.value)
+returns-in_ok-optional_at-in-Some-clause-value c kept found =
+    sym (shown_one c.args.schedule.now kept c.args.rows.items c.as_str-name.ensures.is_name found c.in-Some.row _
+    (rw c.in-Some.is at c.in_ok-only.ensures.one) c.in_ok-optional_at-in-Some.ensures.value)
 
 pub returns-in_err-optional_at-in-Some-clause-bad : goal.returns-in_err-optional_at-in-Some-clause-bad
-returns-in_err-optional_at-in-Some-clause-bad c kept found = if_err c.from_residual-in_err-optional_at-in-Some.result (shown_bad c.args.schedule.now kept c.args.rows.items c.as_str-name.ensures.is_name found c.in-Some.row (rw c.in-Some.is at c.in_ok-only.ensures.one) c.in_err-optional_at-in-Some.ensures.bad)
+returns-in_err-optional_at-in-Some-clause-bad c kept found =
+    if_err c.from_residual-in_err-optional_at-in-Some.result
+    (shown_bad c.args.schedule.now kept c.args.rows.items c.as_str-name.ensures.is_name found c.in-Some.row
+    (rw c.in-Some.is at c.in_ok-only.ensures.one) c.in_err-optional_at-in-Some.ensures.bad)

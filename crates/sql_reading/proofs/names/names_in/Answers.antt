@@ -19,7 +19,8 @@ loop-init g c =
       reads = read_none first;
       far = λ clean ours.
           let holds = StandsIn c.args.list (tables_in (kept_in first.now.trees)) in
-          subst (AreTextsTo holds []) (sym c.new-names.ensures.items) (texts_none holds (empty_stands c.args.list (kept_in first.now.trees)));
+          subst (AreTextsTo holds []) (sym c.new-names.ensures.items)
+          (texts_none holds (empty_stands c.args.list (kept_in first.now.trees)));
     }
 
 pub returns-in-None-clause-value : goal.returns-in-None-clause-value
@@ -30,9 +31,11 @@ returns-in-None-clause-value g c clean ours =
     let was = clean_before mid last c.next_in.ensures.survives.clean clean in
     let saw = c.loop.invariant.reads.sees was ours in
     let told = c.in_ok-name.ensures.value clean (subst IsOurs (sym saw.now) ours) in
-    texts_all (StandsIn c.args.list (tables_in (kept_in first.now.trees))) (unwrap_or c.loop.after []) c.loop.names.items (c.loop.invariant.far was ours)
+    texts_all (StandsIn c.args.list (tables_in (kept_in first.now.trees))) (unwrap_or c.loop.after []) c.loop.names.items
+    (c.loop.invariant.far was ours)
     (subst (λ d. IsNextText (StandsIn c.args.list (tables_in (kept_in d.trees))) (unwrap_or c.loop.after []) None) saw.now
-    (subst (λ text. IsNextText (StandsIn c.args.list (tables_in (kept_in mid.now.trees))) text None) c.text_of.ensures (rw c.in-None.is at told)))
+    (subst (λ text. IsNextText (StandsIn c.args.list (tables_in (kept_in mid.now.trees))) text None) c.text_of.ensures
+    (rw c.in-None.is at told)))
 
 pub loop-preserved : goal.loop-preserved
 loop-preserved g c =
@@ -40,19 +43,30 @@ loop-preserved g c =
     let mid = state g.S.Store c.loop.connection in
     let two = state g.S.Store c.next_in.new.connection in
     let last = state g.S.Store c.stands_in.new.connection in
-    let one = read_then first mid two (result_err c.next_in.result) (ap (λ r. is_sql (result_err r)) c.in_ok-name.was) c.loop.invariant.reads c.next_in.ensures.mode c.next_in.ensures.asks c.next_in.ensures.survives in
+    let one =
+    read_then first mid two (result_err c.next_in.result) (ap (λ r. is_sql (result_err r)) c.in_ok-name.was)
+    c.loop.invariant.reads c.next_in.ensures.mode c.next_in.ensures.asks c.next_in.ensures.survives in
     record {
-      reads = read_then first two last (result_err c.stands_in.result) (ap (λ r. is_sql (result_err r)) c.in_ok-stands-in-Some.was) one c.stands_in.ensures.mode c.stands_in.ensures.asks c.stands_in.ensures.survives;
+      reads =
+          read_then first two last (result_err c.stands_in.result) (ap (λ r. is_sql (result_err r)) c.in_ok-stands-in-Some.was) one
+          c.stands_in.ensures.mode c.stands_in.ensures.asks c.stands_in.ensures.survives;
       far = λ clean ours.
           let clean_two = clean_before two last c.stands_in.ensures.survives.clean clean in
           let was = clean_before mid two c.next_in.ensures.survives.clean clean_two in
           let saw = c.loop.invariant.reads.sees was ours in
           let saw_two = one.sees clean_two ours in
           let told = c.in_ok-name.ensures.value clean_two (subst IsOurs (sym saw.now) ours) in
-          let next = subst (λ d. IsNextText (StandsIn c.args.list (tables_in (kept_in d.trees))) (unwrap_or c.loop.after []) (Some c.in-Some.name)) saw.now
-          (subst (λ text. IsNextText (StandsIn c.args.list (tables_in (kept_in mid.now.trees))) text (Some c.in-Some.name)) c.text_of.ensures (rw c.in-Some.is at told)) in
-          let tells = subst (λ d. Tells (StandsIn c.args.list (tables_in (kept_in d.trees)) c.in-Some.name) c.in_ok-stands-in-Some.stands) saw_two.now (c.in_ok-stands-in-Some.ensures.value clean (subst IsOurs (sym saw_two.now) ours)) in
-          texts_step (StandsIn c.args.list (tables_in (kept_in first.now.trees))) (unwrap_or c.loop.after []) c.in-Some.name c.loop.names.items c.push_if.new.names.items c.in_ok-stands-in-Some.stands (c.loop.invariant.far was ours) next tells c.in_ok-push_if-in-Some.ensures.items;
+          let next =
+          subst (λ d. IsNextText (StandsIn c.args.list (tables_in (kept_in d.trees))) (unwrap_or c.loop.after [])
+          (Some c.in-Some.name)) saw.now
+          (subst (λ text. IsNextText (StandsIn c.args.list (tables_in (kept_in mid.now.trees))) text (Some c.in-Some.name))
+          c.text_of.ensures (rw c.in-Some.is at told)) in
+          let tells =
+          subst (λ d. Tells (StandsIn c.args.list (tables_in (kept_in d.trees)) c.in-Some.name) c.in_ok-stands-in-Some.stands)
+          saw_two.now (c.in_ok-stands-in-Some.ensures.value clean (subst IsOurs (sym saw_two.now) ours)) in
+          texts_step (StandsIn c.args.list (tables_in (kept_in first.now.trees))) (unwrap_or c.loop.after []) c.in-Some.name
+          c.loop.names.items c.push_if.new.names.items c.in_ok-stands-in-Some.stands (c.loop.invariant.far was ours) next tells
+          c.in_ok-push_if-in-Some.ensures.items;
     }
 
 pub returns-in_err-stands-in-Some-clause-survives : goal.returns-in_err-stands-in-Some-clause-survives
@@ -61,7 +75,9 @@ returns-in_err-stands-in-Some-clause-survives g c =
     let mid = state g.S.Store c.loop.connection in
     let two = state g.S.Store c.next_in.new.connection in
     let last = state g.S.Store c.stands_in.new.connection in
-    let one = read_then first mid two (result_err c.next_in.result) (ap (λ r. is_sql (result_err r)) c.in_ok-name.was) c.loop.invariant.reads c.next_in.ensures.mode c.next_in.ensures.asks c.next_in.ensures.survives in
+    let one =
+    read_then first mid two (result_err c.next_in.result) (ap (λ r. is_sql (result_err r)) c.in_ok-name.was)
+    c.loop.invariant.reads c.next_in.ensures.mode c.next_in.ensures.asks c.next_in.ensures.survives in
     survives_more first two last one c.stands_in.ensures.survives
 
 pub returns-in_err-push_if-in-Some-clause-survives : goal.returns-in_err-push_if-in-Some-clause-survives
@@ -70,5 +86,7 @@ returns-in_err-push_if-in-Some-clause-survives g c =
     let mid = state g.S.Store c.loop.connection in
     let two = state g.S.Store c.next_in.new.connection in
     let last = state g.S.Store c.stands_in.new.connection in
-    let one = read_then first mid two (result_err c.next_in.result) (ap (λ r. is_sql (result_err r)) c.in_ok-name.was) c.loop.invariant.reads c.next_in.ensures.mode c.next_in.ensures.asks c.next_in.ensures.survives in
+    let one =
+    read_then first mid two (result_err c.next_in.result) (ap (λ r. is_sql (result_err r)) c.in_ok-name.was)
+    c.loop.invariant.reads c.next_in.ensures.mode c.next_in.ensures.asks c.next_in.ensures.survives in
     survives_more first two last one c.stands_in.ensures.survives

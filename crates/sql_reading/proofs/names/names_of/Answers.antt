@@ -17,7 +17,9 @@ returns-in_err-points-clause-survives g c =
     let s0 = state g.S.Store c.args.connection.now in
     let s1 = state g.S.Store c.names_in.new.connection in
     let r0 = read_none s0 in
-    let r1 = read_then s0 s0 s1 (result_err c.names_in.result) (ap (λ r. is_sql (result_err r)) c.in_ok-panels.was) r0 c.names_in.ensures.mode c.names_in.ensures.asks c.names_in.ensures.survives in
+    let r1 =
+    read_then s0 s0 s1 (result_err c.names_in.result) (ap (λ r. is_sql (result_err r)) c.in_ok-panels.was) r0
+    c.names_in.ensures.mode c.names_in.ensures.asks c.names_in.ensures.survives in
     survives_more s0 s1 (state g.S.Store c.names_in-2.new.connection) r1 c.names_in-2.ensures.survives
 
 pub returns-in_err-schedules-clause-survives : goal.returns-in_err-schedules-clause-survives
@@ -26,8 +28,12 @@ returns-in_err-schedules-clause-survives g c =
     let s1 = state g.S.Store c.names_in.new.connection in
     let s2 = state g.S.Store c.names_in-2.new.connection in
     let r0 = read_none s0 in
-    let r1 = read_then s0 s0 s1 (result_err c.names_in.result) (ap (λ r. is_sql (result_err r)) c.in_ok-panels.was) r0 c.names_in.ensures.mode c.names_in.ensures.asks c.names_in.ensures.survives in
-    let r2 = read_then s0 s1 s2 (result_err c.names_in-2.result) (ap (λ r. is_sql (result_err r)) c.in_ok-points.was) r1 c.names_in-2.ensures.mode c.names_in-2.ensures.asks c.names_in-2.ensures.survives in
+    let r1 =
+    read_then s0 s0 s1 (result_err c.names_in.result) (ap (λ r. is_sql (result_err r)) c.in_ok-panels.was) r0
+    c.names_in.ensures.mode c.names_in.ensures.asks c.names_in.ensures.survives in
+    let r2 =
+    read_then s0 s1 s2 (result_err c.names_in-2.result) (ap (λ r. is_sql (result_err r)) c.in_ok-points.was) r1
+    c.names_in-2.ensures.mode c.names_in-2.ensures.asks c.names_in-2.ensures.survives in
     survives_more s0 s2 (state g.S.Store c.names_in-3.new.connection) r2 c.names_in-3.ensures.survives
 
 pub returns-in_err-calendars-clause-survives : goal.returns-in_err-calendars-clause-survives
@@ -37,9 +43,15 @@ returns-in_err-calendars-clause-survives g c =
     let s2 = state g.S.Store c.names_in-2.new.connection in
     let s3 = state g.S.Store c.names_in-3.new.connection in
     let r0 = read_none s0 in
-    let r1 = read_then s0 s0 s1 (result_err c.names_in.result) (ap (λ r. is_sql (result_err r)) c.in_ok-panels.was) r0 c.names_in.ensures.mode c.names_in.ensures.asks c.names_in.ensures.survives in
-    let r2 = read_then s0 s1 s2 (result_err c.names_in-2.result) (ap (λ r. is_sql (result_err r)) c.in_ok-points.was) r1 c.names_in-2.ensures.mode c.names_in-2.ensures.asks c.names_in-2.ensures.survives in
-    let r3 = read_then s0 s2 s3 (result_err c.names_in-3.result) (ap (λ r. is_sql (result_err r)) c.in_ok-schedules.was) r2 c.names_in-3.ensures.mode c.names_in-3.ensures.asks c.names_in-3.ensures.survives in
+    let r1 =
+    read_then s0 s0 s1 (result_err c.names_in.result) (ap (λ r. is_sql (result_err r)) c.in_ok-panels.was) r0
+    c.names_in.ensures.mode c.names_in.ensures.asks c.names_in.ensures.survives in
+    let r2 =
+    read_then s0 s1 s2 (result_err c.names_in-2.result) (ap (λ r. is_sql (result_err r)) c.in_ok-points.was) r1
+    c.names_in-2.ensures.mode c.names_in-2.ensures.asks c.names_in-2.ensures.survives in
+    let r3 =
+    read_then s0 s2 s3 (result_err c.names_in-3.result) (ap (λ r. is_sql (result_err r)) c.in_ok-schedules.was) r2
+    c.names_in-3.ensures.mode c.names_in-3.ensures.asks c.names_in-3.ensures.survives in
     survives_more s0 s3 (state g.S.Store c.names_in-4.new.connection) r3 c.names_in-4.ensures.survives
 
 pub returns-clause-survives : goal.returns-clause-survives
@@ -50,10 +62,18 @@ returns-clause-survives g c =
     let s3 = state g.S.Store c.names_in-3.new.connection in
     let s4 = state g.S.Store c.names_in-4.new.connection in
     let r0 = read_none s0 in
-    let r1 = read_then s0 s0 s1 (result_err c.names_in.result) (ap (λ r. is_sql (result_err r)) c.in_ok-panels.was) r0 c.names_in.ensures.mode c.names_in.ensures.asks c.names_in.ensures.survives in
-    let r2 = read_then s0 s1 s2 (result_err c.names_in-2.result) (ap (λ r. is_sql (result_err r)) c.in_ok-points.was) r1 c.names_in-2.ensures.mode c.names_in-2.ensures.asks c.names_in-2.ensures.survives in
-    let r3 = read_then s0 s2 s3 (result_err c.names_in-3.result) (ap (λ r. is_sql (result_err r)) c.in_ok-schedules.was) r2 c.names_in-3.ensures.mode c.names_in-3.ensures.asks c.names_in-3.ensures.survives in
-    let r4 = read_then s0 s3 s4 (result_err c.names_in-4.result) (ap (λ r. is_sql (result_err r)) c.in_ok-calendars.was) r3 c.names_in-4.ensures.mode c.names_in-4.ensures.asks c.names_in-4.ensures.survives in
+    let r1 =
+    read_then s0 s0 s1 (result_err c.names_in.result) (ap (λ r. is_sql (result_err r)) c.in_ok-panels.was) r0
+    c.names_in.ensures.mode c.names_in.ensures.asks c.names_in.ensures.survives in
+    let r2 =
+    read_then s0 s1 s2 (result_err c.names_in-2.result) (ap (λ r. is_sql (result_err r)) c.in_ok-points.was) r1
+    c.names_in-2.ensures.mode c.names_in-2.ensures.asks c.names_in-2.ensures.survives in
+    let r3 =
+    read_then s0 s2 s3 (result_err c.names_in-3.result) (ap (λ r. is_sql (result_err r)) c.in_ok-schedules.was) r2
+    c.names_in-3.ensures.mode c.names_in-3.ensures.asks c.names_in-3.ensures.survives in
+    let r4 =
+    read_then s0 s3 s4 (result_err c.names_in-4.result) (ap (λ r. is_sql (result_err r)) c.in_ok-calendars.was) r3
+    c.names_in-4.ensures.mode c.names_in-4.ensures.asks c.names_in-4.ensures.survives in
     r4.survives
 
 pub returns-clause-value : goal.returns-clause-value
@@ -64,10 +84,18 @@ returns-clause-value g c clean ours =
     let s3 = state g.S.Store c.names_in-3.new.connection in
     let s4 = state g.S.Store c.names_in-4.new.connection in
     let r0 = read_none s0 in
-    let r1 = read_then s0 s0 s1 (result_err c.names_in.result) (ap (λ r. is_sql (result_err r)) c.in_ok-panels.was) r0 c.names_in.ensures.mode c.names_in.ensures.asks c.names_in.ensures.survives in
-    let r2 = read_then s0 s1 s2 (result_err c.names_in-2.result) (ap (λ r. is_sql (result_err r)) c.in_ok-points.was) r1 c.names_in-2.ensures.mode c.names_in-2.ensures.asks c.names_in-2.ensures.survives in
-    let r3 = read_then s0 s2 s3 (result_err c.names_in-3.result) (ap (λ r. is_sql (result_err r)) c.in_ok-schedules.was) r2 c.names_in-3.ensures.mode c.names_in-3.ensures.asks c.names_in-3.ensures.survives in
-    let r4 = read_then s0 s3 s4 (result_err c.names_in-4.result) (ap (λ r. is_sql (result_err r)) c.in_ok-calendars.was) r3 c.names_in-4.ensures.mode c.names_in-4.ensures.asks c.names_in-4.ensures.survives in
+    let r1 =
+    read_then s0 s0 s1 (result_err c.names_in.result) (ap (λ r. is_sql (result_err r)) c.in_ok-panels.was) r0
+    c.names_in.ensures.mode c.names_in.ensures.asks c.names_in.ensures.survives in
+    let r2 =
+    read_then s0 s1 s2 (result_err c.names_in-2.result) (ap (λ r. is_sql (result_err r)) c.in_ok-points.was) r1
+    c.names_in-2.ensures.mode c.names_in-2.ensures.asks c.names_in-2.ensures.survives in
+    let r3 =
+    read_then s0 s2 s3 (result_err c.names_in-3.result) (ap (λ r. is_sql (result_err r)) c.in_ok-schedules.was) r2
+    c.names_in-3.ensures.mode c.names_in-3.ensures.asks c.names_in-3.ensures.survives in
+    let r4 =
+    read_then s0 s3 s4 (result_err c.names_in-4.result) (ap (λ r. is_sql (result_err r)) c.in_ok-calendars.was) r3
+    c.names_in-4.ensures.mode c.names_in-4.ensures.asks c.names_in-4.ensures.survives in
     let c3 = clean_before s3 s4 c.names_in-4.ensures.survives.clean clean in
     let c2 = clean_before s2 s3 c.names_in-3.ensures.survives.clean c3 in
     let c1 = clean_before s1 s2 c.names_in-2.ensures.survives.clean c2 in
@@ -76,6 +104,9 @@ returns-clause-value g c clean ours =
     let n3 = (r3.sees c3 ours).now in
     all_stand (tables_in (kept_in s0.now.trees)) _
     (c.in_ok-panels.ensures.value c1 ours)
-    (subst (λ d. AreTexts (StandsIn Points (tables_in (kept_in d.trees))) c.in_ok-points.points.items) n1 (c.in_ok-points.ensures.value c2 (subst IsOurs (sym n1) ours)))
-    (subst (λ d. AreTexts (StandsIn Schedules (tables_in (kept_in d.trees))) c.in_ok-schedules.schedules.items) n2 (c.in_ok-schedules.ensures.value c3 (subst IsOurs (sym n2) ours)))
-    (subst (λ d. AreTexts (StandsIn Calendars (tables_in (kept_in d.trees))) c.in_ok-calendars.calendars.items) n3 (c.in_ok-calendars.ensures.value clean (subst IsOurs (sym n3) ours)))
+    (subst (λ d. AreTexts (StandsIn Points (tables_in (kept_in d.trees))) c.in_ok-points.points.items) n1
+    (c.in_ok-points.ensures.value c2 (subst IsOurs (sym n1) ours)))
+    (subst (λ d. AreTexts (StandsIn Schedules (tables_in (kept_in d.trees))) c.in_ok-schedules.schedules.items) n2
+    (c.in_ok-schedules.ensures.value c3 (subst IsOurs (sym n2) ours)))
+    (subst (λ d. AreTexts (StandsIn Calendars (tables_in (kept_in d.trees))) c.in_ok-calendars.calendars.items) n3
+    (c.in_ok-calendars.ensures.value clean (subst IsOurs (sym n3) ours)))

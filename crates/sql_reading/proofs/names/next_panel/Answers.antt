@@ -17,11 +17,17 @@ returns-clause-value g c clean ours =
     let first = state g.S.Store c.args.connection.now in
     let mid = state g.S.Store c.next_numbered_panel.new.connection in
     let last = state g.S.Store c.next_commanding_panel.new.connection in
-    let reads = read_one first mid (result_err c.next_numbered_panel.result) (ap (λ r. is_sql (result_err r)) c.in_ok-numbered.was) c.next_numbered_panel.ensures.mode c.next_numbered_panel.ensures.asks c.next_numbered_panel.ensures.survives in
+    let reads =
+    read_one first mid (result_err c.next_numbered_panel.result) (ap (λ r. is_sql (result_err r)) c.in_ok-numbered.was)
+    c.next_numbered_panel.ensures.mode c.next_numbered_panel.ensures.asks c.next_numbered_panel.ensures.survives in
     let was = clean_before mid last c.next_commanding_panel.ensures.survives.clean clean in
     let saw = reads.sees was ours in
     let kept = kept_in first.now.trees in
     let after = c.args.after.now in
-    let other = subst (λ d. IsNextText (HasName (kept_in d.trees).command) after c.in_ok-commanding.commanding) saw.now (c.in_ok-commanding.ensures.value clean (subst IsOurs (sym saw.now) ours)) in
-    next_fewer (λ name. HasName kept.panel name ⊎ HasName kept.command name) (HasPanel (tables_in kept)) after c.lesser.result (panel_named kept)
-    (next_either (HasName kept.panel) (HasName kept.command) after c.in_ok-numbered.numbered c.in_ok-commanding.commanding c.lesser.result c.lesser.ensures (c.in_ok-numbered.ensures.value was ours) other)
+    let other =
+    subst (λ d. IsNextText (HasName (kept_in d.trees).command) after c.in_ok-commanding.commanding) saw.now
+    (c.in_ok-commanding.ensures.value clean (subst IsOurs (sym saw.now) ours)) in
+    next_fewer (λ name. HasName kept.panel name ⊎ HasName kept.command name) (HasPanel (tables_in kept)) after c.lesser.result
+    (panel_named kept)
+    (next_either (HasName kept.panel) (HasName kept.command) after c.in_ok-numbered.numbered c.in_ok-commanding.commanding
+    c.lesser.result c.lesser.ensures (c.in_ok-numbered.ensures.value was ours) other)

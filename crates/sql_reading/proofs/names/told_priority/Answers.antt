@@ -11,9 +11,11 @@ returns-in-None-clause-value c kept found =
 pub returns-clause-value : goal.returns-clause-value
 returns-clause-value c kept found =
     let some : slice_get c.args.rows.items 0 ≡ Some c.in-Some.row.now = search rules in
-    priority_ok c.args.point.now kept c.args.rows.items c.as_str-name.ensures.is_name found c.count_at.result c.in-Some.row.now _ (first_some c.args.rows.items c.in-Some.row.now some) c.count_at.ensures.value
+    priority_ok c.args.point.now kept c.args.rows.items c.as_str-name.ensures.is_name found c.count_at.result c.in-Some.row.now _
+    (first_some c.args.rows.items c.in-Some.row.now some) c.count_at.ensures.value
 
 pub returns-clause-bad : goal.returns-clause-bad
 returns-clause-bad c kept found =
     let some : slice_get c.args.rows.items 0 ≡ Some c.in-Some.row.now = search rules in
-    priority_err c.args.point.now kept c.args.rows.items c.as_str-name.ensures.is_name found c.count_at.result c.in-Some.row.now _ (first_some c.args.rows.items c.in-Some.row.now some) c.count_at.ensures.bad
+    priority_err c.args.point.now kept c.args.rows.items c.as_str-name.ensures.is_name found c.count_at.result c.in-Some.row.now _
+    (first_some c.args.rows.items c.in-Some.row.now some) c.count_at.ensures.bad

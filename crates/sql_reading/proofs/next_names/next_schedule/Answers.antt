@@ -24,4 +24,5 @@ returns-clause-value g c clean ours =
 pub returns-clause-bad : goal.returns-clause-bad
 returns-clause-bad g c clean ours is =
     bad_schedule (kept_in (state g.S.Store c.args.connection.now).now.trees)
-    (rw is at (c.told_name.ensures.bad (kept_in (state g.S.Store c.args.connection.now).now.trees).shown (c.in_ok-rows.ensures.found clean ours)))
+    (rw is at (c.told_name.ensures.bad (kept_in (state g.S.Store c.args.connection.now).now.trees).shown
+    (c.in_ok-rows.ensures.found clean ours)))

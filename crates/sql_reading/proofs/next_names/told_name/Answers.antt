@@ -12,9 +12,11 @@ returns-in-None-clause-value c table found =
 pub returns-clause-value : goal.returns-clause-value
 returns-clause-value c table found =
     let some : slice_get c.args.rows.items 0 ≡ Some c.in-Some.row.now = search rules in
-    name_some c.args.after.now table c.args.rows.items found c.in-Some.row.now _ _ (first_some c.args.rows.items c.in-Some.row.now some) c.in_ok-name_at-in-Some.ensures.value
+    name_some c.args.after.now table c.args.rows.items found c.in-Some.row.now _ _
+    (first_some c.args.rows.items c.in-Some.row.now some) c.in_ok-name_at-in-Some.ensures.value
 
 pub returns-in_err-name_at-in-Some-clause-bad : goal.returns-in_err-name_at-in-Some-clause-bad
 returns-in_err-name_at-in-Some-clause-bad c table found =
     let some : slice_get c.args.rows.items 0 ≡ Some c.in-Some.row.now = search rules in
-    if_err c.from_residual.result (name_bad c.args.after.now table c.args.rows.items found c.in-Some.row.now _ (first_some c.args.rows.items c.in-Some.row.now some) c.in_err-name_at-in-Some.ensures.bad)
+    if_err c.from_residual.result (name_bad c.args.after.now table c.args.rows.items found c.in-Some.row.now _
+    (first_some c.args.rows.items c.in-Some.row.now some) c.in_err-name_at-in-Some.ensures.bad)

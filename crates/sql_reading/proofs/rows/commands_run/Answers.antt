@@ -19,7 +19,8 @@ returns-in-None-clause-value g c clean ours =
     let rows = (tables_in (kept_in first.now.trees)).row c.args.panel.now in
     let ends = c.in_ok-found.ensures.value clean (subst IsOurs (sym saw.now) ours) in
     run_ends rows c.args.from c.args.upto c.loop.number c.loop.rows.items (c.loop.invariant.far was ours)
-    (subst (λ d. GoesOn ((tables_in (kept_in d.trees)).row c.args.panel.now) c.loop.number c.args.upto None) saw.now (rw c.in-None.is at ends))
+    (subst (λ d. GoesOn ((tables_in (kept_in d.trees)).row c.args.panel.now) c.loop.number c.args.upto None) saw.now
+    (rw c.in-None.is at ends))
 
 pub loop-preserved : goal.loop-preserved
 loop-preserved g c =
@@ -27,13 +28,17 @@ loop-preserved g c =
     let mid = state g.S.Store c.loop.connection in
     let last = state g.S.Store c.next_in_run.new.connection in
     record {
-      reads = read_then first mid last (result_err c.next_in_run.result) (ap (λ r. is_sql (result_err r)) c.in_ok-found.was) c.loop.invariant.reads c.next_in_run.ensures.mode c.next_in_run.ensures.asks c.next_in_run.ensures.survives;
+      reads =
+          read_then first mid last (result_err c.next_in_run.result) (ap (λ r. is_sql (result_err r)) c.in_ok-found.was)
+          c.loop.invariant.reads c.next_in_run.ensures.mode c.next_in_run.ensures.asks c.next_in_run.ensures.survives;
       far = λ clean ours.
           let was = clean_before mid last c.next_in_run.ensures.survives.clean clean in
           let saw = c.loop.invariant.reads.sees was ours in
           let rows = (tables_in (kept_in first.now.trees)).row c.args.panel.now in
           let told = c.in_ok-found.ensures.value clean (subst IsOurs (sym saw.now) ours) in
-          so_far_more rows c.args.from c.args.upto c.loop.number c.in-Some.found c.loop.rows.items c.push.new.list.items (c.loop.invariant.far was ours)
-          (subst (λ d. GoesOn ((tables_in (kept_in d.trees)).row c.args.panel.now) c.loop.number c.args.upto (Some c.in-Some.found)) saw.now (rw c.in-Some.is at told))
+          so_far_more rows c.args.from c.args.upto c.loop.number c.in-Some.found c.loop.rows.items c.push.new.list.items
+          (c.loop.invariant.far was ours)
+          (subst (λ d. GoesOn ((tables_in (kept_in d.trees)).row c.args.panel.now) c.loop.number c.args.upto (Some c.in-Some.found))
+          saw.now (rw c.in-Some.is at told))
           c.in_ok-push-in-Some.ensures.items;
     }

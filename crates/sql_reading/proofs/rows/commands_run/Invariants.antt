@@ -13,5 +13,6 @@ invariant-loop g l =
     let here = state g.S.Store l.connection in
     record {
       reads : HasRead first here;
-      far : HasCleanDisk here → IsOurs first.now → AreSoFar ((tables_in (kept_in first.now.trees)).row l.panel) l.from l.upto l.number l.rows.items;
+      far : HasCleanDisk here → IsOurs first.now
+          → AreSoFar ((tables_in (kept_in first.now.trees)).row l.panel) l.from l.upto l.number l.rows.items;
     }

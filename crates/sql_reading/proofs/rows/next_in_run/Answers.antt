@@ -12,4 +12,5 @@ returns-then-from-gt-GREATEST_NUMBER-clause-value g c clean ours =
 
 pub returns-clause-value : goal.returns-clause-value
 returns-clause-value g c clean ours =
-    c.unless_past.ensures.value ((tables_in (kept_in (state g.S.Store c.args.connection.now).now.trees)).row c.args.panel.now) (c.in_ok-found.ensures.value clean ours)
+    c.unless_past.ensures.value ((tables_in (kept_in (state g.S.Store c.args.connection.now).now.trees)).row c.args.panel.now)
+    (c.in_ok-found.ensures.value clean ours)

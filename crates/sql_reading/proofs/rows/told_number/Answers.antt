@@ -11,9 +11,11 @@ returns-in-None-clause-value c kept found =
 pub returns-clause-value : goal.returns-clause-value
 returns-clause-value c kept found =
     let some : slice_get c.args.rows.items 0 ≡ Some c.in-Some.row.now = search rules in
-    told_some c.args.panel.now c.args.from kept c.args.rows.items c.as_str-name.ensures.is_name found c.in-Some.row.now _ _ (first_some c.args.rows.items c.in-Some.row.now some) c.in_ok-count_at-in-Some.ensures.value
+    told_some c.args.panel.now c.args.from kept c.args.rows.items c.as_str-name.ensures.is_name found c.in-Some.row.now _ _
+    (first_some c.args.rows.items c.in-Some.row.now some) c.in_ok-count_at-in-Some.ensures.value
 
 pub returns-in_err-count_at-in-Some-clause-bad : goal.returns-in_err-count_at-in-Some-clause-bad
 returns-in_err-count_at-in-Some-clause-bad c kept found =
     let some : slice_get c.args.rows.items 0 ≡ Some c.in-Some.row.now = search rules in
-    if_err c.from_residual.result (told_bad c.args.panel.now c.args.from kept c.args.rows.items c.as_str-name.ensures.is_name found c.in-Some.row.now _ (first_some c.args.rows.items c.in-Some.row.now some) c.in_err-count_at-in-Some.ensures.bad)
+    if_err c.from_residual.result (told_bad c.args.panel.now c.args.from kept c.args.rows.items c.as_str-name.ensures.is_name found
+    c.in-Some.row.now _ (first_some c.args.rows.items c.in-Some.row.now some) c.in_err-count_at-in-Some.ensures.bad)

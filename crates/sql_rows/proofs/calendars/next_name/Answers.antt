@@ -5,15 +5,20 @@ use Rattle.sql_rows.proofs.RestLemmas.{ours_survives, plain_here}
 use Rattle.sql_rows.proofs.calendars.next_name.Goals as goal
 
 pub returns-clause-same : goal.returns-clause-same
-returns-clause-same g c clean ours = c.look.ensures.same clean (plain_here next_name_text (state g.S.Store c.args.connection.now) ours next_name_plain)
+returns-clause-same g c clean ours =
+    c.look.ensures.same clean (plain_here next_name_text (state g.S.Store c.args.connection.now) ours next_name_plain)
 
 pub returns-clause-rests : goal.returns-clause-rests
-returns-clause-rests g c clean ours = c.look.ensures.rests clean (plain_here next_name_text (state g.S.Store c.args.connection.now) ours next_name_plain)
+returns-clause-rests g c clean ours =
+    c.look.ensures.rests clean (plain_here next_name_text (state g.S.Store c.args.connection.now) ours next_name_plain)
 
 pub returns-clause-found : goal.returns-clause-found
 returns-clause-found g c clean ours =
-    next_name_shown (λ v. v.items) c.args.after.now (state g.S.Store c.args.connection.now) (state g.S.Store c.look.new.connection) c.look.result ours
+    next_name_shown (λ v. v.items) c.args.after.now (state g.S.Store c.args.connection.now) (state g.S.Store c.look.new.connection)
+    c.look.result ours
     (rw (c.words.ensures) at (c.look.ensures.shown clean))
 
 pub returns-clause-survives : goal.returns-clause-survives
-returns-clause-survives g c = ours_survives next_name_text (state g.S.Store c.args.connection.now) (state g.S.Store c.look.new.connection) next_name_plain c.look.ensures.survives
+returns-clause-survives g c =
+    ours_survives next_name_text (state g.S.Store c.args.connection.now) (state g.S.Store c.look.new.connection) next_name_plain
+    c.look.ensures.survives

@@ -10,7 +10,8 @@ pub returns-clause-done : goal.returns-clause-done
 returns-clause-done g c clean inside =
     let priority : to_z w64 (of_z w64 c.args.content.now.priority) ≡ c.args.content.now.priority = search rules in
     let code : to_z w64 (of_z w64 c.args.cells.now.code) ≡ c.args.cells.now.code = search rules in
-    adds c.args.panel.now c.args.number c.args.content.now.point c.args.content.now.priority c.args.content.now.value c.args.cells.now.code c.args.cells.now.a c.args.cells.now.b
+    adds c.args.panel.now c.args.number c.args.content.now.point c.args.content.now.priority c.args.content.now.value
+    c.args.cells.now.code c.args.cells.now.a c.args.cells.now.b
     (state g.S.Store c.args.transaction.now.conn.now) (state g.S.Store c.run.new.transaction.conn.now) c.run.result inside
     (rw (
       c.text.ensures,
@@ -30,4 +31,5 @@ returns-clause-done g c clean inside =
 
 pub returns-clause-refused : goal.returns-clause-refused
 returns-clause-refused g c clean inside is =
-    refused_inside _ _ (state g.S.Store c.args.transaction.now.conn.now) (state g.S.Store c.run.new.transaction.conn.now) c.run.result inside.in_transaction (c.run.ensures.runs clean inside.in_transaction) is
+    refused_inside _ _ (state g.S.Store c.args.transaction.now.conn.now) (state g.S.Store c.run.new.transaction.conn.now)
+    c.run.result inside.in_transaction (c.run.ensures.runs clean inside.in_transaction) is

@@ -5,13 +5,16 @@ use Rattle.sql_rows.proofs.looking.look.Goals as goal
 
 pub returns-clause-same : goal.returns-clause-same
 returns-clause-same g c clean plain =
-    look_same (λ v. v.items) c.args.sql.now (bound c.args.params.now) (state g.S.Store c.args.connection.now) (state g.S.Store c.query_all.new.self) plain c.query_all.result (c.query_all.ensures.ok clean)
+    look_same (λ v. v.items) c.args.sql.now (bound c.args.params.now) (state g.S.Store c.args.connection.now)
+    (state g.S.Store c.query_all.new.self) plain c.query_all.result (c.query_all.ensures.ok clean)
 
 pub returns-clause-rests : goal.returns-clause-rests
 returns-clause-rests g c clean plain =
-    look_rests (λ v. v.items) c.args.sql.now (bound c.args.params.now) (state g.S.Store c.args.connection.now) (state g.S.Store c.query_all.new.self) plain c.query_all.result
+    look_rests (λ v. v.items) c.args.sql.now (bound c.args.params.now) (state g.S.Store c.args.connection.now)
+    (state g.S.Store c.query_all.new.self) plain c.query_all.result
     (c.query_all.ensures.ok clean) (c.query_all.ensures.err clean)
 
 pub returns-clause-survives : goal.returns-clause-survives
 returns-clause-survives g c =
-    look_survives c.args.sql.now (bound c.args.params.now) (state g.S.Store c.args.connection.now) (state g.S.Store c.query_all.new.self) c.query_all.ensures.survives
+    look_survives c.args.sql.now (bound c.args.params.now) (state g.S.Store c.args.connection.now)
+    (state g.S.Store c.query_all.new.self) c.query_all.ensures.survives

@@ -7,6 +7,8 @@ use Rattle.sql_rows.proofs.putting.put_imported.Goals as goal
 pub returns-clause-steps : goal.returns-clause-steps
 returns-clause-steps g c =
     two_statements _ _ _ (state g.S.Store c.args.transaction.now.conn.now) (state g.S.Store c.clear.new.transaction.conn.now)
-    (state g.S.Store c.add.new.transaction.conn.now) _ (λ k l m. imported_made k l m c.args.item.now c.as_str-text.result.now (c.as_str-text.ensures.value ∙ c.in_ok-entry.ensures.value) c.as_str-name.ensures.is_name c.in_ok-entry.ensures.range)
+    (state g.S.Store c.add.new.transaction.conn.now) _
+    (λ k l m. imported_made k l m c.args.item.now c.as_str-text.result.now
+    (c.as_str-text.ensures.value ∙ c.in_ok-entry.ensures.value) c.as_str-name.ensures.is_name c.in_ok-entry.ensures.range)
     c.in_ok-clear.ensures.done c.in_ok-clear.ensures.kept c.in_ok-clear.ensures.survives
     c.in_ok-add.ensures.done c.in_ok-add.ensures.kept c.in_ok-add.ensures.survives

@@ -10,7 +10,8 @@ returns-in_ok-add-clause-steps g c =
     let whole : to_z w64 (of_z w64 c.in-Some.value) ≡ c.in-Some.value = search rules in
     two_statements _ _ _ (state g.S.Store c.args.transaction.now.conn.now) (state g.S.Store c.set.new.transaction.conn.now)
     (state g.S.Store c.add.new.transaction.conn.now) _
-    (place_added c.args.item.now c.in-Some.value c.in-Some.is c.as_str-name.ensures.is_name c.requires c.in_ok-set.field-0 c.if-branch-eq0.true)
+    (place_added c.args.item.now c.in-Some.value c.in-Some.is c.as_str-name.ensures.is_name c.requires c.in_ok-set.field-0
+    c.if-branch-eq0.true)
     (rw whole at c.in_ok-set.ensures.done) c.in_ok-set.ensures.kept c.in_ok-set.ensures.survives
     (rw whole at c.in_ok-add.ensures.done) c.in_ok-add.ensures.kept c.in_ok-add.ensures.survives
 
@@ -18,7 +19,8 @@ pub returns-else-branch-eq0-clause-steps : goal.returns-else-branch-eq0-clause-s
 returns-else-branch-eq0-clause-steps g c =
     let whole : to_z w64 (of_z w64 c.in-Some.value) ≡ c.in-Some.value = search rules in
     one_statement _ _ (state g.S.Store c.args.transaction.now.conn.now) (state g.S.Store c.set.new.transaction.conn.now) _
-    (place_set c.args.item.now c.in-Some.value c.in-Some.is c.as_str-name.ensures.is_name c.requires c.in_ok-set.field-0 c.if-branch-eq0.false)
+    (place_set c.args.item.now c.in-Some.value c.in-Some.is c.as_str-name.ensures.is_name c.requires c.in_ok-set.field-0
+    c.if-branch-eq0.false)
     (rw whole at c.in_ok-set.ensures.done) c.in_ok-set.ensures.kept c.in_ok-set.ensures.survives
 
 pub returns-in_default-clause-steps : goal.returns-in_default-clause-steps

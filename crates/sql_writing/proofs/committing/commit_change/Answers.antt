@@ -15,9 +15,12 @@ returns-clause-survives g c =
     let mid = c.write.new.transaction.conn.now in
     let change = c.args.change.now in
     let same : c.commit-told.new.self.0 ≡ c.connection-2-1.given.0 = search rules in
-    let P = λ (trees : Trees). IsOurs (state g.S.Store old).now → Makes (with_change change) (kept_in (state g.S.Store old).now.trees) (kept_in trees) in
+    let P =
+    λ (trees : Trees). IsOurs (state g.S.Store old).now
+    → Makes (with_change change) (kept_in (state g.S.Store old).now.trees) (kept_in trees) in
     subst (λ h. Survives (state g.S.Store old) (state g.S.Store h) P) same
-    (survives_whole g.S.Store old mid c.commit-told.new.self.0 change _ (rw c.transaction-transaction.ensures.begun at c.in_ok-write.ensures.steps)
+    (survives_whole g.S.Store old mid c.commit-told.new.self.0 change _
+    (rw c.transaction-transaction.ensures.begun at c.in_ok-write.ensures.steps)
     c.commit-told.ensures.survives)
 
 pub returns-clause-undone : goal.returns-clause-undone
@@ -32,5 +35,6 @@ returns-clause-undone g c clean is_open =
     let outside : IsTrue c.is_autocommit-settled.result = c.is_autocommit-settled.ensures.value ∙ ap not ended in
     not_committed g.S.Store old mid new c.commit-told.result
     (rw c.transaction-transaction.ensures.begun at (c.in_ok-write.ensures.steps.kept clean'))
-    (subst (λ h. IfErr c.commit-told.result (FailsToCommit (state g.S.Store mid) (state g.S.Store h))) same (c.commit-told.ensures.err late))
+    (subst (λ h. IfErr c.commit-told.result (FailsToCommit (state g.S.Store mid) (state g.S.Store h))) same
+    (c.commit-told.ensures.err late))
     (c.is_autocommit-settled.ensures.settled outside) is_open

@@ -20,5 +20,6 @@ returns-clause-steps g c =
     let second = with_each row_put change.rows.items in
     let both = λ (t : Tables). second (first t) in
     turns_then both (with_each rows_dropped change.dropped.items) (with_commands change) old last new _ _ (λ t. refl)
-    (turns_then first second both old mid last _ _ (λ t. refl) (rw same_nexts at c.in_ok-put_nexts.ensures.steps) (rw same_rows at c.in_ok-put_rows.ensures.steps))
+    (turns_then first second both old mid last _ _ (λ t. refl) (rw same_nexts at c.in_ok-put_nexts.ensures.steps)
+    (rw same_rows at c.in_ok-put_rows.ensures.steps))
     (rw same_dropped at c.drop_all.ensures.steps)

@@ -11,12 +11,17 @@ pub returns : goal.returns
 returns g c = λ earlier opens honest.
     let same : c.in_ok-desk.desk.building ≡ c.args.building = c.in_ok-desk.ensures.building in
     let honest_now = subst (λ s. (g.S.Store.standing s).is_honest) c.into_store-store.ensures honest in
-    let held = c.in_ok-desk.ensures.holds earlier opens (at_ok c.deliver-told.result _ c.in_ok-reply.was c.deliver-told.ensures.honest honest_now) in
+    let held =
+    c.in_ok-desk.ensures.holds earlier opens (at_ok c.deliver-told.result _ c.in_ok-reply.was c.deliver-told.ensures.honest
+    honest_now) in
     let told = at_ok c.deliver-told.result _ c.in_ok-reply.was c.deliver-told.ensures.answers earlier honest_now
     (subst (λ (b : Building). Holds b earlier (g.S.Store.standing c.in_ok-desk.desk.store)) (sym same) held) in
     record {
-      printed = subst (λ (b : Building). Appends (g.W.Write.contents c.args.out.now) (g.W.Write.contents c.deliver-told.new.out) (reply_line (reply b earlier c.args.delivery.now)))
+      printed =
+          subst (λ (b : Building). Appends (g.W.Write.contents c.args.out.now) (g.W.Write.contents c.deliver-told.new.out)
+          (reply_line (reply b earlier c.args.delivery.now)))
           same told.printed;
       holds = subst (λ (b : Building). Holds b (earlier ++ c.args.delivery.now ∷ []) (g.S.Store.standing c.into_store-store.result)) same
-          (subst (λ s. Holds c.in_ok-desk.desk.building (earlier ++ c.args.delivery.now ∷ []) (g.S.Store.standing s)) (sym c.into_store-store.ensures) told.holds);
+          (subst (λ s. Holds c.in_ok-desk.desk.building (earlier ++ c.args.delivery.now ∷ []) (g.S.Store.standing s))
+          (sym c.into_store-store.ensures) told.holds);
     }

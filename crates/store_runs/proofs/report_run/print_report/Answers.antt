@@ -9,9 +9,13 @@ pub returns : goal.returns
 returns g c = λ earlier opens honest.
     let same : c.in_ok-desk.desk.building ≡ c.args.building = c.in_ok-desk.ensures.building in
     let honest_now = subst (λ s. (g.S.Store.standing s).is_honest) c.into_store-store.ensures honest in
-    let held = c.in_ok-desk.ensures.holds earlier opens (at_ok c.print_day-told.result _ c.in_ok-told.was c.print_day-told.ensures.honest honest_now) in
+    let held =
+    c.in_ok-desk.ensures.holds earlier opens (at_ok c.print_day-told.result _ c.in_ok-told.was c.print_day-told.ensures.honest
+    honest_now) in
     let told = at_ok c.print_day-told.result _ c.in_ok-told.was c.print_day-told.ensures.reports earlier honest_now
     (subst (λ (b : Building). Holds b earlier (g.S.Store.standing c.in_ok-desk.desk.store)) (sym same) held) in
-    subst (λ s. Reports c.args.building earlier c.args.day (g.S.Store.standing s) (g.W.Write.contents c.args.out.now) (g.W.Write.contents c.print_day-told.new.out))
+    subst (λ s. Reports c.args.building earlier c.args.day (g.S.Store.standing s) (g.W.Write.contents c.args.out.now)
+    (g.W.Write.contents c.print_day-told.new.out))
     (sym c.into_store-store.ensures)
-    (subst (λ (b : Building). Reports b earlier c.args.day (g.S.Store.standing c.print_day-told.new.desk.store) (g.W.Write.contents c.args.out.now) (g.W.Write.contents c.print_day-told.new.out)) same told)
+    (subst (λ (b : Building). Reports b earlier c.args.day (g.S.Store.standing c.print_day-told.new.desk.store)
+    (g.W.Write.contents c.args.out.now) (g.W.Write.contents c.print_day-told.new.out)) same told)

@@ -6,6 +6,13 @@ use Rattle.store_sql.proofs.asking.finds_none.Goals as goal
 
 pub returns-clause-asks : goal.returns-clause-asks
 returns-clause-asks g c =
-    looked (FindsNone c.args.sql.now) c.args.sql.now c.requires (state g.S.Store c.args.connection.now) (state g.S.Store c.look.new.connection) c.is_empty.result c.in_ok-look.field-0.items
-    (λ compiled is read. record { compiled = compiled; is = is; rows = c.in_ok-look.field-0.items; read = read; told = empty_told c.in_ok-look.field-0.items _ c.is_empty.result c.in_ok-look.field-0.ok.0 c.is_empty.ensures })
+    looked (FindsNone c.args.sql.now) c.args.sql.now c.requires (state g.S.Store c.args.connection.now)
+    (state g.S.Store c.look.new.connection) c.is_empty.result c.in_ok-look.field-0.items
+    (λ compiled is read. record {
+      compiled = compiled;
+      is = is;
+      rows = c.in_ok-look.field-0.items;
+      read = read;
+      told = empty_told c.in_ok-look.field-0.items _ c.is_empty.result c.in_ok-look.field-0.ok.0 c.is_empty.ensures;
+    })
     c.in_ok-look.ensures.shown c.in_ok-look.ensures.same c.in_ok-look.ensures.rests c.in_ok-look.ensures.survives

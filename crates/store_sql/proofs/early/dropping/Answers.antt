@@ -15,7 +15,10 @@ returns-clause-value g c clean ours =
     let new = state g.S.Store c.early_of.new.connection in
     let was = clean_before mid new c.in_ok-change.ensures.survives.clean clean in
     let saw = answered_sees old mid (c.in_ok-names.ensures.asks was ours) in
-    let early = subst (λ d. c.in_ok-change.field-0.items ≡ map (early_rows (tables_in (kept_in d.trees)).next) c.deref.result.now) saw.now (c.in_ok-change.ensures.value clean (subst IsOurs (sym saw.now) ours)) in
+    let early =
+    subst (λ d. c.in_ok-change.field-0.items ≡ map (early_rows (tables_in (kept_in d.trees)).next) c.deref.result.now) saw.now
+    (c.in_ok-change.ensures.value clean (subst IsOurs (sym saw.now) ours)) in
     let made = c.new-change.ensures in
-    drops_early (tables_in (kept_in old.now.trees)) c.in_ok-names.names.panels.items (c.in_ok-names.ensures.value was ours).panels _ made.nexts made.rows (rw c.deref.ensures.value at early)
+    drops_early (tables_in (kept_in old.now.trees)) c.in_ok-names.names.panels.items (c.in_ok-names.ensures.value was ours).panels _
+    made.nexts made.rows (rw c.deref.ensures.value at early)
     made.places made.shown made.imported made.last_tick

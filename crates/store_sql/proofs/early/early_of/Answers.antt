@@ -18,13 +18,19 @@ loop-panel-preserved g c =
     let panel = c.panel-item.result in
     let so_far = c.loop-panel.dropped.items in
     record {
-      reads = read_then first mid last (result_err c.next_of.result) (ap (λ r. is_sql (result_err r)) c.in_ok-next_of.was) c.loop-panel.invariant.reads c.next_of.ensures.mode c.next_of.ensures.asks c.next_of.ensures.survives;
+      reads =
+          read_then first mid last (result_err c.next_of.result) (ap (λ r. is_sql (result_err r)) c.in_ok-next_of.was)
+          c.loop-panel.invariant.reads c.next_of.ensures.mode c.next_of.ensures.asks c.next_of.ensures.survives;
       far = λ clean ours.
           let was = clean_before mid last c.next_of.ensures.survives.clean clean in
           let saw = c.loop-panel.invariant.reads.sees was ours in
           let next = (tables_in (kept_in first.now.trees)).next in
-          let told : c.in_ok-next_of.field-0 ≡ next panel = subst (λ d. c.in_ok-next_of.field-0 ≡ (tables_in (kept_in d.trees)).next panel) saw.now (c.in_ok-next_of.ensures.value clean (subst IsOurs (sym saw.now) ours)) in
-          far_more next c.args.panels.now c.loop-panel.panel-index panel so_far c.push.new.list.items below c.panel-item.is (c.loop-panel.invariant.far was ours)
+          let told : c.in_ok-next_of.field-0 ≡ next panel =
+          subst (λ d. c.in_ok-next_of.field-0 ≡ (tables_in (kept_in d.trees)).next panel) saw.now
+          (c.in_ok-next_of.ensures.value clean (subst IsOurs (sym saw.now) ours)) in
+          far_more next c.args.panels.now c.loop-panel.panel-index panel so_far c.push.new.list.items below c.panel-item.is
+          (c.loop-panel.invariant.far was ours)
           (c.in_ok-push.ensures.items
-          ∙ ap (λ (n : ℕ). so_far ++ (let it : RowsBelow = record { panel = panel; number = n } in it) ∷ []) (c.saturating_sub-number.ensures ∙ ap (λ n. n - 1_000) told));
+          ∙ ap (λ (n : ℕ). so_far ++ (let it : RowsBelow = record { panel = panel; number = n } in it) ∷ [])
+          (c.saturating_sub-number.ensures ∙ ap (λ n. n - 1_000) told));
     }

@@ -15,5 +15,6 @@ invariant-loop-panel g l =
     record {
       reads : HasRead first here;
       far : HasCleanDisk here → IsOurs first.now
-          → l.dropped.items ++ map (early_rows (tables_in (kept_in first.now.trees)).next) (drop l.panel-index l.panels) ≡ map (early_rows (tables_in (kept_in first.now.trees)).next) l.panels;
+          → l.dropped.items ++ map (early_rows (tables_in (kept_in first.now.trees)).next) (drop l.panel-index l.panels)
+          ≡ map (early_rows (tables_in (kept_in first.now.trees)).next) l.panels;
     }

@@ -9,7 +9,11 @@ returns-clause-steps g c =
     let old = c.args.transaction.now.conn.now in
     let new = c.execute.new.self.conn.now in
     record {
-      done = λ clean inside. sets_version (state g.S.Store old) (state g.S.Store new) c.execute.result inside (c.execute.ensures.runs clean inside.in_transaction);
-      kept = λ clean. execution_keeps g.S.Store old new set_version_text _ c.execute.result c.execute.ensures.ended (c.execute.ensures.runs clean);
+      done =
+          λ clean inside. sets_version (state g.S.Store old) (state g.S.Store new) c.execute.result inside
+          (c.execute.ensures.runs clean inside.in_transaction);
+      kept =
+          λ clean. execution_keeps g.S.Store old new set_version_text _ c.execute.result c.execute.ensures.ended
+          (c.execute.ensures.runs clean);
       survives = c.execute.ensures.survives;
     }

@@ -17,5 +17,7 @@ neither_finds-requires-clause-second g c = command_apart_askable
 
 pub returns-clause-asks : goal.returns-clause-asks
 returns-clause-asks g c =
-    asks_as (Joins (FindsNone command_numbered_text) (FindsNone command_apart_text)) (TellsOf command_tree (AreOwn (1 ∷ 2 ∷ []))) command_told
-    (state g.S.Store c.args.connection.now) (state g.S.Store c.neither_finds.new.connection) c.neither_finds.result c.neither_finds.ensures.asks
+    asks_as (Joins (FindsNone command_numbered_text) (FindsNone command_apart_text)) (TellsOf command_tree (AreOwn (1 ∷ 2 ∷ [])))
+    command_told
+    (state g.S.Store c.args.connection.now) (state g.S.Store c.neither_finds.new.connection) c.neither_finds.result
+    c.neither_finds.ensures.asks

@@ -10,11 +10,14 @@ use Rattle.store_sql.proofs.tables.desk_is_alone.Goals as goal
 
 pub returns-in_err-look-clause-asks : goal.returns-in_err-look-clause-asks
 returns-in_err-look-clause-asks g c =
-    look_failed (TellsOf desk_tree IsAlone) find_text find_askable (state g.S.Store c.args.connection.now) (state g.S.Store c.look.new.connection) c.from_residual.result c.from_residual.ensures.0
+    look_failed (TellsOf desk_tree IsAlone) find_text find_askable (state g.S.Store c.args.connection.now)
+    (state g.S.Store c.look.new.connection) c.from_residual.result c.from_residual.ensures.0
     c.in_err-look.ensures.rests c.in_err-look.ensures.survives
 
 pub returns-clause-asks : goal.returns-clause-asks
 returns-clause-asks g c =
-    looked (TellsOf desk_tree IsAlone) find_text find_askable (state g.S.Store c.args.connection.now) (state g.S.Store c.look.new.connection) _ c.in_ok-look.field-0.items
-    (alone_told c.in_ok-look.field-0.items c.len.result (c.len.ensures ∙ c.in_ok-look.field-0.ok.0) (state g.S.Store c.args.connection.now).now)
+    looked (TellsOf desk_tree IsAlone) find_text find_askable (state g.S.Store c.args.connection.now)
+    (state g.S.Store c.look.new.connection) _ c.in_ok-look.field-0.items
+    (alone_told c.in_ok-look.field-0.items c.len.result (c.len.ensures ∙ c.in_ok-look.field-0.ok.0)
+    (state g.S.Store c.args.connection.now).now)
     c.in_ok-look.ensures.shown c.in_ok-look.ensures.same c.in_ok-look.ensures.rests c.in_ok-look.ensures.survives

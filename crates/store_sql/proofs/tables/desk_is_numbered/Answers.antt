@@ -13,5 +13,6 @@ finds_none-requires g c = desk_numbered_askable
 
 pub returns-clause-asks : goal.returns-clause-asks
 returns-clause-asks g c =
-    asks_as (FindsNone desk_numbered_text) (TellsOf desk_tree AreNumbered) (λ none db fit h. numbered_told desk_numbered_text desk_tree desk_numbered_is none db h)
+    asks_as (FindsNone desk_numbered_text) (TellsOf desk_tree AreNumbered)
+    (λ none db fit h. numbered_told desk_numbered_text desk_tree desk_numbered_is none db h)
     (state g.S.Store c.args.connection.now) (state g.S.Store c.finds_none.new.connection) c.finds_none.result c.finds_none.ensures.asks

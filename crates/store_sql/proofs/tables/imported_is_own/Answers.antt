@@ -17,5 +17,7 @@ neither_finds-requires-clause-second g c = imported_apart_askable
 
 pub returns-clause-asks : goal.returns-clause-asks
 returns-clause-asks g c =
-    asks_as (Joins (FindsNone imported_numbered_text) (FindsNone imported_apart_text)) (TellsOf imported_tree (AreOwn (1 ∷ 2 ∷ []))) imported_told
-    (state g.S.Store c.args.connection.now) (state g.S.Store c.neither_finds.new.connection) c.neither_finds.result c.neither_finds.ensures.asks
+    asks_as (Joins (FindsNone imported_numbered_text) (FindsNone imported_apart_text)) (TellsOf imported_tree (AreOwn (1 ∷ 2 ∷ [])))
+    imported_told
+    (state g.S.Store c.args.connection.now) (state g.S.Store c.neither_finds.new.connection) c.neither_finds.result
+    c.neither_finds.ensures.asks

@@ -18,4 +18,5 @@ neither_finds-requires-clause-second g c = panel_apart_askable
 pub returns-clause-asks : goal.returns-clause-asks
 returns-clause-asks g c =
     asks_as (Joins (FindsNone panel_numbered_text) (FindsNone panel_apart_text)) (TellsOf panel_tree (AreOwn (1 ∷ []))) panel_told
-    (state g.S.Store c.args.connection.now) (state g.S.Store c.neither_finds.new.connection) c.neither_finds.result c.neither_finds.ensures.asks
+    (state g.S.Store c.args.connection.now) (state g.S.Store c.neither_finds.new.connection) c.neither_finds.result
+    c.neither_finds.ensures.asks

@@ -18,4 +18,5 @@ neither_finds-requires-clause-second g c = place_apart_askable
 pub returns-clause-asks : goal.returns-clause-asks
 returns-clause-asks g c =
     asks_as (Joins (FindsNone place_numbered_text) (FindsNone place_apart_text)) (TellsOf place_tree (AreOwn (1 ∷ 2 ∷ []))) place_told
-    (state g.S.Store c.args.connection.now) (state g.S.Store c.neither_finds.new.connection) c.neither_finds.result c.neither_finds.ensures.asks
+    (state g.S.Store c.args.connection.now) (state g.S.Store c.neither_finds.new.connection) c.neither_finds.result
+    c.neither_finds.ensures.asks

@@ -18,4 +18,5 @@ neither_finds-requires-clause-second g c = shown_apart_askable
 pub returns-clause-asks : goal.returns-clause-asks
 returns-clause-asks g c =
     asks_as (Joins (FindsNone shown_numbered_text) (FindsNone shown_apart_text)) (TellsOf shown_tree (AreOwn (1 ∷ []))) shown_told
-    (state g.S.Store c.args.connection.now) (state g.S.Store c.neither_finds.new.connection) c.neither_finds.result c.neither_finds.ensures.asks
+    (state g.S.Store c.args.connection.now) (state g.S.Store c.neither_finds.new.connection) c.neither_finds.result
+    c.neither_finds.ensures.asks

@@ -15,7 +15,8 @@ returns-in_ok-push-in-Applies c = IfOk-weaker c.drained.result _ _
     let said = c.verdict_on-verdict.ensures t shows in
     let at_front = at_front-applies t number content view.asked (sym said ∙ c.in-Applies.is) in
     let run = IsRun-command t number content shows.rows view.run at_front shows.run in
-    Plans-drained t (Command number content) view.asked plan (number + 1) _ (record { number = number; content = content } ∷ []) _ view.run _ is
+    Plans-drained t (Command number content) view.asked plan (number + 1) _ (record { number = number; content = content } ∷ []) _
+    view.run _ is
     (first_pushed c.new-contents.result.items _ c.numbered.result _
     c.in_ok-push-in-Applies.ensures.items c.new-contents.ensures.items c.numbered.ensures)
     c.as_slice.ensures

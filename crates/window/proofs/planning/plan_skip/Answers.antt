@@ -32,6 +32,7 @@ unfolding window
 returns-else-upto-view-le-WINDOW c = λ asks shows.
     let t = taken opening asks in
     let front = shows.next in
-    Plans-told t (Skip c.args.upto) c.args.view.now.asked c.unchanged-else-upto-view-le-WINDOW.result _ c.unchanged-else-upto-view-le-WINDOW.ensures
+    Plans-told t (Skip c.args.upto) c.args.view.now.asked c.unchanged-else-upto-view-le-WINDOW.result _
+    c.unchanged-else-upto-view-le-WINDOW.ensures
     (Plans-from_front t (Skip c.args.upto) c.args.view.now.asked c.args.view.now.next _ _ _ shows.next
     (Plans-too_far t c.args.upto c.args.view.now.asked (omega arith)))

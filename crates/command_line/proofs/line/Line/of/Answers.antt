@@ -32,7 +32,8 @@ returns-in-Ok-clause-asks c =
     let words : List Text = map string_bytes c.args.words.now in
     let rows : subcommand_rows_of c.in-Ok.matches ≡ subcommand_of desk_app words =
     (c.in-Ok.ensures.matches (ap is_simple app_is)).1 ∙ ap (λ (app : App). subcommand_of app words) app_is in
-    of_told words c.ok_or.result (ap (option_map asked_of) (sym c.ok_or.ensures.ok_part) ∙ c.line_in.ensures ∙ ap (option_and_then asked_in) rows)
+    of_told words c.ok_or.result (ap (option_map asked_of) (sym c.ok_or.ensures.ok_part) ∙ c.line_in.ensures
+    ∙ ap (option_and_then asked_in) rows)
 
 pub returns-in-Err-clause-refuses : goal.returns-in-Err-clause-refuses
 returns-in-Err-clause-refuses c =

@@ -38,7 +38,8 @@ returns-in_ok-value_of-in-priority c =
     let told = told_by-scalar (token_of c.args.token.now) value_in _ c.in_ok-value_of-in-priority.ensures in (
       told.0,
       told.1,
-      λ ms so_far. rw (c.in-priority.is, whole) (priority-taken c.args.self.now told.0 ms so_far z (ap (option_map (λ v. unwrap_or v (pos 16))) told.2 ∙ ap Some (sym default))),
+      λ ms so_far. rw (c.in-priority.is, whole) (priority-taken c.args.self.now told.0 ms so_far z
+          (ap (option_map (λ v. unwrap_or v (pos 16))) told.2 ∙ ap Some (sym default))),
     )
 
 pub returns-in_ok-value_of-in-value : goal.returns-in_ok-value_of-in-value

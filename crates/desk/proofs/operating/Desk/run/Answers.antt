@@ -19,7 +19,8 @@ returns-in-Err-clause-headline g c = λ E honest held.
     let new = g.S.Store.standing c.deliver.new.self.store in
     let before = c.in-Err.ensures.goes.honest honest in
     let done = so_far.so_far E before held in
-    let here : Holds c.loop-delivery.self.building (E ++ ds) old = subst (λ (x : Building). Holds x (E ++ ds) old) (sym so_far.building) done.1 in
+    let here : Holds c.loop-delivery.self.building (E ++ ds) old =
+    subst (λ (x : Building). Holds x (E ++ ds) old) (sym so_far.building) done.1 in
     let delivered = subst (λ (x : Building). Delivers x (E ++ ds) d (Err c.in-Err.fault) new) so_far.building
     (c.in-Err.ensures.delivers (E ++ ds) honest here) in
     let more : take (at + 1) all ≡ ds ++ d ∷ [] =
@@ -28,7 +29,9 @@ returns-in-Err-clause-headline g c = λ E honest held.
       count = at;
       within = omega (arith, c.loop-delivery-test.true);
       replies_are = done.0;
-      ends = ends-failed b E all d at c.in-Err.fault old new (omega (arith, c.loop-delivery-test.true)) more so_far.opened c.in-Err.ensures.goes delivered;
+      ends =
+          ends-failed b E all d at c.in-Err.fault old new (omega (arith, c.loop-delivery-test.true)) more so_far.opened
+          c.in-Err.ensures.goes delivered;
     }
 
 pub loop-delivery-preserved : goal.loop-delivery-preserved
@@ -46,12 +49,15 @@ loop-delivery-preserved g c =
       so_far = λ E honest held.
           let done = so_far.so_far E (c.in-Ok.ensures.goes.honest honest) held in
           let ds = take c.loop-delivery.delivery-index c.args.deliveries.now in
-          let here : Holds c.loop-delivery.self.building (E ++ ds) old = subst (λ (x : Building). Holds x (E ++ ds) old) (sym so_far.building) done.1 in
+          let here : Holds c.loop-delivery.self.building (E ++ ds) old =
+          subst (λ (x : Building). Holds x (E ++ ds) old) (sym so_far.building) done.1 in
           let delivered = subst (λ (x : Building). Delivers x (E ++ ds) c.delivery-item.result (Ok c.in-Ok.reply) new) so_far.building
           (c.in-Ok.ensures.delivers (E ++ ds) honest here) in
           let more : take (c.loop-delivery.delivery-index + 1) c.args.deliveries.now ≡ ds ++ c.delivery-item.result ∷ [] =
           take_more c.args.deliveries.now c.loop-delivery.delivery-index c.delivery-item.result (omega (arith, c.loop-delivery-test.true))
           ∙ ap (λ (d : Delivery). ds ++ d ∷ []) (sym c.delivery-item.is) in
-          let step = run-more c.args.self.now.building E ds _ c.delivery-item.result c.loop-delivery.replies.items new c.in-Ok.reply more done.0 delivered in
+          let step =
+          run-more c.args.self.now.building E ds _ c.delivery-item.result c.loop-delivery.replies.items new c.in-Ok.reply more
+          done.0 delivered in
           (c.push_reserved.ensures.items ∙ step.0, step.1);
     }

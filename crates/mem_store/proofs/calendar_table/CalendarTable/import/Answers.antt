@@ -17,7 +17,8 @@ invariant_of-self c = record {
       let now = tree.get_by_text (c.get_mut.follows.lender made) q in
       let there : old bs ≡ Some c.in-Some.slot.now = sym c.in-Some.ensures.value in
       let is : now ≡ cond (bytes_eq bs q) (Some made) (old q) =
-      btree_map_updates_text bs c.args.self.now.entries (c.get_mut.follows.lender made) (Some made) ((c.get_mut.follows.holds made).3 (ap is_some there)) q in
+      btree_map_updates_text bs c.args.self.now.entries (c.get_mut.follows.lender made) (Some made)
+      ((c.get_mut.follows.holds made).3 (ap is_some there)) q in
       changed_at (λ o n. IfSome (flatten o) (λ x. spelling x ≡ q) → IfSome (flatten n) (λ x. spelling x ≡ q))
       (Some c.in-Some.slot.now) made bs q old now there is
       (λ same was. sym c.args.spelled.now.spells ∙ same) (λ o was. was) (c.args.self.now.are_spelled q);
@@ -32,7 +33,8 @@ returns-in-Some-clause-has c = λ q.
     let now = tree.get_by_text (c.get_mut.follows.lender made) q in
     let there : old bs ≡ Some c.in-Some.slot.now = sym c.in-Some.ensures.value in
     let is : now ≡ cond (bytes_eq bs q) (Some made) (old q) =
-    btree_map_updates_text bs c.args.self.now.entries (c.get_mut.follows.lender made) (Some made) ((c.get_mut.follows.holds made).3 (ap is_some there)) q in
+    btree_map_updates_text bs c.args.self.now.entries (c.get_mut.follows.lender made) (Some made)
+    ((c.get_mut.follows.holds made).3 (ap is_some there)) q in
     written (λ o. is_some (flatten o)) (λ has. true) c.in-Some.slot.now made bs q old now there refl is
     ∙ true_or (bytes_eq bs q) (has_text c.args.self.now.entries q)
     ∙ ap (λ text. bytes_eq text q || has_text c.args.self.now.entries q) c.args.spelled.now.spells
@@ -46,5 +48,6 @@ returns-in-Some-clause-stays c = λ q.
     let now = tree.get_by_text (c.get_mut.follows.lender made) q in
     let there : old bs ≡ Some c.in-Some.slot.now = sym c.in-Some.ensures.value in
     let is : now ≡ cond (bytes_eq bs q) (Some made) (old q) =
-    btree_map_updates_text bs c.args.self.now.entries (c.get_mut.follows.lender made) (Some made) ((c.get_mut.follows.holds made).3 (ap is_some there)) q in
+    btree_map_updates_text bs c.args.self.now.entries (c.get_mut.follows.lender made) (Some made)
+    ((c.get_mut.follows.holds made).3 (ap is_some there)) q in
     changed (λ o n. IsSome o → IsSome n) (Some c.in-Some.slot.now) made bs q old now there is (λ here. refl) (λ o here. here)

@@ -25,7 +25,8 @@ invariant_of-self-then-not-contains_key c = record {
       (λ updates. stands_for_none flatten None bs q old now none refl
       (btree_map_updates_text bs c.args.self.now.entries c.insert.new.self (Some None) updates q))
       (λ unchanged.
-      ap (λ (es : List (String Global × Option Entry)). flatten (lookup (tree.is_at (λ k. slice_cmp nat_cmp q (string_bytes k))) es)) unchanged) in
+      ap (λ (es : List (String Global × Option Entry)). flatten
+      (lookup (tree.is_at (λ k. slice_cmp nat_cmp q (string_bytes k))) es)) unchanged) in
       subst (λ o. IfSome o (λ x. spelling x ≡ q)) (sym same) (c.args.self.now.are_spelled q);
 }
 

@@ -13,7 +13,8 @@ pub returns-in-Some : goal.returns-in-Some
 returns-in-Some c =
     IfOk-weaker c.list.result (λ list. AreTexts (λ text. IsTrue (has_text c.in-Some.table.now.entries text)) (map spelling list.items))
     (λ list. AreTexts (λ text. IsTrue (imported_of c.args.self.now c.args.calendar.now text)) (map spelling list.items))
-    (λ list are. subst (λ o. AreTexts (λ text. IsTrue (is_some (flatten (text_slot o text)))) (map spelling list.items)) c.in-Some.ensures.value are)
+    (λ list are. subst (λ o. AreTexts (λ text. IsTrue (is_some (flatten (text_slot o text)))) (map spelling list.items))
+    c.in-Some.ensures.value are)
     c.list.ensures
 
 pub returns-in-None : goal.returns-in-None

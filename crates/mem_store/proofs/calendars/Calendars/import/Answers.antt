@@ -20,7 +20,8 @@ returns-in-Some-clause-imported c = λ q text.
     let there : old calendar ≡ Some was = sym c.in-Some.ensures.value in
     let is : now ≡ cond (bytes_eq calendar q) (Some made) (old q) =
     by_bytes (Some made) (old q) calendar q now (((c.get_mut.follows.holds made).3 (ap is_some there)).0 q) in
-    written (λ o. is_some (flatten (text_slot o text))) (λ has. bytes_eq spelled text || has) was made calendar q old now there (c.import.ensures.has text) is
+    written (λ o. is_some (flatten (text_slot o text))) (λ has. bytes_eq spelled text || has) was made calendar q old now there
+    (c.import.ensures.has text) is
     ∙ first_or (bytes_eq calendar q) (bytes_eq spelled text) (is_some (flatten (text_slot (old q) text)))
 
 pub returns-in-Some-clause-stays : goal.returns-in-Some-clause-stays
@@ -33,5 +34,6 @@ returns-in-Some-clause-stays c = λ q text.
     let there : old calendar ≡ Some was = sym c.in-Some.ensures.value in
     let is : now ≡ cond (bytes_eq calendar q) (Some made) (old q) =
     by_bytes (Some made) (old q) calendar q now (((c.get_mut.follows.holds made).3 (ap is_some there)).0 q) in
-    changed (λ o n. IsSome (text_slot o text) → IsSome (text_slot n text)) (Some was) made calendar q old now there is (c.import.ensures.stays text)
+    changed (λ o n. IsSome (text_slot o text) → IsSome (text_slot n text)) (Some was) made calendar q old now there is
+    (c.import.ensures.stays text)
     (λ o here. here)

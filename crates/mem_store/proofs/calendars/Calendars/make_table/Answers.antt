@@ -15,7 +15,8 @@ returns-in_ok-insert-clause-stays c = λ q text.
     let old = tree.get (slice_cmp nat_cmp) c.args.self.now.tables in
     let now = tree.get (slice_cmp nat_cmp) c.insert.new.self q in
     let none : old calendar ≡ None = is_none _ (sym c.contains_key.ensures ∙ c.if-not-contains_key.true) in
-    let is : now ≡ cond (bytes_eq calendar q) (Some made) (old q) = by_bytes (Some made) (old q) calendar q now (c.in_ok-insert.ensures.updates.0 q) in
+    let is : now ≡ cond (bytes_eq calendar q) (Some made) (old q) =
+    by_bytes (Some made) (old q) calendar q now (c.in_ok-insert.ensures.updates.0 q) in
     changed (λ o n. IsSome (text_slot o text) → IsSome (text_slot n text)) None made calendar q old now none is
     (λ here. ap is_some (c.new.ensures text) ∙ here) (λ o here. here)
 
@@ -26,5 +27,7 @@ returns-in_ok-insert-clause-same c = λ q text.
     let old = tree.get (slice_cmp nat_cmp) c.args.self.now.tables in
     let now = tree.get (slice_cmp nat_cmp) c.insert.new.self q in
     let none : old calendar ≡ None = is_none _ (sym c.contains_key.ensures ∙ c.if-not-contains_key.true) in
-    let is : now ≡ cond (bytes_eq calendar q) (Some made) (old q) = by_bytes (Some made) (old q) calendar q now (c.in_ok-insert.ensures.updates.0 q) in
-    stands_for_none (λ o. is_some (flatten (text_slot o text))) made calendar q old now none (ap (λ o. is_some (flatten o)) (c.new.ensures text)) is
+    let is : now ≡ cond (bytes_eq calendar q) (Some made) (old q) =
+    by_bytes (Some made) (old q) calendar q now (c.in_ok-insert.ensures.updates.0 q) in
+    stands_for_none (λ o. is_some (flatten (text_slot o text))) made calendar q old now none
+    (ap (λ o. is_some (flatten o)) (c.new.ensures text)) is

@@ -37,5 +37,6 @@ returns c =
     let n = c.args.spelled.now in
     let with_it = λ (x : SpelledEntry) (table : Text → Text → Bool). with_imported x.item table in
     let done : drop c.loop-entry.entry-index n ≡ [] = drop_of_length-le n (omega arith) in
-    let whole : imported_of c.loop-entry.self ≡ with_each with_it n (imported_of c.args.self.now) = rw done at c.loop-entry.invariant.imported in
+    let whole : imported_of c.loop-entry.self ≡ with_each with_it n (imported_of c.args.self.now) =
+    rw done at c.loop-entry.invariant.imported in
     whole ∙ with_each-map n (imported_of c.args.self.now)

@@ -6,4 +6,5 @@ use Rattle.mem_store.proofs.panel_table.PanelTable.has_row.Given as goal
 
 abbrev pub invariant-loop-number : goal.invariant-loop-number
 invariant-loop-number l =
-    list_any (λ number. is_some (kept_rows l.self number)) l.number-iterator ≡ list_any (λ number. is_some (kept_rows l.self number)) (keys l.self.rows)
+    list_any (λ number. is_some (kept_rows l.self number)) l.number-iterator
+    ≡ list_any (λ number. is_some (kept_rows l.self number)) (keys l.self.rows)

@@ -11,7 +11,8 @@ loop-number-preserved c =
     let rows = kept_rows c.args.self.now in
     elim c.match-row.branch [
       | in-Some+in_ok-push-in-Some w ↦
-          next-row rows c.args.from c.loop-number.number w.in-Some.row c.loop-number.rows.items c.match-row.rows.items c.loop-number.auto.number
+          next-row rows c.args.from c.loop-number.number w.in-Some.row c.loop-number.rows.items c.match-row.rows.items
+          c.loop-number.auto.number
           c.loop-number.invariant (sym c.row.ensures ∙ w.in-Some.is)
           (ap (λ (v : Vec NumberedRow Global). v.items) w.rows-is ∙ w.in_ok-push-in-Some.ensures.items)
       | in-None w ↦

@@ -17,7 +17,8 @@ returns-in-Some-clause-rows c = λ q n.
     let there : old panel ≡ Some was = sym c.in-Some.ensures.value in
     let is : (q : List ℕ) → now q ≡ cond (bytes_eq panel q) (Some made) (old q) =
     λ q. ((c.get_mut.follows.holds made).3 (ap is_some there)).0 q in
-    written (λ o. flatten (slot_in o n)) (λ row. cond (nat_lt n item.number) None row) was made panel q old (now q) there (c.drop_below.ensures.rows n) (is q)
+    written (λ o. flatten (slot_in o n)) (λ row. cond (nat_lt n item.number) None row) was made panel q old (now q) there
+    (c.drop_below.ensures.rows n) (is q)
     ∙ both_tests (bytes_eq panel q) (nat_lt n item.number) None (flatten (slot_in (old q) n))
 
 pub returns-in-Some-clause-next : goal.returns-in-Some-clause-next

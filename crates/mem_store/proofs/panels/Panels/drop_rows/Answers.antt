@@ -10,6 +10,7 @@ loop-item-preserved c =
     record {
       rows = each-step without_rows c.args.dropped.now c.loop-item.item-index c.item-item.result (with_each without_rows c.args.dropped.now
           (row_of c.args.self.now))
-          (row_of c.loop-item.self) (row_of c.drop_below.new.self) below c.item-item.is c.loop-item.invariant.rows (λ i q n. c.drop_below.ensures.rows q n i);
+          (row_of c.loop-item.self) (row_of c.drop_below.new.self) below c.item-item.is c.loop-item.invariant.rows
+          (λ i q n. c.drop_below.ensures.rows q n i);
       next = (λ i q. c.drop_below.ensures.next q i) ∙ c.loop-item.invariant.next;
     }

@@ -19,10 +19,15 @@ returns-in-Some-clause-grows c =
     record {
       room = record {
         tables = λ q. changed (λ o n. IsSome o → IsSome n) (Some was) made panel q old (now q) there (is q) (λ here. refl) (λ o here. here);
-        slots = λ q number. changed (λ o n. IsSome (slot_in o number) → IsSome (slot_in n number)) (Some was) made panel q old (now q) there (is q)
+        slots =
+            λ q number. changed (λ o n. IsSome (slot_in o number) → IsSome (slot_in n number)) (Some was) made panel q old (now q)
+            there (is q)
             (c.make_room.ensures.stays number) (λ o here. here);
       };
-      next = λ q. changed (λ o n. next_in n ≡ next_in o) (Some was) made panel q old (now q) there (is q) c.make_room.ensures.next (λ o. refl);
-      rows = λ q number. changed (λ o n. flatten (slot_in n number) ≡ flatten (slot_in o number)) (Some was) made panel q old (now q) there (is q)
+      next =
+          λ q. changed (λ o n. next_in n ≡ next_in o) (Some was) made panel q old (now q) there (is q) c.make_room.ensures.next (λ o. refl);
+      rows =
+          λ q number. changed (λ o n. flatten (slot_in n number) ≡ flatten (slot_in o number)) (Some was) made panel q old (now q)
+          there (is q)
           (c.make_room.ensures.same number) (λ o. refl);
     }

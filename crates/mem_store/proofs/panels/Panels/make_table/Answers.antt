@@ -22,5 +22,7 @@ returns-in_ok-insert-clause-grows c =
             (λ here. ap is_some (c.new.ensures.slots number) ∙ here) (λ o here. here);
       };
       next = λ q. stands_for_none next_in made panel q old (now q) none c.new.ensures.next (is q);
-      rows = λ q number. stands_for_none (λ o. flatten (slot_in o number)) made panel q old (now q) none (ap flatten (c.new.ensures.slots number)) (is q);
+      rows =
+          λ q number. stands_for_none (λ o. flatten (slot_in o number)) made panel q old (now q) none
+          (ap flatten (c.new.ensures.slots number)) (is q);
     }

@@ -15,8 +15,11 @@ pub loop-item-preserved : goal.loop-item-preserved
 loop-item-preserved c =
     let below : c.loop-item.item-index < length c.args.nexts.now = omega arith in
     record {
-      next = each-step with_next c.args.nexts.now c.loop-item.item-index c.item-item.result (with_each with_next c.args.nexts.now (next_of c.args.self.now))
-          (next_of c.loop-item.self) (next_of c.set_next.new.self) below c.item-item.is c.loop-item.invariant.next (λ i q. c.set_next.ensures.next q i);
+      next =
+          each-step with_next c.args.nexts.now c.loop-item.item-index c.item-item.result
+          (with_each with_next c.args.nexts.now (next_of c.args.self.now))
+          (next_of c.loop-item.self) (next_of c.set_next.new.self) below c.item-item.is c.loop-item.invariant.next
+          (λ i q. c.set_next.ensures.next q i);
       rows = (λ i q n. c.set_next.ensures.rows q n i) ∙ c.loop-item.invariant.rows;
       room = record {
         tables = λ q here. c.set_next.ensures.room.tables q (c.loop-item.invariant.room.tables q here);

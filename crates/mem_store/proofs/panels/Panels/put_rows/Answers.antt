@@ -15,8 +15,11 @@ pub loop-item-preserved : goal.loop-item-preserved
 loop-item-preserved c =
     let below : c.loop-item.item-index < length c.args.rows.now = omega arith in
     record {
-      rows = each-step with_row c.args.rows.now c.loop-item.item-index c.item-item.result (with_each with_row c.args.rows.now (row_of c.args.self.now))
-          (row_of c.loop-item.self) (row_of c.set_row.new.self) below c.item-item.is c.loop-item.invariant.rows (λ i q n. c.set_row.ensures.rows q n i);
+      rows =
+          each-step with_row c.args.rows.now c.loop-item.item-index c.item-item.result
+          (with_each with_row c.args.rows.now (row_of c.args.self.now))
+          (row_of c.loop-item.self) (row_of c.set_row.new.self) below c.item-item.is c.loop-item.invariant.rows
+          (λ i q n. c.set_row.ensures.rows q n i);
       next = (λ i q. c.set_row.ensures.next q i) ∙ c.loop-item.invariant.next;
       room = record {
         tables = λ q here. c.set_row.ensures.room.tables q (c.loop-item.invariant.room.tables q here);

@@ -29,7 +29,8 @@ returns-in-Some-clause-rows c = λ q number.
     let there : old panel ≡ Some was = sym c.in-Some.ensures.value in
     let is : (q : List ℕ) → now q ≡ cond (bytes_eq panel q) (Some made) (old q) =
     λ q. ((c.get_mut.follows.holds made).3 (ap is_some there)).0 q in
-    changed (λ o n. flatten (slot_in n number) ≡ flatten (slot_in o number)) (Some was) made panel q old (now q) there (is q) refl (λ o. refl)
+    changed (λ o n. flatten (slot_in n number) ≡ flatten (slot_in o number)) (Some was) made panel q old (now q) there (is q) refl
+    (λ o. refl)
 
 pub returns-in-Some-clause-room : goal.returns-in-Some-clause-room
 returns-in-Some-clause-room c =
@@ -43,6 +44,8 @@ returns-in-Some-clause-room c =
     λ q. ((c.get_mut.follows.holds made).3 (ap is_some there)).0 q in
     record {
       tables = λ q. changed (λ o n. IsSome o → IsSome n) (Some was) made panel q old (now q) there (is q) (λ here. refl) (λ o here. here);
-      slots = λ q number. changed (λ o n. IsSome (slot_in o number) → IsSome (slot_in n number)) (Some was) made panel q old (now q) there (is q)
+      slots =
+          λ q number. changed (λ o n. IsSome (slot_in o number) → IsSome (slot_in n number)) (Some was) made panel q old (now q)
+          there (is q)
           (λ here. here) (λ o here. here);
     }

@@ -10,7 +10,8 @@ use Rattle.mem_store.proofs.panels.Panels.set_row.Goals as goal
 row_put : (number n : ℕ) (row : CommandRow) (was : Option (Option CommandRow)) (now : Option (Option CommandRow))
     → now ≡ cond (number == n) (Some (Some row)) was → flatten now ≡ cond (number == n) (Some row) (flatten was)
 row_put number n row was now is =
-    ap flatten is ∙ elim (number == n) as (λ b. flatten (cond b (Some (Some row)) was) ≡ cond b (Some row) (flatten was)) [ true ↦ refl | false ↦ refl ]
+    ap flatten is ∙ elim (number == n) as (λ b. flatten (cond b (Some (Some row)) was) ≡ cond b (Some row) (flatten was))
+    [ true ↦ refl | false ↦ refl ]
 
 pub returns-in-Some-clause-rows : goal.returns-in-Some-clause-rows
 returns-in-Some-clause-rows c = λ q n.
@@ -52,6 +53,7 @@ returns-in-Some-clause-room c =
     record {
       tables = λ q. changed (λ o n. IsSome o → IsSome n) (Some was) made panel q old (now q) there (is q) (λ here. refl) (λ o here. here);
       slots = λ q n. changed (λ o m. IsSome (slot_in o n) → IsSome (slot_in m n)) (Some was) made panel q old (now q) there (is q)
-          (some_stays (c.args.item.now.number == n) (Some c.args.item.now.row) (slot_in (Some was) n) (slot_in (Some made) n) (c.set_row.ensures.slots n))
+          (some_stays (c.args.item.now.number == n) (Some c.args.item.now.row) (slot_in (Some was) n) (slot_in (Some made) n)
+          (c.set_row.ensures.slots n))
           (λ o here. here);
     }

@@ -15,7 +15,10 @@ pub loop-item-preserved : goal.loop-item-preserved
 loop-item-preserved c =
     let below : c.loop-item.item-index < length c.args.shown.now = omega arith in
     record {
-      shown = each-step with_shown c.args.shown.now c.loop-item.item-index c.item-item.result (with_each with_shown c.args.shown.now (shown_of c.args.self.now))
-          (shown_of c.loop-item.self) (shown_of c.set_shown.new.self) below c.item-item.is c.loop-item.invariant.shown (λ i q. c.set_shown.ensures.shown q i);
+      shown =
+          each-step with_shown c.args.shown.now c.loop-item.item-index c.item-item.result
+          (with_each with_shown c.args.shown.now (shown_of c.args.self.now))
+          (shown_of c.loop-item.self) (shown_of c.set_shown.new.self) below c.item-item.is c.loop-item.invariant.shown
+          (λ i q. c.set_shown.ensures.shown q i);
       room = λ q here. c.set_shown.ensures.stays q (c.loop-item.invariant.room q here);
     }

@@ -10,6 +10,7 @@ invariant_of-self-2 c =
     let pushed : c.push.new.self.items ≡ names ++ c.args.name ∷ [] =
     c.in_ok-push.ensures.items ∙ ap (λ (ns : List (List ℕ)). ns ++ c.args.name ∷ []) c.reserve.ensures.items in
     let last : length c.as_slice-place.result.now ≡ length names = ap length (c.as_slice-place.ensures ∙ sym c.self.view_is) in
-    let step = IsIndex-push c.self.inside.places c.insert.new.self names c.args.name (length c.as_slice-place.result.now) last c.self.invariant
+    let step =
+    IsIndex-push c.self.inside.places c.insert.new.self names c.args.name (length c.as_slice-place.result.now) last c.self.invariant
     (ap (is_among c.args.name) c.self.view_is ∙ (sym c.contains.ensures ∙ c.if-contains.false)) c.in_ok-insert.ensures.updates in
     λ q. step q ∙ ap (position (λ n. bytes_eq n q)) (sym pushed)

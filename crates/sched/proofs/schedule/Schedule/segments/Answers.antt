@@ -43,7 +43,9 @@ loop-time-preserved c =
     let after = c.push_change.new.segments.items in
     let on_the_day = rw c.hundredths.ensures.value at c.hundredths.ensures.within in
     record {
-      so_far = stepped (λ t. schedule_value c.args.self.now c.args.calendars.now c.args.day t) times rises i c.time-item.result c.value_now-value.result
+      so_far =
+          stepped (λ t. schedule_value c.args.self.now c.args.calendars.now c.args.day t) times rises i c.time-item.result
+          c.value_now-value.result
           before after within is c.value_now-value.ensures c.loop-time.invariant.so_far c.in_ok-push_change.ensures;
       in_day = below_more _ _ c.loop-time.invariant.in_day (subst (λ t. t < HUNDREDTHS_A_DAY) is on_the_day);
     }
@@ -56,5 +58,6 @@ returns c =
     c.in_ok-times.ensures c.in_ok-sort.ensures.permutation c.in_ok-sort.ensures.sorted c.deref-time-items.ensures.value in
     let done : c.loop-time.time-index ≡ length times = omega (arith, c.loop-time-test.false) in
     c.loop-time.invariant.so_far
-    ∙ covered-all (λ t. schedule_value c.args.self.now c.args.calendars.now c.args.day t) times rises HUNDREDTHS_A_DAY c.loop-time.time-index done
+    ∙ covered-all (λ t. schedule_value c.args.self.now c.args.calendars.now c.args.day t) times rises HUNDREDTHS_A_DAY
+    c.loop-time.time-index done
     (λ k within. c.loop-time.invariant.in_day k (omega (arith, done, within)))

@@ -7,13 +7,27 @@ use Rattle.store_sql.proofs.sql_store.SqlStoreStore.commands_run.Goals as goal
 
 pub invariant_of-self : goal.invariant_of-self
 invariant_of-self g c =
-    (read_left g.S.Store c.self.inside.session (record { connection = c.commands_run-asked.new.connection; failures = c.self.inside.session.failures; is_shut = c.self.inside.session.is_shut })
-    c.tell.new.self c.commands_run-asked.result c.tell.result refl refl c.if-self.false c.self.invariant (λ h db. g.met.S.Store.settled h.store db)
-    c.commands_run-asked.ensures.mode c.commands_run-asked.ensures.asks c.commands_run-asked.ensures.bad c.commands_run-asked.ensures.survives c.tell.ensures.mode c.tell.ensures.survives c.tell.ensures.told).0
+    (read_left g.S.Store c.self.inside.session (record {
+      connection = c.commands_run-asked.new.connection;
+      failures =
+          c.self.inside.session.failures;
+      is_shut = c.self.inside.session.is_shut;
+    })
+    c.tell.new.self c.commands_run-asked.result c.tell.result refl refl c.if-self.false c.self.invariant
+    (λ h db. g.met.S.Store.settled h.store db)
+    c.commands_run-asked.ensures.mode c.commands_run-asked.ensures.asks c.commands_run-asked.ensures.bad
+    c.commands_run-asked.ensures.survives c.tell.ensures.mode c.tell.ensures.survives c.tell.ensures.told).0
 
 pub returns-clause-reads : goal.returns-clause-reads
 returns-clause-reads g c =
     subst (λ s. Reads (result_err c.tell.result) (standing_of g.S.Store s) (standing_of g.S.Store c.tell.new.self)) c.self.view_is
-    (read_left g.S.Store c.self.inside.session (record { connection = c.commands_run-asked.new.connection; failures = c.self.inside.session.failures; is_shut = c.self.inside.session.is_shut })
-    c.tell.new.self c.commands_run-asked.result c.tell.result refl refl c.if-self.false c.self.invariant (λ h db. g.met.S.Store.settled h.store db)
-    c.commands_run-asked.ensures.mode c.commands_run-asked.ensures.asks c.commands_run-asked.ensures.bad c.commands_run-asked.ensures.survives c.tell.ensures.mode c.tell.ensures.survives c.tell.ensures.told).1
+    (read_left g.S.Store c.self.inside.session (record {
+      connection = c.commands_run-asked.new.connection;
+      failures =
+          c.self.inside.session.failures;
+      is_shut = c.self.inside.session.is_shut;
+    })
+    c.tell.new.self c.commands_run-asked.result c.tell.result refl refl c.if-self.false c.self.invariant
+    (λ h db. g.met.S.Store.settled h.store db)
+    c.commands_run-asked.ensures.mode c.commands_run-asked.ensures.asks c.commands_run-asked.ensures.bad
+    c.commands_run-asked.ensures.survives c.tell.ensures.mode c.tell.ensures.survives c.tell.ensures.told).1
