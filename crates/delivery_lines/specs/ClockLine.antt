@@ -17,13 +17,13 @@ use Rattle.texts.specs.Steps.{◌>>=◌, where_holds}
 
 -- the tick that an object tells
 unfoldable pub tick_in : Data → Option Delivery
-tick_in object = option_map Tick (lone_integer (codes "tick") object)
+tick_in value = option_map Tick (lone_integer (codes "tick") value)
 
 -- the text of the holiday list that an object tells
 unfoldable pub list_in : Data → Option (List ℕ)
-list_in object = do
-  members ← as_object object
-  text ← get (codes "import") object >>= as_str
+list_in value = do
+  members ← as_object value
+  text ← get (codes "import") value >>= as_str
   where_holds (has_only (codes "import" ∷ []) members) text
 
 abbrev pub import_with : Result (List CalendarEntry) ImportFault → Told
@@ -36,4 +36,4 @@ import_of building list = import_with (holidays_in (calendar_of building.calenda
 
 -- what an object with a holiday list tells
 unfoldable pub import_in : Building → Data → Option Told
-import_in building object = option_map (import_of building) (list_in object)
+import_in building value = option_map (import_of building) (list_in value)

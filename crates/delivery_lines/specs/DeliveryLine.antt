@@ -17,20 +17,20 @@ abbrev pub json_of : List ℕ → Option Data
 json_of bytes = text_of bytes >>= read
 
 abbrev pub delivery_with : Option Data → Data → Option Delivery
-delivery_with None object = tick_in object
-delivery_with (Some panel) object = panel_delivery_in object
+delivery_with None value = tick_in value
+delivery_with (Some panel) value = panel_delivery_in value
 
 -- an object with the key `panel` tells what a panel sends or nothing, another one a tick or nothing
 unfoldable pub delivery_in : Data → Option Delivery
-delivery_in object = delivery_with (get (codes "panel") object) object
+delivery_in value = delivery_with (get (codes "panel") value) value
 
 abbrev pub told_with : Building → Data → Option Delivery → Option Told
-told_with building object None = import_in building object
-told_with building object (Some delivery) = Some (told.Delivery delivery)
+told_with building value None = import_in building value
+told_with building value (Some delivery) = Some (told.Delivery delivery)
 
 -- what an object tells: a delivery without a holiday list, or an import; each kind has its own keys, and no other
 unfoldable pub told_in : Building → Data → Option Told
-told_in building object = told_with building object (delivery_in object)
+told_in building value = told_with building value (delivery_in value)
 
 -- what a line tells; an import is one of entries for calendars of the building
 unfoldable pub told_of : Building → List ℕ → Option Told
