@@ -8,7 +8,7 @@ abbrev pub and_at : ℕ → Option Content → List NumberedContent → List Num
 and_at number None rest = rest
 and_at number (Some content) rest = record { number = number; content = content } ∷ rest
 
--- the contents that were accepted under so many numbers from one on, in rising order
+-- the contents that were accepted under `count` numbers from `number` on, in rising order
 abbrev pub contents_from : ℕ → Taken → ℕ → List NumberedContent
 contents_from zero taken number = []
 contents_from (suc count) taken number = and_at number (content_at taken number) (contents_from count taken (number + 1))

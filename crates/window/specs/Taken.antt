@@ -29,7 +29,7 @@ content_at earlier number = content_in earlier.accepted number
 abbrev pub is_key : Taken → ℕ → Bool
 is_key earlier number = is_some (content_at earlier number)
 
--- the first of so many numbers from one on under which nothing stands, or the one after them
+-- the first of `count` numbers from `number` on under which nothing stands, or the one after them
 abbrev pub missing_from : ℕ → List NumberedContent → ℕ → ℕ
 missing_from zero entries number = number
 missing_from (suc count) entries number =
