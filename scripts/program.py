@@ -1,0 +1,111 @@
+"""The program as `build/desk`: whether it is that of these sources, what it takes to make it, and how it is put there."""
+import hashlib
+import os
+import pathlib
+import shutil
+import subprocess
+import sys
+import tempfile
+
+import progress
+
+ROOT = pathlib.Path(__file__).resolve().parent.parent
+NAME = "desk_program"
+BUILT = ROOT / "build" / "desk"
+# The sum of the sources that BUILT was made of stands beside it.
+SUM = ROOT / "build" / "desk.sources"
+PARTS = ("src", "specs", "proofs")
+TOOLCHAIN = "rattle-kit-13f logic dac8208d650f15bf"
+LEAST_PYTHON = (3, 11)
+
+
+def below():
+    """The crates that the program is made of, each with those that it stands on."""
+    crates = progress.crates_of((ROOT / "crates.txt").read_text())
+    wanted = progress.closure(crates, NAME)
+    return {name: crates[name] for name in crates if name in wanted}
+
+
+def sources_sum():
+    """A sum of all that the program is proved and built from, but for the toolchain."""
+    found = hashlib.sha256()
+    for name in sorted(below()):
+        for part in PARTS:
+            for path in sorted((ROOT / "crates" / name / part).rglob("*")):
+                if path.is_file():
+                    found.update(repr((str(path.relative_to(ROOT)), path.read_bytes())).encode())
+    lines = [line for line in (ROOT / "crates.txt").read_text().splitlines() if line.partition(":")[0] in below()]
+    found.update("\n".join(sorted(lines)).encode())
+    return found.hexdigest()
+
+
+def is_current():
+    """Whether build/desk was proved and built from these sources."""
+    return os.access(BUILT, os.X_OK) and SUM.is_file() and SUM.read_text().strip() == sources_sum()
+
+
+def keep(made, sum):
+    """Puts a program that was proved and built from the sources of that sum where the others find it."""
+    BUILT.parent.mkdir(exist_ok=True)
+    SUM.unlink(missing_ok=True)
+    room = BUILT.with_name("desk.new")
+    shutil.copy2(made, room)
+    os.replace(room, BUILT)
+    SUM.write_text(sum + "\n")
+
+
+def cut_copy(to):
+    """Copies what the program is proved and built from: no trials, tests of them or wrong bodies."""
+    wanted = below()
+    (to / ".git").mkdir(parents=True)
+    for name in wanted:
+        shutil.copytree(ROOT / "crates" / name, to / "crates" / name,
+                        ignore=shutil.ignore_patterns("out", "must-fail", "wrong-bodies"))
+    lines = (ROOT / "crates.txt").read_text().splitlines(keepends=True)
+    (to / "crates.txt").write_text("".join(line for line in lines if line.partition(":")[0] in wanted))
+    shutil.copy2(ROOT / "HANDLES", to / "HANDLES")
+
+
+# ---- what a run needs
+
+def free_memory():
+    """The memory that is to be had, in bytes: the machine's, or what its control group leaves."""
+    words = pathlib.Path("/proc/meminfo").read_text().split()
+    found = [1024 * int(words[words.index("MemAvailable:") + 1])]
+    try:
+        group = pathlib.Path("/sys/fs/cgroup")
+        found.append(int((group / "memory.max").read_text()) - int((group / "memory.current").read_text()))
+    except (OSError, ValueError):
+        pass
+    return min(found)
+
+
+def lacks(memory, disk):
+    """What this machine lacks for a run that takes so many GB of memory and of the disk: a line for each."""
+    found = []
+    if sys.version_info < LEAST_PYTHON:
+        found.append(f"Python 3.11 or later is needed, and this is {sys.version.split()[0]}")
+    try:
+        said = subprocess.run(["rt", "version"], capture_output=True, text=True).stdout.strip()
+    except OSError:
+        found.append("the command rt of the Rattle toolchain is not on the PATH")
+    else:
+        if said != TOOLCHAIN:
+            found.append(f"the toolchain {TOOLCHAIN} is needed, and rt version says {said or 'nothing'}")
+    gigabytes = free_memory() / 1e9
+    if gigabytes < memory:
+        found.append(f"{memory} GB of free memory are needed, and {gigabytes:.1f} are free")
+    for place in {tempfile.gettempdir(), str(ROOT)}:
+        gigabytes = shutil.disk_usage(place).free / 1e9
+        if gigabytes < disk:
+            found.append(f"{disk} GB of free disk are needed at {place}, and {gigabytes:.1f} are free")
+    return found
+
+
+def stop_where_lacking(memory, disk):
+    """Ends the run with status 2 where this machine lacks something for it."""
+    found = lacks(memory, disk)
+    for line in found:
+        print(f"desk: {line}", file=sys.stderr)
+    if found:
+        sys.exit(2)
