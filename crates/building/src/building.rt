@@ -1,6 +1,6 @@
 //! The building that a file names.
 
-ghost use Rattle.std.specs.Prelude.{◌≡◌, IsTrue, find, option_copied, position};
+ghost use Rattle.std.specs.Prelude.{◌≡◌, IsTrue, find, map, option_copied, position};
 ghost use Rattle.std.specs.List.{list_all};
 ghost use Rattle.std.specs.Result.{result_err};
 ghost use Rattle.std.specs.Str.{bytes_eq};
@@ -14,6 +14,7 @@ ghost use Rattle.building.specs.PanelTable.{is_sound_panel};
 ghost use Rattle.building.specs.PointTable.{is_sound_point};
 ghost use Rattle.building.specs.ScheduleTable.{is_sound_schedule};
 ghost use Rattle.building.specs.Building.{contents_of};
+ghost use Rattle.building.specs.Roster.{are_distinct};
 
 use crate::building_refusal::BuildingFault;
 use crate::named_calendar::NamedCalendar;
@@ -76,6 +77,16 @@ impl Building {
         let panels = panels_in(alloc, &points, top.panels)?;
         let calendars = calendars_in(alloc, top.calendars)?;
         with_schedules(alloc, top, points, panels, calendars)
+    }
+
+    /// No two points, panels, calendars or schedules have one name: this holds of each building, and nothing is done.
+    pub fn names_are_distinct(&self)
+        ensures points { IsTrue (are_distinct (map (λ point. point.name) self.now.points)) }
+        ensures panels { IsTrue (are_distinct (map (λ panel. panel.name) self.now.panels)) }
+        ensures calendars { IsTrue (are_distinct (map (λ calendar. calendar.name) self.now.calendars)) }
+        ensures schedules { IsTrue (are_distinct (map (λ schedule. schedule.name) self.now.schedules)) }
+    {
+        let _ = &self.zone;
     }
 
     /// The rule of the building's time zone.

@@ -18,7 +18,7 @@ texts_for-append calendar (x ∷ xs) ys = elim (cases_Bool (bytes_eq x.calendar 
   | inr apart ↦ let more = texts_for-append calendar xs ys in rw (apart, more) refl
 ]
 
-with_items-append : (imported : Text → List Text) (xs ys : List ImportedEntry)
+pub with_items-append : (imported : Text → List Text) (xs ys : List ImportedEntry)
     → with_items (with_items imported xs) ys ≡ with_items imported (xs ++ ys)
 with_items-append imported xs ys = fun_ext (λ calendar.
     append_assoc (imported calendar) (texts_for calendar xs) (texts_for calendar ys)

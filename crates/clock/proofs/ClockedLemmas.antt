@@ -24,6 +24,7 @@ use Rattle.store.specs.declared.change.ImportedEntry.{ImportedEntry}
 use Rattle.store.specs.Change.{with_change}
 use Rattle.store.specs.Standing.{Content, Standing}
 use Rattle.store.specs.Tables.{Text}
+use Rattle.deliveries.proofs.RefusedLemmas.{refused-at}
 
 -- the tables of a list tell what its machine has imported
 pub Tells-held : (b : Building) (E : List Delivery) (old : Standing) → Holds b E old
@@ -44,35 +45,6 @@ pub last_of-held : (b : Building) (E : List Delivery) (old : Standing) → Holds
 last_of-held b E old held = ap (λ (c : Content). c.tables.last_tick) held ∙ (tables-last_tick b E ∙ sym (machine-last_tick b E))
 
 -- rows of which none is refused have their calendars
-refused-cons : (test : CalendarEntry → Bool) (row : CalendarEntry) (rows : List CalendarEntry)
-    → nat_lt (position_or_len (λ x. not (test x)) (row ∷ rows)) (length (row ∷ rows))
-    ≡ (not (test row) || nat_lt (position_or_len (λ x. not (test x)) rows) (length rows))
-refused-cons test row rows = by (test row) refl
-  where
-    by : (here : Bool) → test row ≡ here → nat_lt (position_or_len (λ x. not (test x)) (row ∷ rows)) (length (row ∷ rows))
-        ≡ (not (test row) || nat_lt (position_or_len (λ x. not (test x)) rows) (length rows))
-    by true e = rw e (search rules)
-    by false e = rw e (search rules)
-
-some-refused : (test : CalendarEntry → Bool) (rows : List CalendarEntry)
-    → nat_lt (position_or_len (λ x. not (test x)) rows) (length rows) ≡ not (list_all test rows)
-some-refused test [] = refl
-some-refused test (row ∷ rows) =
-    refused-cons test row rows ∙ (ap (λ b. not (test row) || b) (some-refused test rows) ∙ turned (test row) (list_all test rows))
-  where
-    turned : (a b : Bool) → (not a || not b) ≡ not (a && b)
-    turned true b = refl
-    turned false b = refl
-
-refused-at : (b : Building) (rows : List CalendarEntry) → is_some (refused_record b rows) ≡ not (list_all (has_calendar b) rows)
-refused-at b rows =
-    by (nat_lt (position_or_len (λ row. not (has_calendar b row)) rows) (length rows)) refl ∙ some-refused (has_calendar b) rows
-  where
-    by : (some : Bool) → nat_lt (position_or_len (λ row. not (has_calendar b row)) rows) (length rows) ≡ some
-        → is_some (refused_record b rows) ≡ nat_lt (position_or_len (λ row. not (has_calendar b row)) rows) (length rows)
-    by true e = rw e refl
-    by false e = rw e refl
-
 opposite : (a b c : Bool) → a ≡ not b → a ≡ c → b ≡ not c
 opposite true true c e f = absurd (false≢true (sym e))
 opposite true false c e f = ap not f

@@ -48,8 +48,9 @@ fn add_to<S: Store>(
     Ok(())
 }
 
-// Adds the item of a row, where its calendar does not know it.
-fn add_row<S: Store>(
+/// Adds the item of a row to those of the rows before it, where its calendar knows the entry neither from the file, nor
+/// from what was imported, nor from these items. A row of no calendar adds nothing. The store is only read.
+pub fn add_row<S: Store>(
     store: &mut S,
     building: &Building,
     items: &mut Vec<ImportedEntry>,

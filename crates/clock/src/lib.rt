@@ -6,7 +6,7 @@
 //! (`changing`). The contracts speak of the definitions of `deliveries`.
 #![tactic(auto)]
 
-pub use importing::deliver_import;
+pub use importing::{add_row, deliver_import};
 pub use ticking::deliver_tick;
 
 mod changing;

@@ -39,7 +39,7 @@ use Rattle.deliveries.proofs.StepLemmas.{acted_on-sent, asks-none, commands_of-s
 taken-unasked : (b : Building) (q : Text) (E : List Delivery) (d : Delivery) → asked d ≡ None → taken_by b q (E ++ d ∷ []) ≡ taken_by b q E
 taken-unasked b q E d none = taken_by-push b q E d ∙ ap (asks.taken (taken_by b q E)) (asks-none b q d none)
 
-acted_on-clock : (b : Building) (E : List Delivery) (d : Delivery) → asked d ≡ None → acted_on b E d ≡ clock_event b E d
+pub acted_on-clock : (b : Building) (E : List Delivery) (d : Delivery) → asked d ≡ None → acted_on b E d ≡ clock_event b E d
 acted_on-clock b E d none = ap (λ commands. commands ++ clock_event b E d) (commands_of-same b E d (taken-unasked b (panel_of d) E d none))
 
 machine-clock : (b : Building) (E : List Delivery) (d : Delivery) → asked d ≡ None

@@ -1,11 +1,13 @@
 pub mod AgainLemmas
 pub mod ClockLemmas
 pub mod DeliveredLemmas
+pub mod EmptyLemmas
 pub mod EventLemmas
 pub mod MachineLemmas
 pub mod MovedLemmas
 pub mod QuietLemmas
 pub mod RangeLemmas
+pub mod RefusedLemmas
 pub mod RowLemmas
 pub mod StepLemmas
 pub mod TakenLemmas

@@ -29,10 +29,10 @@ settled-again b imported shown (Some local) distinct = record {
 }
 
 -- settled at the last tick
-abbrev Quiet : Building → Machine → Type 0
+abbrev pub Quiet : Building → Machine → Type 0
 Quiet b m = (writes_at b m.imported m.shown (local_of b m.last_tick) ≡ []) × (told_at b m.imported m.shown (local_of b m.last_tick) ≡ [])
 
-Quiet-step : (b : Building) (m : Machine) (event : Event) → HasDistinctSchedules b → Quiet b m → Quiet b (step b m event)
+pub Quiet-step : (b : Building) (m : Machine) (event : Event) → HasDistinctSchedules b → Quiet b m → Quiet b (step b m event)
 unfolding settled
 Quiet-step b m (Command panel number content) distinct quiet = quiet
 Quiet-step b m (Tick moment) distinct quiet =
@@ -41,16 +41,16 @@ Quiet-step b m (Import rows) distinct quiet =
     let again = settled-again b (with_items m.imported (added b m.imported rows)) m.shown (local_of b m.last_tick) distinct in
     (again.writes, again.tells)
 
-Quiet-run : (b : Building) (m : Machine) (events : List Event) → HasDistinctSchedules b → Quiet b m → Quiet b (run b m events)
+pub Quiet-run : (b : Building) (m : Machine) (events : List Event) → HasDistinctSchedules b → Quiet b m → Quiet b (run b m events)
 Quiet-run b m [] distinct quiet = quiet
 Quiet-run b m (event ∷ events) distinct quiet = Quiet-run b (step b m event) events distinct (Quiet-step b m event distinct quiet)
 
-Quiet-machine : (b : Building) (E : List Delivery) → HasDistinctSchedules b → Quiet b (machine b E)
+pub Quiet-machine : (b : Building) (E : List Delivery) → HasDistinctSchedules b → Quiet b (machine b E)
 unfolding machine
 Quiet-machine b E distinct = Quiet-run b opening_machine (events_after b [] E) distinct (refl, refl)
 
 -- rows that add nothing
-with_rows-known : (b : Building) (m : Machine) (rows : List CalendarEntry) → added b m.imported rows ≡ [] → with_rows b m rows ≡ m
+pub with_rows-known : (b : Building) (m : Machine) (rows : List CalendarEntry) → added b m.imported rows ≡ [] → with_rows b m rows ≡ m
 with_rows-known b m rows none = λ i. record {
   places = m.places;
   answers = m.answers;
@@ -59,7 +59,7 @@ with_rows-known b m rows none = λ i. record {
   last_tick = m.last_tick;
 }
 
-settled-quiet : (b : Building) (m : Machine) → Quiet b m → settled b m (local_of b m.last_tick) ≡ m
+pub settled-quiet : (b : Building) (m : Machine) → Quiet b m → settled b m (local_of b m.last_tick) ≡ m
 unfolding settled
 settled-quiet b m quiet = λ i. record {
   places = with_each with_place (quiet.0 i) m.places;

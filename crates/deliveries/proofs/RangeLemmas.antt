@@ -118,6 +118,16 @@ LiesInRange-taken b p t (d ∷ ds) lies =
     subst LiesInRange (sym (taken-append t (asks_of b p d) (flat_map (asks_of b p) ds)))
     (LiesInRange-taken b p (asks.taken t (asks_of b p d)) ds (LiesInRange-asks_of b p t d lies))
 
+-- a number under which something was accepted of a panel is in range
+pub key_greatest : (b : Building) (p : Text) (ds : List Delivery) (number : ℕ) → asks.is_key (taken_by b p ds) number ≡ true
+    → number ≤ LAST_NUMBER
+key_greatest b p ds number key =
+    let lies = LiesInRange-taken b p asks.opening ds LiesInRange-opening in
+    elim (cases_lt LAST_NUMBER number) [
+      | inl past ↦ absurd (false≢true (sym (lies.keys number past) ∙ key))
+      | inr within ↦ within
+    ]
+
 pub front_least : (b : Building) (p : Text) (ds : List Delivery) → 1 ≤ asks.front (taken_by b p ds)
 front_least b p ds =
     let least = (LiesInRange-taken b p asks.opening ds LiesInRange-opening).least in

@@ -53,7 +53,7 @@ IsSent (Skip panel upto) = Unit {0}
 IsSent (Tick moment) = ⊥
 IsSent (Import rows) = ⊥
 
-clock_event-sent : (b : Building) (E : List Delivery) (d : Delivery) → IsSent d → clock_event b E d ≡ []
+pub clock_event-sent : (b : Building) (E : List Delivery) (d : Delivery) → IsSent d → clock_event b E d ≡ []
 clock_event-sent b E (Command panel number content) sent = refl
 clock_event-sent b E (Skip panel upto) sent = refl
 clock_event-sent b E (Tick moment) sent = absurd sent
@@ -87,7 +87,7 @@ asks-none b q d none =
     elim (bytes_eq (panel_of d) q && is_some (panel_named b q)) as (λ t. cond t (listed (asked d)) [] ≡ [])
     [ true ↦ ap listed none | false ↦ refl ]
 
-asks-unknown : (b : Building) (q : Text) (d : Delivery) → panel_named b (panel_of d) ≡ None → asks_of b q d ≡ []
+pub asks-unknown : (b : Building) (q : Text) (d : Delivery) → panel_named b (panel_of d) ≡ None → asks_of b q d ≡ []
 asks-unknown b q d unknown = elim (cases_Bool (bytes_eq (panel_of d) q)) [
   | inl same ↦
       let here : panel_named b q ≡ None = ap (panel_named b) (sym ((bytes_eq-Decides (panel_of d) q).0 same)) ∙ unknown in

@@ -1,3 +1,2 @@
-pub mod EmptyLemmas
 pub mod ReplayLemmas
 pub mod StopLemmas

@@ -87,7 +87,7 @@ front-command t content rows run keeps is =
 one_more : (end f : ℕ) → f + 1 ≤ end → end - f ≡ suc (end - (f + 1))
 one_more end f above = omega arith
 
-contents_from-new : (count : ℕ) (t : Taken) (n : ℕ) (content : Content) → content_at t n ≡ Some content
+pub contents_from-new : (count : ℕ) (t : Taken) (n : ℕ) (content : Content) → content_at t n ≡ Some content
     → contents_from (suc count) t n ≡ record { number = n; content = content } ∷ contents_from count t (n + 1)
 contents_from-new count t n content found = rw found refl
 

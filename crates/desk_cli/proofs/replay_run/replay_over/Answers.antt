@@ -3,7 +3,7 @@ use Rattle.building.specs.Building.{Building, contents_of}
 use Rattle.deliveries.specs.Tables.{tables}
 use Rattle.store.specs.Standing.{sound}
 use Rattle.mem_store.specs.Memory.{standing_of}
-use Rattle.desk_cli.proofs.EmptyLemmas.{tables-none}
+use Rattle.deliveries.proofs.EmptyLemmas.{tables-none}
 use Rattle.desk_cli.proofs.replay_run.replay_over.Goals as goal
 
 -- what follows from what an `Ok` holds, holds at it

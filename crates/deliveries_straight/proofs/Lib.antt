@@ -1,0 +1,5 @@
+pub mod CutLemmas
+pub mod InTurn
+pub mod MachineSame
+pub mod RiseLemmas
+pub mod TablesSame

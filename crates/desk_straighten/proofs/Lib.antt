@@ -1,0 +1,3 @@
+pub mod LoopLemmas
+pub mod NewRowLemmas
+pub mod StoreLemmas

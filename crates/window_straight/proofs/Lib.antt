@@ -1,0 +1,4 @@
+pub mod BetweenLemmas
+pub mod ParkedLemmas
+pub mod RowExamples
+pub mod WalkLemmas

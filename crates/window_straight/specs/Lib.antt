@@ -1,0 +1,5 @@
+pub mod Between
+pub mod Laws
+pub mod Parked
+pub mod Straight
+pub mod Straightened
