@@ -12,7 +12,7 @@ use Rattle.window.specs.declared.numbered_content.NumberedContent.{NumberedConte
 use Rattle.deliveries.specs.Events.{events_of, has_calendar}
 use Rattle.deliveries.specs.Laws.{HasDistinctSchedules}
 use Rattle.deliveries.specs.Machine.{Command, Event, Import, Machine, Tick, added, added_by, local_of, opening_machine, run, settled, step}
-use Rattle.deliveries.specs.Machine.{straightened_at, with_rows, writes_at}
+use Rattle.deliveries.specs.Machine.{told_at, with_rows, writes_at}
 use Rattle.deliveries.proofs.AgainLemmas.{both-parts}
 use Rattle.deliveries.proofs.ClockLemmas.{with_items-none}
 use Rattle.deliveries.proofs.EventLemmas.{run-append}
