@@ -90,13 +90,14 @@ def small_repository(to):
     for name in ("Makefile", "HANDLES"):
         shutil.copy2(ROOT / name, to / name)
     subprocess.run(["git", "init", "-q", str(to)], check=True)
-    (to / "crates.txt").write_text("lowest:\ndesk_program: lowest\n")
+    (to / "crates.txt").write_text("lowest:\n")
     low = to / "crates" / "lowest" / "src"
     low.mkdir(parents=True)
     (low / "lib.rt").write_text(f"//! The number {mark}.\n#![tactic(auto)]\n\nghost use Rattle.std.specs.Prelude.{{◌≡◌}};\n\n"
                                 "/// Seven.\npub fn seven() -> u64\n    ensures { result ≡ 7 }\n{\n    7\n}\n")
     subprocess.run(["rt", "new", "crates/desk_program", "start_io"], cwd=to, check=True, capture_output=True)
     (to / "crates" / "desk_program" / "BUILD.bazel").unlink(missing_ok=True)
+    (to / "crates.txt").write_text("lowest:\ndesk_program: lowest\n")
     return to
 
 
