@@ -1,9 +1,10 @@
 """Compares `desk straighten` with the plain slow desk: on random lists over small buildings, on every list of a few
 deliveries near both ends of the window, and about every skip over commands that wait.
 
-Of each list it is looked that what is printed is the straight list; that a replay of what was printed leaves the points
-as a replay of the list does; that no reply in it is one to a repeat, a loss or a late delivery; and that what was
-printed is its own straight list. The last three are looked at for the lists of the cases too.
+Of each list it is looked that what is printed is the straight list, and is its own straight list; that in a replay of
+what was printed no reply is one to a repeat, a loss or a late delivery; and that it leaves all as a replay of the list
+does: the points, and what the same list is answered after it. All but the first is looked at for the lists of the cases
+too.
 
 Usage: straightened.py PROGRAM [SEED [LISTS]]
 """
@@ -55,7 +56,8 @@ def printed_by(program, subcommand, building, listed):
 def replayed(program, building, listed):
     """The replies of a replay, and the lines of its points."""
     lines = printed_by(program, "replay", building, listed).splitlines()
-    return [line for line in lines if line.startswith("{")], [line for line in lines if line.startswith("POINT ")]
+    points = [line for line in lines if line.startswith("POINT ")]
+    return lines[: len(lines) - len(points)], points
 
 
 def panel_line_is_in_turn(members, next_number, reply):
@@ -84,7 +86,7 @@ def out_of_turn(lines, replies):
     A command may wait only where nothing but commands that wait come after it, each panel's by rising number.
     """
     nexts, waiting = {}, {}
-    for line, reply in zip(lines, replies, strict=True):
+    for line, reply in zip(lines, replies):
         members = json.loads(line)
         panel, waits = members.get("panel"), '"answer":"parked"' in reply
         if panel is None:
@@ -99,16 +101,26 @@ def out_of_turn(lines, replies):
     return None
 
 
+def after(program, building, first, second):
+    """What is answered to a list, the points after it, and what both become where the second list comes after it."""
+    both = first.with_suffix(".both")
+    both.write_bytes(first.read_bytes() + b"\n" + second.read_bytes())
+    replies, points = replayed(program, building, first)
+    more, points_of_both = replayed(program, building, both)
+    return replies, (points, more[len(replies) :], points_of_both)
+
+
 def look_at(program, building, listed, wanted=None):
     """Raises where the straightening of a list is not what is promised of it, or not the text that is wanted."""
     straight = listed.with_suffix(".straight")
     text = printed_by(program, "straighten", building, listed)
     expect(text, text if wanted is None else wanted)
     straight.write_text(text)
-    replies, points = replayed(program, building, straight)
-    expect(out_of_turn(text.splitlines(), replies), None)
-    expect(points, replayed(program, building, listed)[1])
     expect(printed_by(program, "straighten", building, straight), text)
+    replies, left = after(program, building, straight, listed)
+    lines = text.splitlines()
+    expect((len(replies), out_of_turn(lines, replies)), (len(lines), None))
+    expect(left, after(program, building, listed, listed)[1])
 
 
 # ---- the lists
@@ -177,7 +189,7 @@ def disagreement(program, folder, seed, index):
     return differs(program, folder, index, rng, building, deliveries_at(index)(rng, building))
 
 
-def compare_all(program, seed, lists=LISTS):
+def compare_lists(program, seed, lists=LISTS):
     """How many lists agreed, and what was told of those that did not."""
     wide = list(wide_lists())
     with tempfile.TemporaryDirectory(prefix="desk-straightened-") as room, ThreadPoolExecutor(4) as pool:
@@ -268,7 +280,7 @@ TESTS = [the_plain_program_knows_worked_lists, the_lists_of_the_cases_are_straig
 def main(words):
     seed = int(words[2]) if len(words) > 2 else random.randrange(10**9)
     lists = int(words[3]) if len(words) > 3 else LISTS
-    agreed, differing = compare_all(words[1], seed, lists)
+    agreed, differing = compare_lists(words[1], seed, lists)
     print(f"{agreed} lists are straightened as the definition says, {lists} random ones among them (seed {seed})")
     for text in differing[:3]:
         print(text)
