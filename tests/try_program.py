@@ -140,6 +140,25 @@ def try_first_run_of_the_document(program, room):
     return difference(run(program, command.split()[2:], room), 0, printed.encode(), b"")
 
 
+def try_straightened_day_of_the_document(program, room):
+    """The day that docs/OPERATING.md shows before and after it is straightened is what a reader gets, also replayed."""
+    text = (HERE.parent / "docs" / "OPERATING.md").read_text()
+    section = text[text.index("## Straightening a list\n") : text.index("## The database\n")]
+    day, straight, replayed = re.findall(r"^```\n(.*?)^```$", section, re.S | re.M)
+    (room / "examples").mkdir()
+    (room / "examples" / "building.toml").write_text(tables.WORKED)
+    (room / "monday.jsonl").write_text(day)
+    command, printed = straight.split("\n", 1)
+    (room / "straight.jsonl").write_text(printed)
+    again, command_after, replies = replayed.split("\n", 2)
+    wrong = "" if again == f"{command} > straight.jsonl" else f"{again!r} makes no straight.jsonl"
+    for words, wanted in ((command, printed), (command_after, replies)):
+        wrong = wrong or difference(run(program, words.split()[2:], room), 0, wanted.encode(), b"")
+    points = [line for line in replies.splitlines() if line.startswith("POINT ")]
+    before = run(program, ["replay", "examples/building.toml", "monday.jsonl"], room).stdout.decode().splitlines()
+    return wrong or ("" if before[-len(points):] == points else f"the day leaves {before!r}, wanted {points!r}")
+
+
 def all_tests(program):
     """The name of each test, and the call that tries it in a folder of its own."""
     for case in sorted((HERE / "cases").iterdir()):
