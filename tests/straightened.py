@@ -21,7 +21,7 @@ from dataclasses import replace
 
 import compare
 import tables
-from serving import SECONDS, expect
+from serving import IN_MEMORY, SECONDS, expect
 from slow_desk import Building, Command, Content, Import, Panel, Point, Skip, Tick, straight_list, straightened
 from slow_schedules import Calendar
 
@@ -146,7 +146,7 @@ def deliveries_at(index):
 
 
 def lists_about_a_skip():
-    """Each choice of commands 2 to 6 that wait, and a skip to each number about them, and then number 1."""
+    """Each choice of commands 2 to 6 that wait, a skip to a number about them, then number 1, and one past the skip."""
     on = Content("LIGHT", 8, 1)
     for some in itertools.product([False, True], repeat=5):
         waiting = [Command("P1", number, on) for number, waits in enumerate(some, 2) if waits]
@@ -171,33 +171,31 @@ WIDE = Building(
 )
 
 
-def differs(program, folder, name, rng, building, deliveries):
+def differs(program, name, rng, building, deliveries):
     """Where the program and the promises differ on one list, or None."""
-    file, listed = folder / f"{name}.toml", folder / f"{name}.jsonl"
-    file.write_text(compare.toml_of(building))
-    listed.write_text(some_lines(rng, deliveries))
-    try:
-        look_at(program, file, listed, straightened(building, deliveries))
-    except AssertionError as error:
-        return f"list {name}: {file.read_text()}{listed.read_text()}found {error}"
+    with tempfile.TemporaryDirectory(prefix="desk-straightened-", dir=IN_MEMORY) as room:
+        file, listed = pathlib.Path(room) / "building.toml", pathlib.Path(room) / "list.jsonl"
+        file.write_text(compare.toml_of(building))
+        listed.write_text(some_lines(rng, deliveries))
+        try:
+            look_at(program, file, listed, straightened(building, deliveries))
+        except AssertionError as error:
+            return f"straightened list {name}: {file.read_text()}{listed.read_text()}found {error}"
     return None
 
 
-def disagreement(program, folder, seed, index):
+def disagreement(program, seed, index):
     rng = random.Random(f"straightened {seed} {index}")
     building = compare.some_building(rng)
-    return differs(program, folder, index, rng, building, deliveries_at(index)(rng, building))
+    return differs(program, index, rng, building, deliveries_at(index)(rng, building))
 
 
 def compare_lists(program, seed, lists=LISTS):
     """How many lists agreed, and what was told of those that did not."""
     wide = list(wide_lists())
-    with tempfile.TemporaryDirectory(prefix="desk-straightened-") as room, ThreadPoolExecutor(4) as pool:
-        folder = pathlib.Path(room)
-        told = list(pool.map(lambda index: disagreement(program, folder, seed, index), range(lists)))
-        told += pool.map(
-            lambda place: differs(program, folder, f"wide {place}", random.Random(place), WIDE, wide[place]), range(len(wide))
-        )
+    with ThreadPoolExecutor(4) as pool:
+        told = list(pool.map(lambda index: disagreement(program, seed, index), range(lists)))
+        told += pool.map(lambda place: differs(program, f"wide {place}", random.Random(place), WIDE, wide[place]), range(len(wide)))
     differing = [text for text in told if text is not None]
     return len(told) - len(differing), differing
 
@@ -220,7 +218,7 @@ def the_lists_of_the_cases_are_straightened(program, folder):
             raise AssertionError(f"{case.name}: {error}") from error
 
 
-PLACE = Building(
+HOUSE = Building(
     (Point("SET", "analog", 500, 3500, 1800), Point("LIGHT", "binary", 0, 1, 0)),
     (Panel("P1", ("SET", "LIGHT"), (8, 10)), Panel("P2", ("SET",), (9,))),
     "CET-1CEST,M3.5.0,M10.5.0/3",
@@ -270,7 +268,7 @@ WORKED = [
 def the_plain_program_knows_worked_lists(program, folder):
     """So that what it tells of a straight list is no error of its own."""
     for deliveries, wanted in WORKED:
-        told, waiting = straight_list(PLACE, deliveries)
+        told, waiting = straight_list(HOUSE, deliveries)
         expect(told + waiting, wanted)
 
 
