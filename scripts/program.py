@@ -19,10 +19,10 @@ TOOLCHAIN = "rattle-kit-13f logic dac8208d650f15bf"
 LEAST_PYTHON = (3, 11)
 
 
-def below():
-    """The crates that the program is made of, each with those that it stands on."""
+def below(top=NAME):
+    """A crate and all that it stands on, the program's without another one, each with those that it stands on."""
     crates = progress.crates_of((ROOT / "crates.txt").read_text())
-    wanted = progress.closure(crates, NAME)
+    wanted = progress.closure(crates, top)
     return {name: crates[name] for name in crates if name in wanted}
 
 
@@ -54,9 +54,9 @@ def keep(made, sum):
     SUM.write_text(sum + "\n")
 
 
-def cut_copy(to):
-    """Copies what the program is proved and built from: no trials, tests of them or wrong bodies."""
-    wanted = below()
+def cut_copy(to, top=NAME):
+    """Copies what a crate is proved from: no trials, tests of them or wrong bodies."""
+    wanted = below(top)
     (to / ".git").mkdir(parents=True)
     for name in wanted:
         shutil.copytree(ROOT / "crates" / name, to / "crates" / name,

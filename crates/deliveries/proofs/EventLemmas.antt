@@ -10,10 +10,7 @@ use Rattle.deliveries.specs.declared.delivery.Delivery.{Delivery}
 use Rattle.deliveries.specs.Accepted.{asks_of, taken_by}
 use Rattle.deliveries.specs.Machine.{Event, Machine, opening_machine, run, step}
 use Rattle.deliveries.specs.Events.{acted_on, events_after, machine}
-
-pub taken-append : (t : asks.Taken) (xs ys : List asks.Ask) → asks.taken t (xs ++ ys) ≡ asks.taken (asks.taken t xs) ys
-taken-append t [] ys = refl
-taken-append t (x ∷ xs) ys = taken-append (asks.take t x) xs ys
+use Rattle.window.proofs.TakenLemmas.{taken-append}
 
 flat_map-push : {A B : Type 0} (f : A → List B) (xs : List A) (x : A) → flat_map f (xs ++ x ∷ []) ≡ flat_map f xs ++ f x
 flat_map-push f xs x = flat_map-append f xs (x ∷ []) ∙ ap (λ ys. flat_map f xs ++ ys) (append-nil (f x))

@@ -10,4 +10,3 @@ pub mod RangeLemmas
 pub mod RefusedLemmas
 pub mod RowLemmas
 pub mod StepLemmas
-pub mod TakenLemmas

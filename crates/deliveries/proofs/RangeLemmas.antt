@@ -21,7 +21,7 @@ use Rattle.building.specs.Building.{Building}
 use Rattle.deliveries.specs.declared.delivery.Delivery.{Delivery}
 use Rattle.deliveries.specs.declared.delivery.Delivery.TheVariants as delivery_of
 use Rattle.deliveries.specs.Accepted.{ask_command, ask_skip, asked, asks_of, listed, number_upto, panel_named, panel_of, taken_by}
-use Rattle.deliveries.proofs.EventLemmas.{taken-append}
+use Rattle.window.proofs.TakenLemmas.{taken-append}
 
 -- what a panel asks with a number in its range
 abbrev IsInRange : asks.Ask → Type 0

@@ -24,7 +24,7 @@ use Rattle.deliveries.specs.Machine.{Machine, run}
 use Rattle.deliveries.specs.Moved.{answered_rows, parked_rows}
 use Rattle.deliveries.specs.Tables.{row_of, row_at}
 use Rattle.deliveries.proofs.MachineLemmas.{Rise, bytes_eq-same, answers-apart, answers-elsewhere, rows-apart, rows-elsewhere, rows-here, with_each-append}
-use Rattle.deliveries.proofs.TakenLemmas.{content_at-below, content_at-none, content_at-past, IsParked-parked_by}
+use Rattle.window.proofs.TakenLemmas.{content_at-below, content_at-none, content_at-past, IsParked-parked_by}
 
 -- what is applied rises
 

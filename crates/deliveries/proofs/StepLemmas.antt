@@ -28,7 +28,7 @@ use Rattle.deliveries.specs.Reply.{reply, reply_by_clock, reply_in_range, reply_
 use Rattle.deliveries.specs.Tables.{row_at, row_of, tables}
 use Rattle.deliveries.proofs.EventLemmas.{machine-push, taken_by-push}
 use Rattle.deliveries.proofs.MachineLemmas.{bytes_eq-same}
-use Rattle.deliveries.proofs.TakenLemmas.{take-unmoved}
+use Rattle.window.proofs.TakenLemmas.{take-unmoved}
 
 -- where nothing more is accepted of any panel, the tables stay
 

@@ -1,5 +1,6 @@
 -- Cut imports lead the machine to the same.
-use Rattle.std.proofs.Common.{◌≡◌, Bool, true, false, ◌&&◌, List, [], ◌∷◌, ◌++◌, Option, Some, None, refl, sym, ap, ◌∙◌, append_assoc, subst}
+use Rattle.std.proofs.Common.{◌≡◌, Bool, true, false, ◌&&◌, List, [], ◌∷◌, ◌++◌, Option, Some, None, refl, sym, ap, ◌∙◌, append_assoc}
+use Rattle.std.proofs.Common.{subst}
 use Rattle.std.specs.List.{list_all}
 use Rattle.building.specs.Building.{Building}
 use Rattle.sched.specs.declared.calendar.CalendarEntry.{CalendarEntry}
@@ -10,7 +11,8 @@ use Rattle.store.specs.Tables.{Text}
 use Rattle.window.specs.declared.numbered_content.NumberedContent.{NumberedContent}
 use Rattle.deliveries.specs.Events.{events_of, has_calendar}
 use Rattle.deliveries.specs.Laws.{HasDistinctSchedules}
-use Rattle.deliveries.specs.Machine.{Command, Event, Import, Machine, Tick, added, added_by, local_of, opening_machine, run, settled, step, straightened_at, with_rows, writes_at}
+use Rattle.deliveries.specs.Machine.{Command, Event, Import, Machine, Tick, added, added_by, local_of, opening_machine, run, settled, step}
+use Rattle.deliveries.specs.Machine.{told_at, with_rows, writes_at}
 use Rattle.deliveries.proofs.AgainLemmas.{both-parts}
 use Rattle.deliveries.proofs.ClockLemmas.{with_items-none}
 use Rattle.deliveries.proofs.EventLemmas.{run-append}

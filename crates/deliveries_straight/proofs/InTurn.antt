@@ -1,5 +1,6 @@
 -- No tolerance is used.
-use Rattle.std.proofs.Common.{◌≡◌, ℕ, suc, zero, ◌+◌, ◌-◌, ◌<◌, ◌≤◌, ◌==◌, Bool, true, false, cond, ◌&&◌, ◌||◌, not, List, [], ◌∷◌, ◌++◌, map, Option, Some, None, is_some, option_map, pos, ℤ, length, rules}
+use Rattle.std.proofs.Common.{◌≡◌, ℕ, suc, zero, ◌+◌, ◌-◌, ◌<◌, ◌≤◌, ◌==◌, Bool, true, false, cond, ◌&&◌, ◌||◌, not, List, [], ◌∷◌, ◌++◌}
+use Rattle.std.proofs.Common.{map, Option, Some, None, is_some, option_map, pos, ℤ, length, rules}
 use Rattle.std.proofs.Common.{refl, sym, ap, ap₂, ◌∙◌, append_assoc, subst, arith, inl, inr, nat_lt, nat_le}
 use Rattle.std.specs.List.{flat_map, list_all, position_or_len}
 use Rattle.std.specs.Str.{bytes_eq}
@@ -44,7 +45,9 @@ use Rattle.window_straight.specs.Straight.{AreNext, IsNext, IsStraight}
 use Rattle.deliveries_straight.specs.StraightList.{sent, sent_by_clock, straightened_after, straightened_by}
 use Rattle.window_straight.specs.Straightened.{straightened}
 use Rattle.deliveries_straight.proofs.CutLemmas.{added-added_rows, have_calendars-added_rows}
-use Rattle.deliveries_straight.proofs.MachineSame.{AreSent, AreSent-straightened, Asks-made, Does-straightened, Follows, Follows-none, Follows-push, last_tick-same, panel_of-sent, taken-sent, straightened-asked, straightened-unasked}
+use Rattle.deliveries_straight.proofs.MachineSame.{AreSent, AreSent-straightened, Asks-made, Does-straightened, Follows, Follows-none}
+use Rattle.deliveries_straight.proofs.MachineSame.{Follows-push, last_tick-same, panel_of-sent, taken-sent, straightened-asked}
+use Rattle.deliveries_straight.proofs.MachineSame.{straightened-unasked}
 use Rattle.window_straight.proofs.ParkedLemmas.{AreAhead, IsAhead}
 use Rattle.window_straight.proofs.WalkLemmas.{none_of, walk_stays_straight}
 use Rattle.deliveries.proofs.RefusedLemmas.{refused-at}

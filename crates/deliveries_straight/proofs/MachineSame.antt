@@ -1,5 +1,6 @@
 -- The straight list has the same acted on.
-use Rattle.std.proofs.Common.{◌≡◌, ℕ, suc, zero, ◌+◌, ◌-◌, ◌<◌, ◌≤◌, ◌==◌, Bool, true, false, cond, ◌&&◌, ◌||◌, not, List, [], ◌∷◌, ◌++◌, map, Option, Some, None, is_some, pos, ℤ}
+use Rattle.std.proofs.Common.{◌≡◌, ℕ, suc, zero, ◌+◌, ◌-◌, ◌<◌, ◌≤◌, ◌==◌, Bool, true, false, cond, ◌&&◌, ◌||◌, not, List, [], ◌∷◌, ◌++◌}
+use Rattle.std.proofs.Common.{map, Option, Some, None, is_some, pos, ℤ}
 use Rattle.std.proofs.Common.{refl, sym, ap, ap₂, ◌∙◌, append_assoc, subst, arith, inl, inr, nat_lt, nat_le}
 use Rattle.std.specs.List.{flat_map, list_all}
 use Rattle.std.specs.Str.{bytes_eq}
@@ -20,14 +21,17 @@ use Rattle.window.proofs.FrontLemmas.{IsFront-front, front-take}
 use Rattle.deliveries.specs.declared.delivery.Delivery.{Delivery}
 use Rattle.deliveries.specs.declared.delivery.Delivery.TheVariants as delivery_of
 use Rattle.deliveries.specs.Accepted.{asked, asks_of, ask_command, ask_skip, number_upto, panel_named, panel_of, taken_by}
-use Rattle.deliveries.specs.Events.{acted_on, clock_event, commands_of, events_after, events_of, has_calendar, is_later, is_moment, last_tick_of, machine}
+use Rattle.deliveries.specs.Events.{acted_on, clock_event, commands_of, events_after, events_of, has_calendar, is_later, is_moment}
+use Rattle.deliveries.specs.Events.{last_tick_of, machine}
 use Rattle.deliveries.specs.Laws.{HasDistinctSchedules}
 use Rattle.deliveries.specs.Machine.{Event, Command, Import, Machine, Tick, opening_machine, run}
 use Rattle.deliveries.proofs.ClockLemmas.{machine-last_tick}
-use Rattle.deliveries.proofs.EventLemmas.{machine-push, run-append, taken-append, taken_by-push}
+use Rattle.deliveries.proofs.EventLemmas.{machine-push, run-append, taken_by-push}
+use Rattle.window.proofs.TakenLemmas.{taken-append}
 use Rattle.deliveries.proofs.MachineLemmas.{bytes_eq-same}
 use Rattle.deliveries.proofs.RangeLemmas.{front_greatest, front_least}
-use Rattle.deliveries.proofs.StepLemmas.{Asks, Asks-sent, IsSent, acted_on-sent, asks-none, asks-unknown, clock_event-sent, commands_of-same, taken-apart, taken-here}
+use Rattle.deliveries.proofs.StepLemmas.{Asks, Asks-sent, IsSent, acted_on-sent, asks-none, asks-unknown, clock_event-sent}
+use Rattle.deliveries.proofs.StepLemmas.{commands_of-same, taken-apart, taken-here}
 use Rattle.deliveries_straight.specs.Cut.{added_rows, cut, cut_event, import_of}
 use Rattle.window_straight.specs.Laws.{WalksStraight}
 use Rattle.window_straight.specs.Straight.{AreNext, IsStraight, applied_by}

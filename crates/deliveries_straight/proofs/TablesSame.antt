@@ -1,5 +1,6 @@
 -- The straight list leaves the same tables.
-use Rattle.std.proofs.Common.{◌≡◌, ℕ, suc, zero, ◌+◌, ◌-◌, ◌<◌, ◌≤◌, Bool, true, false, cond, ◌&&◌, ◌||◌, not, List, [], ◌∷◌, ◌++◌, map, Option, Some, None, is_some, option_map, find}
+use Rattle.std.proofs.Common.{◌≡◌, ℕ, suc, zero, ◌+◌, ◌-◌, ◌<◌, ◌≤◌, Bool, true, false, cond, ◌&&◌, ◌||◌, not, List, [], ◌∷◌, ◌++◌, map}
+use Rattle.std.proofs.Common.{Option, Some, None, is_some, option_map, find}
 use Rattle.std.proofs.Common.{refl, sym, ap, ap₂, ◌∙◌, append_assoc, subst, arith, inl, inr, ◌⊎◌, nat_lt}
 use Rattle.std.specs.Bool.{IsTrue}
 use Rattle.std.specs.Cmp.Lexicographic.{nat_list_eq_equiv}
@@ -40,7 +41,8 @@ use Rattle.deliveries_straight.specs.StraightList.{parked_of, sent, straight_lis
 use Rattle.window_straight.specs.Parked.{command_of, parked_asks}
 use Rattle.deliveries_straight.proofs.InTurn.{EachAfter-append, InTurn-walk, StaysParked-all_sent}
 use Rattle.deliveries.proofs.RangeLemmas.{key_greatest}
-use Rattle.deliveries_straight.proofs.MachineSame.{AreSent, Follows, Follows-walk, command-sent, events-all_sent, events_after-append, machine-append, taken-all_sent, taken-none_sent}
+use Rattle.deliveries_straight.proofs.MachineSame.{AreSent, Follows, Follows-walk, command-sent, events-all_sent, events_after-append}
+use Rattle.deliveries_straight.proofs.MachineSame.{machine-append, taken-all_sent, taken-none_sent}
 use Rattle.deliveries_straight.proofs.RiseLemmas.{numbers-rise}
 use Rattle.window_straight.proofs.ParkedLemmas.{Completes-straight, IsWhole}
 

@@ -11,10 +11,12 @@ use Rattle.store.specs.declared.fault.StoreFault.{StoreFault}
 use Rattle.store.specs.declared.fault.StoreFault.TheVariants.{Failed, Shut, BadRow}
 use Rattle.store.specs.declared.names.Names.{Names}
 use Rattle.store.specs.Listed.{AreNames, AreTexts, HasCalendar, HasPanel, HasPoint, HasSchedule}
-use Rattle.store.specs.Standing.{Content, Reads, Standing}
-use Rattle.store.specs.Tables.{Tables, Text}
+use Rattle.store.specs.Standing.{Content, Reads, Standing, sound}
+use Rattle.store.specs.Tables.{Tables, Text, no_tables}
 use Rattle.store.proofs.ReadLemmas.{Goes-told, Reads-then}
 use Rattle.building.specs.Building.{Building}
+use Rattle.deliveries.specs.Delivered.{Holds}
+use Rattle.deliveries.proofs.EmptyLemmas.{tables-none}
 use Rattle.desk.specs.Opening.{AreKnown, Opens, Suits, are_known, has_calendar, has_panel, has_point, has_schedule, is_ticked}
 
 pub is_some-find : {A : Type 0} (test : A → Bool) (xs : List A) → is_some (find test xs) ≡ list_any test xs
@@ -169,3 +171,7 @@ pub Opens-unread : (b : Building) (fault : StoreFault) (first second third : Sta
     → Reads (Some fault) second third → Opens b (Some fault) first third
 Opens-unread b fault first second third before after =
     Opens-failed b fault first third (Reads-then (Some fault) first second third before after)
+
+-- over empty tables a desk begins with those of no deliveries
+pub Opens-empty : (b : Building) (old new : Standing) → Opens b None old new → new.is_honest → old.content ≡ sound no_tables → Holds b [] new
+Opens-empty b old new opens honest empty = opens.kept honest (λ e. cc) ∙ (empty ∙ ap sound (tables-none b))

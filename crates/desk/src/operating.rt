@@ -1,10 +1,11 @@
 //! The desk.
-ghost use Rattle.std.specs.Prelude.{◌≡◌, List, None, Some, IfErr, IfOk, string_bytes};
+ghost use Rattle.std.specs.Prelude.{◌≡◌, ◌<◌, ◌⊎◌, List, [], None, Some, IfErr, IfOk, length, string_bytes};
+ghost use Rattle.std.specs.Bool.{IsTrue};
 ghost use Rattle.std.specs.Result.{result_err};
 ghost use Rattle.day_reports.specs.DayReport.{report_text};
 ghost use Rattle.points.specs.Rights.{point_named};
 ghost use Rattle.settling.specs.Calendars.{Tells};
-ghost use Rattle.store.specs.declared.fault.StoreFault.TheVariants.{BadRow};
+ghost use Rattle.store.specs.declared.fault.StoreFault.TheVariants.{BadRow, NoMemory, Shut};
 ghost use Rattle.store.specs.Standing.{Goes, Reads, sound};
 ghost use Rattle.store.specs.Tables.{Text, no_tables};
 ghost use Rattle.deliveries.specs.declared.delivery.Delivery.{Delivery as a_delivery};
@@ -39,6 +40,7 @@ impl<S: Store + Drop> Desk<S> {
         requires empty { (S.standing store).content ≡ sound no_tables }
         ensures building { result.building ≡ building }
         ensures store { result.store ≡ store }
+        ensures begins { Holds building [] (S.standing result.store) }
     {
         Desk {
             alloc,
@@ -50,10 +52,12 @@ impl<S: Store + Drop> Desk<S> {
     /// Opens a desk of a building over a store, which holds the tables of what was delivered so far: S5 where a
     /// name in them is not the building's, or where entries, the last tick or a next number cannot stand; so
     /// never where they are those of deliveries to this building. The store is only read, and is handed back
-    /// with the fault.
+    /// with the fault. Over empty tables the desk begins with those of no deliveries.
     pub fn open(alloc: Global, building: Building, store: S) -> Result<Desk<S>, (StoreFault, S)>
         ensures building { IfOk result (λ desk. desk.building ≡ building) }
         ensures opened { IfOk result (λ desk. Opens building None (S.standing store) (S.standing desk.store)) }
+        ensures begins { (S.standing store).content ≡ sound no_tables
+            → IfOk result (λ desk. (S.standing desk.store).is_honest → Holds building [] (S.standing desk.store)) }
         ensures refused { IfErr result (λ told. Opens building (Some told.0) (S.standing store) (S.standing told.1)) }
         ensures own_tables { (earlier : List a_delivery) → Holds building earlier (S.standing store)
             → IfErr result (λ told. (S.standing told.1).is_honest → told.0 ≡ BadRow → ⊥) }
@@ -127,12 +131,15 @@ impl<S: Store + Drop> Desk<S> {
         }
     }
 
-    /// Delivers a list, each delivery after those before it, up to a fault. What was answered stands.
+    /// Delivers a list, each delivery after those before it, up to a fault. What was answered stands. On a store that is
+    /// shut the first delivery is answered S3, unless there is no memory for the replies.
     pub fn run(&mut self, deliveries: &[Delivery]) -> (Vec<Reply>, Option<StoreFault>)
         ensures headline { (earlier : List a_delivery) → (S.standing self.new.store).is_honest
             → Holds self.old.building earlier (S.standing self.old.store)
             → Runs self.old.building earlier deliveries.now result.0.items result.1 (S.standing self.new.store) }
         ensures stands { Stands result.1 (S.standing self.old.store) (S.standing self.new.store) }
+        ensures shut { IsTrue (S.standing self.old.store).is_shut → 0 < length deliveries.now
+            → (result.1 ≡ Some Shut) ⊎ (result.1 ≡ Some NoMemory) }
         ensures building { self.new.building ≡ self.old.building }
     {
         let mut replies = Vec::new(self.alloc);

@@ -4,4 +4,5 @@ pub mod FrontLemmas
 pub mod LawLemmas
 pub mod PlanLemmas
 pub mod RunLemmas
+pub mod TakenLemmas
 pub mod VerdictLemmas

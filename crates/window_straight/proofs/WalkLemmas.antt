@@ -1,5 +1,6 @@
 -- What one ask becomes leads a straight panel to where the ask leads.
-use Rattle.std.proofs.Common.{◌≡◌, ◌≢◌, ℕ, suc, zero, ◌+◌, ◌-◌, ◌<◌, ◌≤◌, ◌==◌, ◌++◌, Bool, true, false, cond, not, ◌&&◌, ◌||◌, max, List, [], ◌∷◌, Option}
+use Rattle.std.proofs.Common.{◌≡◌, ◌≢◌, ℕ, suc, zero, ◌+◌, ◌-◌, ◌<◌, ◌≤◌, ◌==◌, ◌++◌, Bool, true, false, cond, not, ◌&&◌, ◌||◌, max, List}
+use Rattle.std.proofs.Common.{[], ◌∷◌, Option}
 use Rattle.std.proofs.Common.{Some, None, is_some, refl, sym, ap, ◌∙◌, subst, arith, inl, inr, ◌⊎◌, nat_lt, nat_le, append_assoc}
 use Rattle.std.proofs.lemmas.Bool.Decides.{nat_tests}
 use Rattle.std.proofs.lemmas.Bool.{both_ways, cases_Bool, cases_eq, cases_lt, cases_order, false≢true}
@@ -10,9 +11,9 @@ use Rattle.window.specs.Applied.{applied, and_at, contents_from}
 use Rattle.window.specs.Taken.{Ask, Command, Skip, Taken, take, taken, content_at, is_key, front, accepts, accepts_skip, with_command}
 use Rattle.window.specs.Window.{window}
 use Rattle.window.proofs.FrontLemmas.{IsFront-front, front-is, front-take, key_new, key_other, key_stays, take-accepted, take-refused}
-use Rattle.window.proofs.PlanLemmas.{IsSkipWithin-accepted, accepts-front, accepts_skip-within, content_new, content_other, contents_from-new, take-skip_accepted, take-skip_refused, window_positive, with_skip}
-use Rattle.deliveries.proofs.EventLemmas.{taken-append}
-use Rattle.deliveries.proofs.TakenLemmas.{content_at-below}
+use Rattle.window.proofs.PlanLemmas.{IsSkipWithin-accepted, accepts-front, accepts_skip-within, content_new, content_other}
+use Rattle.window.proofs.PlanLemmas.{contents_from-new, take-skip_accepted, take-skip_refused, window_positive, with_skip}
+use Rattle.window.proofs.TakenLemmas.{content_at-below, taken-append}
 use Rattle.window_straight.specs.Straight.{AreNext, IsNext, IsStraight, applied_by}
 use Rattle.window_straight.specs.Straightened.{command_under, ends_gap, skip_upto, straightened, straightened_at, straightened_from}
 use Rattle.window_straight.specs.Laws.{WalksStraight}

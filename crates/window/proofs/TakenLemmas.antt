@@ -1,15 +1,20 @@
--- What stands under a number after one ask.
-use Rattle.std.proofs.Common.{◌≡◌, ◌≢◌, ℕ, ◌<◌, ◌≤◌, ◌&&◌, Bool, true, false, cond, Option, Some}
+-- Asks one after the other, and what stands under a number after one ask.
+use Rattle.std.proofs.Common.{◌≡◌, ◌≢◌, ℕ, ◌<◌, ◌≤◌, ◌&&◌, ◌++◌, ◌∷◌, [], List, Bool, true, false, cond, Option, Some}
 use Rattle.std.proofs.Common.{None, is_some, refl, sym, ap, ◌∙◌, subst, arith, inl, inr, nat_lt, max}
 use Rattle.std.proofs.lemmas.Bool.Decides.{nat_tests}
 use Rattle.std.proofs.lemmas.Bool.{cases_Bool, cases_eq, false≢true}
 use Rattle.points.specs.declared.content.Content.{Content}
 use Rattle.window.specs.declared.numbered_content.NumberedContent.{NumberedContent}
 use Rattle.window.specs.Plan.{parked_by}
-use Rattle.window.specs.Taken.{Ask, Command, Skip, Taken, take, content_at, is_key, front, accepts, accepts_skip}
+use Rattle.window.specs.Taken.{Ask, Command, Skip, Taken, take, taken, content_at, is_key, front, accepts, accepts_skip}
 use Rattle.window.proofs.AppliedLemmas.{content_at-take_command, content_at-take_accepted, content_at-take_skip}
 use Rattle.window.proofs.FrontLemmas.{IsFront-front, IsWithin-accepted, front-take, take-accepted, take-refused}
 use Rattle.window.proofs.PlanLemmas.{accepts-below, front-parked, IsSkipWithin-accepted, take-skip_accepted, take-skip_refused}
+
+-- asks one after the other
+pub taken-append : (t : Taken) (xs ys : List Ask) → taken t (xs ++ ys) ≡ taken (taken t xs) ys
+taken-append t [] ys = refl
+taken-append t (x ∷ xs) ys = taken-append (take t x) xs ys
 
 some_none : {A : Type 0} (a : A) → Some a ≡ None → ⊥
 some_none a e = cc
