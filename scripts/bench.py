@@ -1,12 +1,13 @@
-"""Measures the desk: lines a second of `desk replay`, its peak memory, how both grow, how long a building is read, and
-how long a day is reported.
+"""Measures the desk: lines a second of `desk replay`, its peak memory, how both grow, what `desk straighten` takes beside
+it, how long a building is read, and how long a day is reported.
 
 Writes a building of 20 panels, one of the largest size with calendars and schedules, and lists of deliveries to
 them into build/bench, runs each five times and takes the fastest run. A list is of commands in order; or it came
 over a lossy network: with repeats, numbers out of order, gaps that are filled late, skips, other contents and far
 numbers; or it is of ticks, one each quarter of an hour; or it is mixed: what a lossy network brings, with a tick and
 an old one each hundred lines, and an import each thousand.
-Where valgrind is installed it counts instructions too, which come out the same however busy the machine is.
+Where valgrind is installed it counts instructions too, which come out the same however busy the machine is. A list is
+replayed and straightened in turn, and what is told of the two says whether it is within what is meant.
 """
 import itertools
 import json
@@ -29,6 +30,9 @@ QUARTERS = 365 * 24 * 4
 NEW_YEAR = 173_568_960_000
 TICKS_COUNTED = 4 * 24 * 4
 RUNS = 5
+# What straightening a list may take in replays of it, and what twice the lines may take in times of the lines.
+REPLAYS_MEANT = 2.0
+GROWTH_MEANT = 2.1
 ROOT = pathlib.Path(__file__).resolve().parent.parent
 FOLDER = ROOT / "build" / "bench"
 
@@ -196,6 +200,18 @@ def measure(building, size, load="in order"):
     return min(run_desk("replay", file, deliveries) for _ in range(RUNS))
 
 
+def measure_in_turn(building, size, load):
+    """The fastest of some runs of a list that is replayed and straightened in turn: seconds and peak kilobytes of each."""
+    file, deliveries = written(building, size, load)
+    pairs = [[run_desk(subcommand, file, deliveries) for subcommand in ("replay", "straighten")] for _ in range(RUNS)]
+    return [min(runs) for runs in zip(*pairs)]
+
+
+def meant(ratio, most):
+    """A ratio, and whether it is at most what is meant."""
+    return f"{ratio:.2f} times ({'at most' if ratio <= most else 'MORE THAN'} {most})"
+
+
 def counted(*words):
     """The instructions of one run."""
     run = subprocess.run(
@@ -208,10 +224,10 @@ def counted(*words):
     return int(re.search(r"Collected : (\d+)", run.stderr).group(1))
 
 
-def instructions(building, size, load="in order"):
+def instructions(building, size, load="in order", subcommand="replay"):
     """The instructions of a list of so many deliveries, without those of reading the building."""
     file, deliveries = written(building, size, load)
-    return counted("replay", file, deliveries) - counted("check", file)
+    return counted(subcommand, file, deliveries) - counted("check", file)
 
 
 def show_seconds():
@@ -256,6 +272,27 @@ def show_growth():
     print(f"{SIZES[1]} lines to the largest building take {largest / usual:.2f} times the seconds of the usual one")
 
 
+def show_straightening():
+    """How long a list is straightened, beside its replay."""
+    size = SIZES[1]
+    for load in ("lossy", "mixed"):
+        (replayed, _), (seconds, peak) = measure_in_turn(LARGEST, size, load)
+        told = f"{size / seconds:,.0f} lines a second, {peak / 1024:.0f} MB at most"
+        beside = f"{meant(seconds / replayed, REPLAYS_MEANT)} the seconds of a replay, {size / replayed:,.0f} lines a second"
+        print(f"{size} lines to the largest building{LOADS[load][0]}, straightened: {told}; {beside}")
+
+
+def show_instructions_of_straightening():
+    """The instructions of straightening lists, beside a replay of one and beside those of half the lines."""
+    size = SIZES[1]
+    for load in ("lossy", "mixed"):
+        replayed = instructions(LARGEST, size, load)
+        few, many = (instructions(LARGEST, count, load, "straighten") for count in (size, 2 * size))
+        told = f"{few / size:,.0f} instructions a line, {meant(few / replayed, REPLAYS_MEANT)} those of a replay"
+        growth = f"{many / (2 * size):,.0f} a line of {2 * size}, {meant(many / few, GROWTH_MEANT)} as many for twice the lines"
+        print(f"{size} lines to the largest building{LOADS[load][0]}, straightened: {told}; {growth}")
+
+
 def show_instructions():
     earlier = None
     for size in COUNTED:
@@ -277,8 +314,10 @@ def main():
     show_report()
     show_seconds()
     show_growth()
+    show_straightening()
     if shutil.which("valgrind"):
         show_instructions()
+        show_instructions_of_straightening()
 
 
 main()

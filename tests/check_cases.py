@@ -1,5 +1,5 @@
-"""Tries `desk check`, and `desk replay` of no delivery, on files that are made from the worked building, one
-change or two at a time.
+"""Tries `desk check`, and `desk replay` and `desk straighten` of no delivery, on files that are made from the worked
+building, one change or two at a time.
 
 Usage: check_cases.py PROGRAM
 
@@ -318,18 +318,20 @@ def run(program, words, folder):
 
 
 def difference(program, wanted, file, folder):
-    """What `check` and `replay` of the file tell besides what is wanted, or nothing."""
+    """What `check`, `replay` and `straighten` of the file tell besides what is wanted, or nothing."""
     (pathlib.Path(folder) / "building.toml").write_bytes(file)
     (pathlib.Path(folder) / "none.jsonl").write_bytes(b"")
     checked = run(program, ["check", "building.toml"], folder)
     replayed = run(program, ["replay", "building.toml", "none.jsonl"], folder)
+    straightened = run(program, ["straighten", "building.toml", "none.jsonl"], folder)
     if wanted.startswith("ok"):
         told = wanted if ":" in wanted else "ok: 2 points, 2 panels, 1 calendars, 1 schedules"
-        expected = [0, told.encode() + b"\n", b"", 0, b""]
+        expected = [0, told.encode() + b"\n", b"", 0, b"", 0, b"", b""]
     else:
         line = f"desk: {wanted}\n".encode()
-        expected = [1, b"", line, 1, line]
+        expected = [1, b"", line, 1, line, 1, b"", line]
     found = [checked.returncode, checked.stdout, checked.stderr, replayed.returncode, replayed.stderr]
+    found += [straightened.returncode, straightened.stdout, straightened.stderr]
     return "" if found == expected else f"{found}, wanted {expected}"
 
 

@@ -4,10 +4,12 @@ Each test takes the path of the program and a folder of its own, and raises wher
 """
 import contextlib
 import errno
+import itertools
 import json
 import os
 import pathlib
 import resource
+import select
 import signal
 import socket
 import sqlite3
@@ -19,6 +21,8 @@ from tables import WORKED
 SECONDS = 60
 COMMAND = '{"number":1,"panel":"P1","point":"R101-SET","priority":8,"value":2150}\n'
 DONE = '{"answer":"done","number":1,"present":2150,"priority":8}\n'
+# What a run of each subcommand that reads a list prints first of the command.
+OF_A_LIST = {"replay": DONE, "straighten": COMMAND}
 
 
 def opened_for_writing(pipe):
@@ -45,27 +49,41 @@ def files(folder, deliveries=COMMAND):
     return building, listed
 
 
-def told_on_a_full_device(program, building, listed):
+def commands(count):
+    """So many commands of one panel in order."""
+    line = '{{"number":{},"panel":"P1","point":"LIGHT","priority":8,"value":1}}\n'
+    return "".join(line.format(number) for number in range(1, count + 1))
+
+
+def told_on_a_full_device(program, subcommand, building, listed, told=b"desk: cannot write\n"):
     with open("/dev/full", "wb") as full:
-        ran = subprocess.run([program, "replay", building, listed], stdout=full, stderr=subprocess.PIPE, timeout=SECONDS)
-    expect((ran.returncode, ran.stderr), (1, b"desk: cannot write\n"))
+        ran = subprocess.run([program, subcommand, building, listed], stdout=full, stderr=subprocess.PIPE, timeout=SECONDS)
+    expect((subcommand, ran.returncode, ran.stderr), (subcommand, 1, told))
 
 
 def a_full_device_is_told(program, folder):
-    told_on_a_full_device(program, *files(folder))
+    for subcommand in OF_A_LIST:
+        told_on_a_full_device(program, subcommand, *files(folder))
+        told_on_a_full_device(program, subcommand, *files(folder, commands(20_000)))
 
 
 def a_full_device_is_told_before_a_bad_line(program, folder):
-    told_on_a_full_device(program, *files(folder, COMMAND + "no delivery\n"))
+    told_on_a_full_device(program, "replay", *files(folder, COMMAND + "no delivery\n"))
+
+
+def a_straightening_that_prints_nothing_meets_no_full_device(program, folder):
+    told = b"desk: line 2 is not a delivery\n"
+    told_on_a_full_device(program, "straighten", *files(folder, COMMAND + "no delivery\n"), told)
 
 
 def a_closed_pipe_is_told(program, folder):
     building, listed = files(folder)
-    reader, writer = os.pipe()
-    os.close(reader)
-    ran = subprocess.run([program, "replay", building, listed], stdout=writer, stderr=subprocess.PIPE, timeout=SECONDS)
-    os.close(writer)
-    expect((ran.returncode, ran.stderr), (1, b"desk: cannot write\n"))
+    for subcommand in OF_A_LIST:
+        reader, writer = os.pipe()
+        os.close(reader)
+        ran = subprocess.run([program, subcommand, building, listed], stdout=writer, stderr=subprocess.PIPE, timeout=SECONDS)
+        os.close(writer)
+        expect((subcommand, ran.returncode, ran.stderr), (subcommand, 1, b"desk: cannot write\n"))
 
 
 def a_building_is_refused_before_the_list_is_opened(program, folder):
@@ -73,9 +91,10 @@ def a_building_is_refused_before_the_list_is_opened(program, folder):
     os.mkfifo(pipe)
     (folder / "empty.toml").write_text("")
     for building, told in (("missing.toml", "cannot read missing.toml"), ("empty.toml", "B3 top 0 zone")):
-        words = [program, "replay", building, "pipe"]
-        ran = subprocess.run(words, cwd=folder, capture_output=True, text=True, timeout=SECONDS)
-        expect((ran.returncode, ran.stdout, ran.stderr), (1, "", f"desk: {told}\n"))
+        for subcommand in OF_A_LIST:
+            words = [program, subcommand, building, "pipe"]
+            ran = subprocess.run(words, cwd=folder, capture_output=True, text=True, timeout=SECONDS)
+            expect((subcommand, ran.returncode, ran.stdout, ran.stderr), (subcommand, 1, "", f"desk: {told}\n"))
 
 
 def each_reply_is_seen_while_the_list_goes_on(program, folder):
@@ -96,6 +115,30 @@ def each_reply_is_seen_while_the_list_goes_on(program, folder):
             expect(rest.splitlines()[1].split(), ["POINT", "LIGHT", "1", "8"])
         finally:
             desk.kill()
+
+
+def a_list_is_straightened_at_its_end(program, folder):
+    """Nothing is printed before the list has ended."""
+    building, _ = files(folder)
+    pipe, lines = folder / "pipe", commands(500)
+    os.mkfifo(pipe)
+    with subprocess.Popen([program, "straighten", building, pipe], stdout=subprocess.PIPE, stderr=subprocess.PIPE, text=True) as desk:
+        try:
+            with opened_for_writing(pipe) as sender:
+                sender.write(lines)
+                sender.flush()
+                expect(select.select([desk.stdout], [], [], 0.3)[0], [])
+                sender.write(COMMAND)
+            out, err = desk.communicate(timeout=SECONDS)
+        finally:
+            desk.kill()
+    expect((desk.returncode, out, err), (0, lines, ""))
+
+
+def a_bad_line_after_many_leaves_nothing_of_a_straightened_list(program, folder):
+    building, listed = files(folder, commands(20_000) + "no delivery\n")
+    ran = subprocess.run([program, "straighten", building, listed], capture_output=True, text=True, timeout=SECONDS)
+    expect((ran.returncode, ran.stdout, ran.stderr), (1, "", "desk: line 20001 is not a delivery\n"))
 
 
 def line_within(desk, seconds):
@@ -124,16 +167,18 @@ def closed(descriptors):
 
 def a_closed_output_is_an_output_that_fails(program, folder):
     building, listed = files(folder)
-    words = [program, "replay", building, listed]
-    ran = subprocess.run(words, stderr=subprocess.PIPE, preexec_fn=closed([1]), timeout=SECONDS)
-    expect((ran.returncode, ran.stderr), (1, b"desk: cannot write\n"))
+    for subcommand in OF_A_LIST:
+        words = [program, subcommand, building, listed]
+        ran = subprocess.run(words, stderr=subprocess.PIPE, preexec_fn=closed([1]), timeout=SECONDS)
+        expect((subcommand, ran.returncode, ran.stderr), (subcommand, 1, b"desk: cannot write\n"))
 
 
 def a_closed_input_changes_nothing(program, folder):
     building, listed = files(folder)
-    words = [program, "replay", building, listed]
-    ran = subprocess.run(words, capture_output=True, text=True, preexec_fn=closed([0]), timeout=SECONDS)
-    expect((ran.returncode, ran.stdout.startswith(DONE), ran.stderr), (0, True, ""))
+    for subcommand, first in OF_A_LIST.items():
+        words = [program, subcommand, building, listed]
+        ran = subprocess.run(words, capture_output=True, text=True, preexec_fn=closed([0]), timeout=SECONDS)
+        expect((subcommand, ran.returncode, ran.stdout.startswith(first), ran.stderr), (subcommand, 0, True, ""))
 
 
 def no_data_file_gets_a_standard_descriptor(program, folder):
@@ -158,15 +203,17 @@ def a_fault_is_one_write(program, folder):
     near, far = socket.socketpair(socket.AF_UNIX, socket.SOCK_SEQPACKET)
     with near, far:
         near.settimeout(SECONDS)
-        words = [program, "replay", "missing.toml", "list.jsonl"]
-        ran = subprocess.run(words, cwd=folder, stdout=subprocess.DEVNULL, stderr=far, timeout=SECONDS)
-        expect((ran.returncode, near.recv(4096)), (1, b"desk: cannot read missing.toml\n"))
+        for subcommand in OF_A_LIST:
+            words = [program, subcommand, "missing.toml", "list.jsonl"]
+            ran = subprocess.run(words, cwd=folder, stdout=subprocess.DEVNULL, stderr=far, timeout=SECONDS)
+            expect((subcommand, ran.returncode, near.recv(4096)), (subcommand, 1, b"desk: cannot read missing.toml\n"))
 
 
 def a_path_stays_one_line(program, folder):
-    words = [program, "replay", "one\ntwo\x1b[31m é.toml", "list.jsonl"]
-    ran = subprocess.run(words, cwd=folder, capture_output=True, text=True, timeout=SECONDS)
-    expect((ran.returncode, ran.stderr), (1, "desk: cannot read one\\ntwo\\u{1b}[31m é.toml\n"))
+    for subcommand in OF_A_LIST:
+        words = [program, subcommand, "one\ntwo\x1b[31m é.toml", "list.jsonl"]
+        ran = subprocess.run(words, cwd=folder, capture_output=True, text=True, timeout=SECONDS)
+        expect((subcommand, ran.returncode, ran.stderr), (subcommand, 1, "desk: cannot read one\\ntwo\\u{1b}[31m é.toml\n"))
 
 
 def a_word_that_is_no_text_makes_no_file(program, folder):
@@ -177,8 +224,9 @@ def a_word_that_is_no_text_makes_no_file(program, folder):
 
 def a_line_of_100000_bytes_is_read(program, folder):
     building, listed = files(folder, " " * 100_000 + COMMAND)
-    ran = subprocess.run([program, "replay", building, listed], capture_output=True, text=True, timeout=SECONDS)
-    expect((ran.returncode, ran.stdout.startswith(DONE), ran.stderr), (0, True, ""))
+    for subcommand, first in OF_A_LIST.items():
+        ran = subprocess.run([program, subcommand, building, listed], capture_output=True, text=True, timeout=SECONDS)
+        expect((subcommand, ran.returncode, ran.stdout.startswith(first), ran.stderr), (subcommand, 0, True, ""))
 
 
 def ticked(program, folder, at, **more):
@@ -292,12 +340,12 @@ def within(most):
     resource.setrlimit(resource.RLIMIT_AS, (most, most))
 
 
-def enough_memory(program, folder):
-    """Bytes of memory within which a tick is done, with little to spare."""
-    enough, scarce, at = 1 << 30, 1 << 20, 174884400000
+def enough_memory(runs):
+    """Bytes of memory within which a call for a run answers that it is done, with little to spare."""
+    enough, scarce = 1 << 30, 1 << 20
     while enough - scarce > MEMORY_STEP:
-        middle, at = (enough + scarce) // 2, at + 1
-        if ticked(program, folder, at, preexec_fn=lambda: within(middle)).returncode == 0:
+        middle = (enough + scarce) // 2
+        if runs(middle):
             enough = middle
         else:
             scarce = middle
@@ -308,7 +356,9 @@ def want_of_memory_is_told_and_changes_nothing(program, folder):
     """With ever less memory than enough, a tick tells the want of it and leaves the tables as they were."""
     files(folder)
     expect(ticked(program, folder, 174884399999).stdout, TICKED)
-    most, told = enough_memory(program, folder), set()
+    moments = itertools.count(174884400001)
+    most = enough_memory(lambda some: ticked(program, folder, next(moments), preexec_fn=lambda: within(some)).returncode == 0)
+    told = set()
     before = rows_of(folder / "desk.db")
     for steps in range(1, 40):
         ran = ticked(program, folder, 174888000000, preexec_fn=lambda: within(most - steps * MEMORY_STEP))
@@ -318,6 +368,24 @@ def want_of_memory_is_told_and_changes_nothing(program, folder):
         expect(rows_of(folder / "desk.db"), before)
     expect(told, {NO_MEMORY})
     expect(ticked(program, folder, 174888000000).stdout, OLD.replace(b"old", b"tick"))
+
+
+def want_of_memory_leaves_nothing_of_a_straightened_list(program, folder):
+    """With ever less memory than enough, a straightening tells the want of it and prints nothing."""
+    building, listed = files(folder, commands(5_000))
+
+    def straightened(most):
+        words = [program, "straighten", building, listed]
+        return subprocess.run(words, capture_output=True, preexec_fn=lambda: within(most), timeout=SECONDS)
+
+    most, told = enough_memory(lambda some: straightened(some).returncode == 0), set()
+    expect(straightened(most + MEMORY_STEP).stdout, listed.read_bytes())
+    for steps in range(1, 60):
+        ran = straightened(most - steps * MEMORY_STEP)
+        if ran.returncode not in (0, 3):
+            break  # too little to begin at all
+        told.add((ran.returncode, ran.stdout, ran.stderr))
+    expect(told, {NO_MEMORY})
 
 
 def words_at_fault_make_no_database(program, folder):
@@ -336,12 +404,16 @@ TESTS = [
     a_full_disk_is_told_and_changes_nothing,
     no_database_is_made_on_a_full_disk,
     want_of_memory_is_told_and_changes_nothing,
+    want_of_memory_leaves_nothing_of_a_straightened_list,
     words_at_fault_make_no_database,
     a_full_device_is_told,
     a_full_device_is_told_before_a_bad_line,
+    a_straightening_that_prints_nothing_meets_no_full_device,
     a_closed_pipe_is_told,
     a_building_is_refused_before_the_list_is_opened,
     each_reply_is_seen_while_the_list_goes_on,
+    a_list_is_straightened_at_its_end,
+    a_bad_line_after_many_leaves_nothing_of_a_straightened_list,
     a_closed_output_is_an_output_that_fails,
     a_closed_input_changes_nothing,
     no_data_file_gets_a_standard_descriptor,

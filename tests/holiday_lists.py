@@ -106,4 +106,29 @@ def a_replay_tells_the_same_of_lists(program, folder):
     expect((ran.returncode, ran.stdout.splitlines(), ran.stderr), (0, replies, ""))
 
 
-TESTS = [lists_at_fault_are_told, lists_are_read, a_replay_tells_the_same_of_lists]
+def a_straightening_has_the_rows_that_lists_added(program, folder):
+    """Of the same lines: nothing of a list at fault, and of another one the rows that no list before it has."""
+    lines, wanted, known = [], [], []
+    for listed, *_ in FAULTS:
+        with contextlib.suppress(UnicodeDecodeError):
+            lines.append({"import": listed.decode()})
+    for listed, rows in READ:
+        lines.append({"import": listed.decode()})
+        added = [row for row in rows if row not in known]
+        known += added
+        if added:
+            wanted.append({"import": "".join(f"{name},{entry}\n" for name, entry in [("calendar", "entry"), *added])})
+    (folder / "building.toml").write_text(BUILDING)
+    (folder / "list.jsonl").write_text("".join(json.dumps(line) + "\n" for line in lines))
+    words = [program, "straighten", "building.toml", "list.jsonl"]
+    ran = subprocess.run(words, cwd=folder, capture_output=True, text=True, timeout=SECONDS)
+    printed = "".join(json.dumps(line, separators=(",", ":")) + "\n" for line in wanted)
+    expect((ran.returncode, ran.stdout, ran.stderr), (0, printed, ""))
+
+
+TESTS = [
+    lists_at_fault_are_told,
+    lists_are_read,
+    a_replay_tells_the_same_of_lists,
+    a_straightening_has_the_rows_that_lists_added,
+]

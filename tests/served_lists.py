@@ -56,9 +56,9 @@ def deliver(server, asked):
 # ---- the lists of the cases
 
 def worked_lists():
-    """The name, the building, the deliveries and the replies of each case, and what is told of its points."""
+    """The name, the building, the deliveries and the replies of each case of a replay, and what is told of its points."""
     for case in sorted(CASES.iterdir()):
-        if (case / "deliveries.jsonl").exists() and not (case / "status").exists():
+        if (case / "deliveries.jsonl").exists() and not ((case / "status").exists() or (case / "words").exists()):
             lines = [line for line in (case / "deliveries.jsonl").read_bytes().splitlines() if line]
             told = (case / "stdout").read_text().splitlines()
             building = (case / "building.toml").read_text() if (case / "building.toml").exists() else tables.WORKED

@@ -338,6 +338,72 @@ def printed(building, deliveries):
     return "".join(line + "\n" for line in replies + points)
 
 
+# ---- the straight list
+
+
+def given_up(old, new):
+    """The ends of the runs of numbers without a command that the front passes."""
+    passed = range(old.front() + 1, new.front() + 1)
+    return [upto for upto in passed if upto - 1 not in new.keys and (upto in new.keys or upto == new.front())]
+
+
+def straightened_by_panel(panel, old, new):
+    """What a command or a skip of a panel tells: by rising number, a skip before the command of its number."""
+    told = [(upto, 0, Skip(panel, upto)) for upto in given_up(old, new)]
+    told += [(number, 1, Command(panel, number, content)) for number, content in applied(old, new)]
+    return [each for _, _, each in sorted(told, key=lambda entry: entry[:2])]
+
+
+def added_rows(building, earlier, rows):
+    """The rows that no calendar of the file has, no import among the earlier events, and no row before."""
+    known = {(each.name, entry) for each in building.calendars for entry in each.entries}
+    known |= {row for event in earlier if isinstance(event, Import) for row in event.rows}
+    return tuple(row for place, row in enumerate(rows) if row not in known and row not in rows[:place])
+
+
+def parked(panel, taken):
+    """The commands of a panel that still wait, by rising number."""
+    return [Command(panel, number, taken.keys[number]) for number in sorted(taken.keys) if number > taken.front()]
+
+
+def straight_list(building, deliveries):
+    """What each delivery tells of the straight list, joined; and its last group, the commands that are still parked."""
+    along, events = events_along(building, deliveries)
+    told, earlier = [], []
+    for index, (delivery, acted) in enumerate(zip(deliveries, events)):
+        panel = panel_of(delivery)
+        if panel is not None:
+            told += straightened_by_panel(panel, *along[panel][index : index + 2])
+        elif isinstance(delivery, Tick):
+            told += acted
+        else:
+            told += [Import(rows) for rows in (added_rows(building, earlier, event.rows) for event in acted) if rows]
+        earlier += acted
+    waiting = [parked(panel.name, along[panel.name][-1]) for panel in building.panels if panel.name in along]
+    return told, sum(waiting, [])
+
+
+def delivery_line(delivery):
+    """The line of a delivery as the desk prints it: compact, with its keys in the order of their bytes."""
+    if isinstance(delivery, Tick):
+        return f'{{"tick":{delivery.at}}}'
+    if isinstance(delivery, Skip):
+        return f'{{"panel":"{delivery.panel}","skip":{delivery.upto}}}'
+    if isinstance(delivery, Import):
+        records = "".join(f"{name},{entry}\\n" for name, entry in delivery.rows)
+        return f'{{"import":"calendar,entry\\n{records}"}}'
+    content = delivery.content
+    members = [f'"number":{delivery.number}', f'"panel":"{delivery.panel}"', f'"point":"{content.point}"']
+    members += [f'"priority":{content.priority}', f'"value":{"null" if content.value is None else content.value}']
+    return f"{{{','.join(members)}}}"
+
+
+def straightened(building, deliveries):
+    """What a straightening of the list prints."""
+    told, waiting = straight_list(building, deliveries)
+    return "".join(delivery_line(each) + "\n" for each in told + waiting)
+
+
 # ---- what is told of a point and of a day
 
 

@@ -1,5 +1,5 @@
-"""Tries the program: the cases, building files, the tables, its edges, holiday lists, local times, and random lists
-against the plain slow desk.
+"""Tries the program: the cases, building files, the tables, its edges, holiday lists, local times, and random lists,
+replayed and straightened, against the plain slow desk.
 
 Usage: try_program.py PROGRAM
 
@@ -28,6 +28,8 @@ import compare
 import edges
 import holiday_lists
 import local_times
+import refused_memory
+import straightened
 import tables
 
 # The header of a log and that of a frame.
@@ -109,8 +111,9 @@ def try_line(program, line, room):
     (room / "building.toml").write_text(tables.WORKED)
     command = edges.COMMAND.encode()
     (room / "list.jsonl").write_bytes(command + line + b"\n" + command)
-    ran = run(program, ["replay", "building.toml", "list.jsonl"], room)
-    return difference(ran, 1, edges.DONE.encode(), b"desk: line 2 is not a delivery\n")
+    replayed, straight = (run(program, [name, "building.toml", "list.jsonl"], room) for name in ("replay", "straighten"))
+    told = b"desk: line 2 is not a delivery\n"
+    return difference(replayed, 1, edges.DONE.encode(), told) or difference(straight, 1, b"", told)
 
 
 def try_words(program, words, part, room):
@@ -138,6 +141,25 @@ def try_first_run_of_the_document(program, room):
     return difference(run(program, command.split()[2:], room), 0, printed.encode(), b"")
 
 
+def try_straightened_day_of_the_document(program, room):
+    """The day that docs/OPERATING.md shows before and after it is straightened is what a reader gets, also replayed."""
+    text = (HERE.parent / "docs" / "OPERATING.md").read_text()
+    section = text[text.index("## Straightening a list\n") : text.index("## The database\n")]
+    day, straight, replayed = re.findall(r"^```\n(.*?)^```$", section, re.S | re.M)
+    (room / "examples").mkdir()
+    (room / "examples" / "building.toml").write_text(tables.WORKED)
+    (room / "monday.jsonl").write_text(day)
+    command, printed = straight.split("\n", 1)
+    (room / "straight.jsonl").write_text(printed)
+    again, command_after, replies = replayed.split("\n", 2)
+    wrong = "" if again == f"{command} > straight.jsonl" else f"{again!r} makes no straight.jsonl"
+    for words, wanted in ((command, printed), (command_after, replies)):
+        wrong = wrong or difference(run(program, words.split()[2:], room), 0, wanted.encode(), b"")
+    points = [line for line in replies.splitlines() if line.startswith("POINT ")]
+    before = run(program, ["replay", "examples/building.toml", "monday.jsonl"], room).stdout.decode().splitlines()
+    return wrong or ("" if before[-len(points):] == points else f"the day leaves {before!r}, wanted {points!r}")
+
+
 def all_tests(program):
     """The name of each test, and the call that tries it in a folder of its own."""
     for case in sorted((HERE / "cases").iterdir()):
@@ -150,7 +172,9 @@ def all_tests(program):
     for words, part in tables.WORDS_REFUSED:
         yield f"words refused: {words!r}", lambda room, words=words, part=part: try_words(program, words, part, room)
     yield "the first run of docs/OPERATING.md", lambda room: try_first_run_of_the_document(program, room)
-    for what, tests in (("edge", edges.TESTS), ("holiday lists", holiday_lists.TESTS), ("local times", local_times.TESTS)):
+    yield "the straightened day of docs/OPERATING.md", lambda room: try_straightened_day_of_the_document(program, room)
+    for what, tests in (("edge", edges.TESTS), ("holiday lists", holiday_lists.TESTS), ("local times", local_times.TESTS),
+                        ("straightened", straightened.TESTS), ("refused memory", refused_memory.TESTS)):
         for test in tests:
             yield f"{what}: {test.__name__.replace('_', ' ')}", lambda room, test=test: try_call(program, test, room)
 
@@ -165,11 +189,12 @@ def main(words):
         if wrong:
             print(f"FAILED {name}: {wrong[:2000]}")
     seed = random.randrange(10**9)
-    agreed, differing = compare.compare(program, seed)
-    print(f"{agreed} random lists print what the definitions say, {len(differing)} do not (seed {seed})")
-    for text in differing[:3]:
-        print(f"FAILED {text[:4000]}")
-    passed, failed = passed + (not differing), failed + bool(differing)
+    for what, agree in (("print what the definitions say", compare.compare), ("are straightened so", straightened.compare_lists)):
+        agreed, differing = agree(program, seed)
+        print(f"{agreed} random lists {what}, {len(differing)} do not (seed {seed})")
+        for text in differing[:3]:
+            print(f"FAILED {text[:4000]}")
+        passed, failed = passed + (not differing), failed + bool(differing)
     print(f"{passed} passed, {failed} failed")
     return 1 if failed else 0
 

@@ -1,18 +1,16 @@
 -- Cut imports lead the machine to the same.
-use Rattle.std.proofs.Common.{◌≡◌, Bool, true, false, ◌&&◌, List, [], ◌∷◌, ◌++◌, Option, Some, None, refl, sym, ap, ◌∙◌, append_assoc}
-use Rattle.std.proofs.Common.{subst}
+use Rattle.std.proofs.Common.{◌≡◌, true, List, [], ◌∷◌, ◌++◌, refl, sym, ap, ◌∙◌, append_assoc}
 use Rattle.std.specs.List.{list_all}
 use Rattle.building.specs.Building.{Building}
 use Rattle.sched.specs.declared.calendar.CalendarEntry.{CalendarEntry}
 use Rattle.settling.specs.Calendars.{with_items}
 use Rattle.store.specs.declared.change.ImportedEntry.{ImportedEntry}
-use Rattle.store.specs.Change.{with_each, with_place, with_shown}
 use Rattle.store.specs.Tables.{Text}
 use Rattle.window.specs.declared.numbered_content.NumberedContent.{NumberedContent}
 use Rattle.deliveries.specs.Events.{events_of, has_calendar}
 use Rattle.deliveries.specs.Laws.{HasDistinctSchedules}
-use Rattle.deliveries.specs.Machine.{Command, Event, Import, Machine, Tick, added, added_by, local_of, opening_machine, run, settled, step}
-use Rattle.deliveries.specs.Machine.{told_at, with_rows, writes_at}
+use Rattle.deliveries.specs.Machine.{Command, Event, Import, Machine, Tick, added, added_by, local_of, run, settled, step}
+use Rattle.deliveries.specs.Machine.{with_rows}
 use Rattle.deliveries.proofs.AgainLemmas.{both-parts}
 use Rattle.deliveries.proofs.ClockLemmas.{with_items-none}
 use Rattle.deliveries.proofs.EventLemmas.{run-append}
@@ -97,7 +95,8 @@ cut-append b m (x ∷ xs) ys =
     ∙ sym (append_assoc (cut_event b m x) (cut b (step b m x) xs) (cut b (run b m (x ∷ xs)) ys))
 
 -- commands are not cut
-pub cut-commands : (b : Building) (m : Machine) (p : Text) (entries : List NumberedContent) → cut b m (events_of p entries) ≡ events_of p entries
+pub cut-commands : (b : Building) (m : Machine) (p : Text) (entries : List NumberedContent) → cut b m (events_of p entries)
+    ≡ events_of p entries
 cut-commands b m p [] = refl
 cut-commands b m p (entry ∷ entries) =
     ap (λ more. Command p entry.number entry.content ∷ more) (cut-commands b (step b m (Command p entry.number entry.content)) p entries)

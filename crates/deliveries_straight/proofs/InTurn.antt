@@ -1,24 +1,20 @@
 -- No tolerance is used.
-use Rattle.std.proofs.Common.{◌≡◌, ℕ, suc, zero, ◌+◌, ◌-◌, ◌<◌, ◌≤◌, ◌==◌, Bool, true, false, cond, ◌&&◌, ◌||◌, not, List, [], ◌∷◌, ◌++◌}
-use Rattle.std.proofs.Common.{map, Option, Some, None, is_some, option_map, pos, ℤ, length, rules}
-use Rattle.std.proofs.Common.{refl, sym, ap, ap₂, ◌∙◌, append_assoc, subst, arith, inl, inr, nat_lt, nat_le}
-use Rattle.std.specs.List.{flat_map, list_all, position_or_len}
-use Rattle.std.specs.Str.{bytes_eq}
+use Rattle.std.proofs.Common.{◌≡◌, ℕ, zero, ◌+◌, ◌-◌, ◌<◌, ◌≤◌, ◌==◌, Bool, true, false, ◌&&◌, not, List, [], ◌∷◌, ◌++◌}
+use Rattle.std.proofs.Common.{map, Option, Some, None, is_some, pos, ℤ, length}
+use Rattle.std.proofs.Common.{refl, sym, ap, ap₂, ◌∙◌, append_assoc, subst, arith, nat_lt}
+use Rattle.std.specs.List.{flat_map, list_all}
 use Rattle.std.proofs.lemmas.Bool.Decides.{nat_tests}
-use Rattle.std.proofs.lemmas.Bool.{cases_Bool, false≢true}
+use Rattle.std.proofs.lemmas.Bool.{false≢true}
 use Rattle.std.proofs.lemmas.List.{append-nil, length-append}
 use Rattle.building.specs.Building.{Building}
-use Rattle.points.specs.declared.answer.Answer.{Answer}
 use Rattle.points.specs.declared.command_row.CommandRow.{CommandRow}
 use Rattle.points.specs.declared.content.Content.{Content}
 use Rattle.points.specs.declared.panel.Panel.{Panel}
 use Rattle.sched.specs.declared.calendar.CalendarEntry.{CalendarEntry}
 use Rattle.settling.specs.Calendars.{with_items}
-use Rattle.store.specs.declared.change.ImportedEntry.{ImportedEntry}
 use Rattle.store.specs.Tables.{Text}
 use Rattle.building.specs.declared.named_calendar.NamedCalendar.{NamedCalendar}
 use Rattle.std.specs.Prelude.{slice_get}
-use Rattle.window.specs.declared.verdict.Verdict.{Verdict}
 use Rattle.window.specs.declared.verdict.Verdict.TheVariants as verdict
 use Rattle.window.specs.Taken as asks
 use Rattle.window.specs.Verdict.{verdict_of}
@@ -28,12 +24,11 @@ use Rattle.window.proofs.FrontLemmas.{IsFront-front, IsWithin-accepted, front-ta
 use Rattle.window.proofs.PlanLemmas.{IsSkipWithin-accepted, take-skip_accepted}
 use Rattle.deliveries.specs.declared.delivery.Delivery.{Delivery}
 use Rattle.deliveries.specs.declared.delivery.Delivery.TheVariants as delivery_of
-use Rattle.deliveries.specs.declared.reply.Reply.{Reply}
 use Rattle.deliveries.specs.Accepted.{asked, asks_of, panel_named, panel_of, taken_by}
 use Rattle.deliveries.specs.Events.{clock_event, has_calendar, is_later, is_moment, last_tick_of, machine}
 use Rattle.deliveries.specs.Laws.{HasDistinctSchedules}
-use Rattle.deliveries.specs.Machine.{Command, Event, Import, Machine, Tick, added, added_by, added_to, is_known, with_rows, writes_of}
-use Rattle.deliveries.specs.Reply.{imported_reply, refused_record, reply, reply_on, reply_to}
+use Rattle.deliveries.specs.Machine.{Machine, added, added_by, added_to, is_known, with_rows}
+use Rattle.deliveries.specs.Reply.{refused_record, reply, reply_on}
 use Rattle.deliveries.specs.Tables.{tables}
 use Rattle.deliveries.proofs.AgainLemmas.{both-parts}
 use Rattle.deliveries.proofs.ClockLemmas.{reply-imported, reply-ticked}
@@ -41,12 +36,12 @@ use Rattle.deliveries.proofs.StepLemmas.{Asks, asks-none, asks-unknown, keeps-ta
 use Rattle.deliveries_straight.specs.Cut.{added_rows, cut_event, import_of, row_that_adds}
 use Rattle.window_straight.specs.Laws.{WalksStraight}
 use Rattle.deliveries_straight.specs.StraightLaws.{AddsAll, EachAfter, IsAnswered, IsInTurn, IsParked, IsTicked, StaysParked}
-use Rattle.window_straight.specs.Straight.{AreNext, IsNext, IsStraight}
+use Rattle.window_straight.specs.Straight.{AreNext, IsNext}
 use Rattle.deliveries_straight.specs.StraightList.{sent, sent_by_clock, straightened_after, straightened_by}
 use Rattle.window_straight.specs.Straightened.{straightened}
 use Rattle.deliveries_straight.proofs.CutLemmas.{added-added_rows, have_calendars-added_rows}
 use Rattle.deliveries_straight.proofs.MachineSame.{AreSent, AreSent-straightened, Asks-made, Does-straightened, Follows, Follows-none}
-use Rattle.deliveries_straight.proofs.MachineSame.{Follows-push, last_tick-same, panel_of-sent, taken-sent, straightened-asked}
+use Rattle.deliveries_straight.proofs.MachineSame.{Follows-push, last_tick-same, taken-sent, straightened-asked}
 use Rattle.deliveries_straight.proofs.MachineSame.{straightened-unasked}
 use Rattle.window_straight.proofs.ParkedLemmas.{AreAhead, IsAhead}
 use Rattle.window_straight.proofs.WalkLemmas.{none_of, walk_stays_straight}
@@ -158,12 +153,14 @@ one-added : (b : Building) (imported : Text → List Text) (row : CalendarEntry)
     → length (row_that_adds row (added_by b imported row)) ≡ length (added_by b imported row)
 one-added b imported row = by (slice_get b.calendars row.calendar.place)
   where
-    by : (found : Option NamedCalendar) → length (row_that_adds row (added_to imported row.entry found)) ≡ length (added_to imported row.entry found)
+    by : (found : Option NamedCalendar) → length (row_that_adds row (added_to imported row.entry found))
+        ≡ length (added_to imported row.entry found)
     by None = refl
     by (Some calendar) = of (is_known imported calendar row.entry) refl
       where
         of : (known : Bool) → is_known imported calendar row.entry ≡ known
-            → length (row_that_adds row (added_to imported row.entry (Some calendar))) ≡ length (added_to imported row.entry (Some calendar))
+            → length (row_that_adds row (added_to imported row.entry (Some calendar)))
+            ≡ length (added_to imported row.entry (Some calendar))
         of true e = rw e refl
         of false e = rw e refl
 
@@ -200,7 +197,8 @@ InTurn-import b E T rows same = by (list_all (has_calendar b) rows) refl
     held = ap (λ (m : Machine). added b m.imported (added_rows b (machine b E).imported rows)) same
         ∙ added-added_rows b (machine b E).imported rows
 
-    of : (again : List CalendarEntry) → list_all (has_calendar b) again ≡ true → length (added b (machine b T).imported again) ≡ length again
+    of : (again : List CalendarEntry) → list_all (has_calendar b) again ≡ true → length (added b (machine b T).imported again)
+        ≡ length again
         → EachAfter IsInTurn b T (flat_map sent_by_clock (import_of again ++ []))
     of [] all count = tt
     of (row ∷ more) all count = (InTurn-added b T row more all count, tt)
@@ -242,10 +240,12 @@ InTurn-asked b E T d ask asking straightens =
     let p = panel_of d in
     let t = taken_by b p E in
     let grown = taken-here b E d ask asking in
-    let walks = subst (λ u. WalksStraight (taken_by b p T) t u) (sym grown) (walk_stays_straight (taken_by b p T) t ask (straightens.panels p)) in
+    let walks = subst (λ u. WalksStraight (taken_by b p T) t u) (sym grown)
+    (walk_stays_straight (taken_by b p T) t ask (straightens.panels p)) in
     let rises = subst (λ u. asks.front t ≤ asks.front u) (sym grown) (front-take t ask) in
     subst (λ X. EachAfter IsInTurn b T X) (sym (straightened-asked b E d ask asking))
-    (InTurn-all_sent b p asking.panel asking.known T (straightened t (taken_by b p (E ++ d ∷ []))) (AreSent-straightened b p E (E ++ d ∷ []) rises) walks.next)
+    (InTurn-all_sent b p asking.panel asking.known T (straightened t (taken_by b p (E ++ d ∷ []))) (AreSent-straightened b p E (E
+    ++ d ∷ []) rises) walks.next)
 
 InTurn-straightened : (b : Building) (E T : List Delivery) (d : Delivery) → Follows b E T → EachAfter IsInTurn b T (straightened_by b E d)
 InTurn-straightened b E T d straightens = by (panel_named b (panel_of d)) refl (asked d) refl
@@ -261,7 +261,9 @@ InTurn-after : (b : Building) (E T ds : List Delivery) → HasDistinctSchedules 
 InTurn-after b E T [] distinct straightens = tt
 InTurn-after b E T (d ∷ ds) distinct straightens =
     EachAfter-append IsInTurn b T (straightened_by b E d) (straightened_after b (E ++ d ∷ []) ds) (InTurn-straightened b E T d straightens)
-    (InTurn-after b (E ++ d ∷ []) (T ++ straightened_by b E d) ds distinct (Follows-push b E T d (straightened_by b E d) distinct straightens (Does-straightened b E T d straightens)))
+    (InTurn-after b (E ++ d ∷ []) (T
+    ++ straightened_by b E d) ds distinct
+    (Follows-push b E T d (straightened_by b E d) distinct straightens (Does-straightened b E T d straightens)))
 
 pub InTurn-walk : (b : Building) (L : List Delivery) → HasDistinctSchedules b → EachAfter IsInTurn b [] (straightened_after b [] L)
 InTurn-walk b L distinct = InTurn-after b [] [] L distinct (Follows-none b)

@@ -1,5 +1,5 @@
 -- The straight list has the same acted on.
-use Rattle.std.proofs.Common.{◌≡◌, ℕ, suc, zero, ◌+◌, ◌-◌, ◌<◌, ◌≤◌, ◌==◌, Bool, true, false, cond, ◌&&◌, ◌||◌, not, List, [], ◌∷◌, ◌++◌}
+use Rattle.std.proofs.Common.{◌≡◌, ℕ, suc, zero, ◌+◌, ◌-◌, ◌<◌, ◌≤◌, Bool, true, false, cond, ◌&&◌, List, [], ◌∷◌, ◌++◌}
 use Rattle.std.proofs.Common.{map, Option, Some, None, is_some, pos, ℤ}
 use Rattle.std.proofs.Common.{refl, sym, ap, ap₂, ◌∙◌, append_assoc, subst, arith, inl, inr, nat_lt, nat_le}
 use Rattle.std.specs.List.{flat_map, list_all}
@@ -21,24 +21,22 @@ use Rattle.window.proofs.FrontLemmas.{IsFront-front, front-take}
 use Rattle.deliveries.specs.declared.delivery.Delivery.{Delivery}
 use Rattle.deliveries.specs.declared.delivery.Delivery.TheVariants as delivery_of
 use Rattle.deliveries.specs.Accepted.{asked, asks_of, ask_command, ask_skip, number_upto, panel_named, panel_of, taken_by}
-use Rattle.deliveries.specs.Events.{acted_on, clock_event, commands_of, events_after, events_of, has_calendar, is_later, is_moment}
+use Rattle.deliveries.specs.Events.{acted_on, clock_event, events_after, events_of, has_calendar, is_later, is_moment}
 use Rattle.deliveries.specs.Events.{last_tick_of, machine}
 use Rattle.deliveries.specs.Laws.{HasDistinctSchedules}
 use Rattle.deliveries.specs.Machine.{Event, Command, Import, Machine, Tick, opening_machine, run}
 use Rattle.deliveries.proofs.ClockLemmas.{machine-last_tick}
 use Rattle.deliveries.proofs.EventLemmas.{machine-push, run-append, taken_by-push}
-use Rattle.window.proofs.TakenLemmas.{taken-append}
-use Rattle.deliveries.proofs.MachineLemmas.{bytes_eq-same}
 use Rattle.deliveries.proofs.RangeLemmas.{front_greatest, front_least}
-use Rattle.deliveries.proofs.StepLemmas.{Asks, Asks-sent, IsSent, acted_on-sent, asks-none, asks-unknown, clock_event-sent}
+use Rattle.deliveries.proofs.StepLemmas.{Asks, Asks-sent, acted_on-sent, asks-none, asks-unknown, clock_event-sent}
 use Rattle.deliveries.proofs.StepLemmas.{commands_of-same, taken-apart, taken-here}
 use Rattle.deliveries_straight.specs.Cut.{added_rows, cut, cut_event, import_of}
 use Rattle.window_straight.specs.Laws.{WalksStraight}
-use Rattle.window_straight.specs.Straight.{AreNext, IsStraight, applied_by}
+use Rattle.window_straight.specs.Straight.{IsStraight, applied_by}
 use Rattle.deliveries_straight.specs.StraightList.{sent, sent_by_clock, straightened_after, straightened_by}
 use Rattle.window_straight.specs.Straightened.{command_under, ends_gap, skip_upto, straightened, straightened_at, straightened_from}
 use Rattle.deliveries_straight.proofs.CutLemmas.{cut-append, cut-commands, have_calendars-added_rows, run-cut}
-use Rattle.deliveries.proofs.QuietLemmas.{Quiet, Quiet-machine}
+use Rattle.deliveries.proofs.QuietLemmas.{Quiet-machine}
 use Rattle.window_straight.proofs.WalkLemmas.{walk_stays_straight}
 
 -- ---- lists of deliveries
@@ -232,9 +230,11 @@ pub straightened-unasked : (b : Building) (E : List Delivery) (d : Delivery) →
     → straightened_by b E d ≡ flat_map sent_by_clock (flat_map (cut_event b (machine b E)) (clock_event b E d))
 straightened-unasked b E d nothing =
     let t = taken_by b (panel_of d) E in
-    ap (λ u. map (sent (panel_of d)) (straightened t u) ++ flat_map sent_by_clock (flat_map (cut_event b (machine b E)) (clock_event b E d)))
+    ap (λ u. map (sent (panel_of d)) (straightened t u)
+    ++ flat_map sent_by_clock (flat_map (cut_event b (machine b E)) (clock_event b E d)))
     (taken-unasked b E d nothing (panel_of d))
-    ∙ ap (λ xs. map (sent (panel_of d)) xs ++ flat_map sent_by_clock (flat_map (cut_event b (machine b E)) (clock_event b E d))) (straightened-same t)
+    ∙ ap (λ xs. map (sent (panel_of d)) xs
+    ++ flat_map sent_by_clock (flat_map (cut_event b (machine b E)) (clock_event b E d))) (straightened-same t)
 
 acted_on-unasked : (b : Building) (E : List Delivery) (d : Delivery) → ((q : Text) → asks_of b q d ≡ [])
     → acted_on b E d ≡ clock_event b E d
@@ -330,7 +330,8 @@ Does-asked b E T d ask asking straightens =
     let t = taken_by b p E in
     let now = taken_by b p (E ++ d ∷ []) in
     let grown = taken-here b E d ask asking in
-    let walks = subst (λ u. WalksStraight (taken_by b p T) t u) (sym grown) (walk_stays_straight (taken_by b p T) t ask (straightens.panels p)) in
+    let walks = subst (λ u. WalksStraight (taken_by b p T) t u) (sym grown)
+    (walk_stays_straight (taken_by b p T) t ask (straightens.panels p)) in
     let rises = subst (λ u. asks.front t ≤ asks.front u) (sym grown) (front-take t ask) in
     let are = AreSent-straightened b p E (E ++ d ∷ []) rises in
     subst (λ X. Does b E T d X) (sym (straightened-asked b E d ask asking)) (record {

@@ -1,6 +1,6 @@
 -- The numbers of each panel rise.
-use Rattle.std.proofs.Common.{◌≡◌, ℕ, suc, zero, ◌+◌, ◌-◌, ◌<◌, ◌≤◌, ◌==◌, Bool, true, false, cond, ◌&&◌, ◌||◌, not, List, [], ◌∷◌, ◌++◌}
-use Rattle.std.proofs.Common.{map, Option, Some, None, is_some, pos, ℤ}
+use Rattle.std.proofs.Common.{◌≡◌, ℕ, suc, zero, ◌+◌, ◌-◌, ◌<◌, ◌≤◌, Bool, true, false, cond, ◌&&◌, not, List, [], ◌∷◌, ◌++◌}
+use Rattle.std.proofs.Common.{map, Option, Some, None, pos, ℤ}
 use Rattle.std.proofs.Common.{refl, sym, ap, ap₂, ◌∙◌, append_assoc, subst, arith, inl, inr, ◌⊎◌, nat_lt}
 use Rattle.std.specs.List.{flat_map}
 use Rattle.std.specs.Str.{bytes_eq}
@@ -27,7 +27,6 @@ use Rattle.deliveries.proofs.AgainLemmas.{both-parts, or-parts}
 use Rattle.deliveries.proofs.EventLemmas.{taken_by-push}
 use Rattle.deliveries.proofs.MachineLemmas.{bytes_eq-same}
 use Rattle.deliveries.proofs.RangeLemmas.{front_least}
-use Rattle.deliveries.proofs.StepLemmas.{taken-apart}
 use Rattle.deliveries_straight.specs.Cut.{cut_event}
 use Rattle.deliveries_straight.specs.StraightLaws.{HasDistinctPanels, RiseAbove, numbers_by}
 use Rattle.deliveries_straight.specs.StraightList.{parked_of, sent, sent_by_clock, straight_list, straightened_after, straightened_by}
@@ -102,7 +101,8 @@ Between-straightened_from p zero first now n ends =
     ∙ numbers-skip p first now n))
     (omega arith)
 Between-straightened_from p (suc c) first now n ends =
-    subst (λ zs. Between n (asks.front now) zs) (sym (numbers-append p (straightened_at first now n) (straightened_from (suc c) first now (n + 1))))
+    subst (λ zs. Between n (asks.front now) zs)
+    (sym (numbers-append p (straightened_at first now n) (straightened_from (suc c) first now (n + 1))))
     (Between-append n (n + 1) (asks.front now) _ _ (Between-straightened_at p first now n)
     (Between-straightened_from p c first now (n + 1) (omega arith)))
 
@@ -148,12 +148,15 @@ Between-straightened_by b q E d =
   where
     by : (bytes_eq (panel_of d) q ≡ true) ⊎ (bytes_eq (panel_of d) q ≡ false)
         → Between (asks.front (taken_by b q E)) (asks.front (taken_by b q (E ++ d ∷ [])))
-        (flat_map (numbers_by q) (map (sent (panel_of d)) (straightened (taken_by b (panel_of d) E) (taken_by b (panel_of d) (E ++ d ∷ [])))))
+        (flat_map (numbers_by q)
+        (map (sent (panel_of d)) (straightened (taken_by b (panel_of d) E) (taken_by b (panel_of d) (E ++ d ∷ [])))))
     by (inl same) =
         subst (λ r. Between (asks.front (taken_by b r E)) (asks.front (taken_by b r (E ++ d ∷ [])))
-        (flat_map (numbers_by r) (map (sent (panel_of d)) (straightened (taken_by b (panel_of d) E) (taken_by b (panel_of d) (E ++ d ∷ []))))))
+        (flat_map (numbers_by r)
+        (map (sent (panel_of d)) (straightened (taken_by b (panel_of d) E) (taken_by b (panel_of d) (E ++ d ∷ []))))))
         ((bytes_eq-Decides (panel_of d) q).0 same)
-        (Between-straightened (panel_of d) (taken_by b (panel_of d) E) (taken_by b (panel_of d) (E ++ d ∷ [])) (front-push b (panel_of d) E d))
+        (Between-straightened (panel_of d) (taken_by b (panel_of d) E) (taken_by b (panel_of d) (E
+        ++ d ∷ [])) (front-push b (panel_of d) E d))
     by (inr apart) =
         subst (λ zs. Between (asks.front (taken_by b q E)) (asks.front (taken_by b q (E ++ d ∷ []))) zs)
         (sym (numbers-apart (panel_of d) q (straightened (taken_by b (panel_of d) E) (taken_by b (panel_of d) (E ++ d ∷ []))) apart))
@@ -161,10 +164,12 @@ Between-straightened_by b q E d =
 
 Between-straightened_after : (b : Building) (q : Text) (E ds : List Delivery)
     → Between (asks.front (taken_by b q E)) (asks.front (taken_by b q (E ++ ds))) (flat_map (numbers_by q) (straightened_after b E ds))
-Between-straightened_after b q E [] = subst (λ F. asks.front (taken_by b q E) ≤ asks.front (taken_by b q F)) (sym (append-nil E)) (omega arith)
+Between-straightened_after b q E [] = subst (λ F. asks.front (taken_by b q E) ≤ asks.front (taken_by b q F)) (sym (append-nil E))
+    (omega arith)
 Between-straightened_after b q E (d ∷ ds) =
     let low = asks.front (taken_by b q E) in
-    subst (λ F. Between low (asks.front (taken_by b q F)) (flat_map (numbers_by q) (straightened_after b E (d ∷ ds)))) (append_assoc E (d ∷ []) ds)
+    subst (λ F. Between low (asks.front (taken_by b q F)) (flat_map (numbers_by q) (straightened_after b E (d ∷ ds))))
+    (append_assoc E (d ∷ []) ds)
     (subst (λ zs. Between low (asks.front (taken_by b q ((E ++ d ∷ []) ++ ds))) zs)
     (sym (flat_map-append (numbers_by q) (straightened_by b E d) (straightened_after b (E ++ d ∷ []) ds)))
     (Between-append low (asks.front (taken_by b q (E ++ d ∷ []))) (asks.front (taken_by b q ((E ++ d ∷ []) ++ ds))) _ _
@@ -192,7 +197,8 @@ Between-contents p (suc c) t n = by (asks.content_at t n) refl (Between-contents
             refl,
             (
               omega arith,
-              subst (λ m. Between (n + 1) m (flat_map (numbers_by p) (map (sent p) (map command_of (contents_from c t (n + 1)))))) moved more,
+              subst (λ m. Between (n + 1) m
+                  (flat_map (numbers_by p) (map (sent p) (map command_of (contents_from c t (n + 1)))))) moved more,
             ),
           ),
         )
@@ -224,7 +230,8 @@ Between-group b L q (panel ∷ panels) distinct =
     (by outside (Between-group b L q panels parts.1) (cases_Bool (bytes_eq panel.name q)))
   where
     by : is_among panel.name (names_of panels) ≡ false
-        → Between (asks.front (taken_by b q L)) (asks.front (taken_by b q L) + window) (flat_map (numbers_by q) (flat_map (parked_of b L) panels))
+        → Between (asks.front (taken_by b q L)) (asks.front (taken_by b q L) + window)
+        (flat_map (numbers_by q) (flat_map (parked_of b L) panels))
         → (bytes_eq panel.name q ≡ true) ⊎ (bytes_eq panel.name q ≡ false)
         → Between (asks.front (taken_by b q L)) (asks.front (taken_by b q L) + window)
         (flat_map (numbers_by q) (parked_of b L panel) ++ flat_map (numbers_by q) (flat_map (parked_of b L) panels))
@@ -233,13 +240,15 @@ Between-group b L q (panel ∷ panels) distinct =
         subst (λ r. Between (asks.front (taken_by b r L)) (asks.front (taken_by b r L) + window)
         (flat_map (numbers_by r) (parked_of b L panel) ++ flat_map (numbers_by r) (flat_map (parked_of b L) panels)))
         ((bytes_eq-Decides p q).0 same)
-        (subst (λ zs. Between (asks.front (taken_by b p L)) (asks.front (taken_by b p L) + window) (flat_map (numbers_by p) (parked_of b L panel) ++ zs))
+        (subst (λ zs. Between (asks.front (taken_by b p L)) (asks.front (taken_by b p L) + window)
+        (flat_map (numbers_by p) (parked_of b L panel) ++ zs))
         (sym (numbers-group_none b L p panels outside))
         (subst (λ zs. Between (asks.front (taken_by b p L)) (asks.front (taken_by b p L) + window) zs)
         (sym (append-nil (flat_map (numbers_by p) (parked_of b L panel))))
         (Between-contents p window (taken_by b p L) (asks.front (taken_by b p L)))))
     by outside rest (inr apart) =
-        subst (λ zs. Between (asks.front (taken_by b q L)) (asks.front (taken_by b q L) + window) (zs ++ flat_map (numbers_by q) (flat_map (parked_of b L) panels)))
+        subst (λ zs. Between (asks.front (taken_by b q L)) (asks.front (taken_by b q L) + window) (zs
+        ++ flat_map (numbers_by q) (flat_map (parked_of b L) panels)))
         (sym (numbers-apart panel.name q (parked_asks (taken_by b panel.name L)) apart)) rest
 
 pub numbers-rise : (b : Building) (L : List Delivery) → HasDistinctPanels b → (q : Text)
@@ -248,7 +257,8 @@ unfolding straight_list
 numbers-rise b L distinct q =
     let f = asks.front (taken_by b q L) in
     let first = front_least b q [] in
-    RiseAbove-between 0 (asks.front (taken_by b q [])) (f + window) (flat_map (numbers_by q) (straightened_after b [] L ++ flat_map (parked_of b L) b.panels)) (omega (arith, first))
+    RiseAbove-between 0 (asks.front (taken_by b q [])) (f + window) (flat_map (numbers_by q) (straightened_after b [] L
+    ++ flat_map (parked_of b L) b.panels)) (omega (arith, first))
     (subst (λ zs. Between (asks.front (taken_by b q [])) (f + window) zs)
     (sym (flat_map-append (numbers_by q) (straightened_after b [] L) (flat_map (parked_of b L) b.panels)))
     (Between-append (asks.front (taken_by b q [])) f (f + window) _ _ (Between-straightened_after b q [] L)

@@ -1,8 +1,7 @@
 -- The straight list leaves the same tables.
-use Rattle.std.proofs.Common.{◌≡◌, ℕ, suc, zero, ◌+◌, ◌-◌, ◌<◌, ◌≤◌, Bool, true, false, cond, ◌&&◌, ◌||◌, not, List, [], ◌∷◌, ◌++◌, map}
+use Rattle.std.proofs.Common.{◌≡◌, ℕ, suc, zero, ◌+◌, ◌-◌, ◌≤◌, Bool, true, false, cond, ◌||◌, not, List, [], ◌∷◌, ◌++◌, map}
 use Rattle.std.proofs.Common.{Option, Some, None, is_some, option_map, find}
 use Rattle.std.proofs.Common.{refl, sym, ap, ap₂, ◌∙◌, append_assoc, subst, arith, inl, inr, ◌⊎◌, nat_lt}
-use Rattle.std.specs.Bool.{IsTrue}
 use Rattle.std.specs.Cmp.Lexicographic.{nat_list_eq_equiv}
 use Rattle.std.specs.List.{flat_map, list_any}
 use Rattle.std.specs.Str.{bytes_eq}
@@ -15,33 +14,30 @@ use Rattle.points.specs.declared.answer.Answer.{Answer}
 use Rattle.points.specs.declared.content.Content.{Content}
 use Rattle.points.specs.declared.panel.Panel.{Panel}
 use Rattle.points.specs.Names.{is_among}
-use Rattle.store.specs.Tables.{Tables, Text}
-use Rattle.window.specs.declared.numbered_content.NumberedContent.{NumberedContent}
+use Rattle.store.specs.Tables.{Text}
 use Rattle.window.specs.declared.TheConstants.{LAST_NUMBER}
 use Rattle.window.specs.Applied.{contents_from}
 use Rattle.window.specs.Taken as asks
 use Rattle.window.specs.Window.{remembered, window}
-use Rattle.window.specs.View.{kept_at}
 use Rattle.window.proofs.FrontLemmas.{ends_in_window}
 use Rattle.deliveries.specs.declared.delivery.Delivery.{Delivery}
-use Rattle.deliveries.specs.Accepted.{asked, asks_of, listed, panel_named, panel_of, taken_by}
+use Rattle.deliveries.specs.Accepted.{asks_of, panel_named, panel_of, taken_by}
 use Rattle.deliveries.specs.Events.{events_after, events_of, machine}
 use Rattle.deliveries.specs.Laws.{HasDistinctSchedules}
 use Rattle.deliveries.specs.Machine.{Machine, opening_machine, run}
-use Rattle.deliveries.specs.Tables.{row_at, row_of, tables}
+use Rattle.deliveries.specs.Tables.{row_at, row_of}
 use Rattle.deliveries.proofs.AgainLemmas.{both-parts, or-parts}
-use Rattle.deliveries.proofs.EventLemmas.{taken_by-push}
 use Rattle.deliveries.proofs.MachineLemmas.{bytes_eq-same}
 use Rattle.deliveries.proofs.RangeLemmas.{front_least}
 use Rattle.deliveries.proofs.StepLemmas.{tables-at, tables-is}
 use Rattle.deliveries_straight.specs.Cut.{cut}
 use Rattle.deliveries_straight.specs.StraightLaws.{EachAfter, HasDistinctPanels, SameMachine, SameTables, UsesNoTolerance, StaysParked}
-use Rattle.window_straight.specs.Straight.{IsStraight, applied_by}
+use Rattle.window_straight.specs.Straight.{IsStraight}
 use Rattle.deliveries_straight.specs.StraightList.{parked_of, sent, straight_list, straightened_after}
 use Rattle.window_straight.specs.Parked.{command_of, parked_asks}
 use Rattle.deliveries_straight.proofs.InTurn.{EachAfter-append, InTurn-walk, StaysParked-all_sent}
 use Rattle.deliveries.proofs.RangeLemmas.{key_greatest}
-use Rattle.deliveries_straight.proofs.MachineSame.{AreSent, Follows, Follows-walk, command-sent, events-all_sent, events_after-append}
+use Rattle.deliveries_straight.proofs.MachineSame.{AreSent, Follows-walk, command-sent, events-all_sent, events_after-append}
 use Rattle.deliveries_straight.proofs.MachineSame.{machine-append, taken-all_sent, taken-none_sent}
 use Rattle.deliveries_straight.proofs.RiseLemmas.{numbers-rise}
 use Rattle.window_straight.proofs.ParkedLemmas.{Completes-straight, IsWhole}
@@ -125,7 +121,8 @@ Ends-join : (b : Building) (L T X Y : List Delivery) (panel : Panel) (panels : L
 Ends-join b L T X Y panel panels outside quiet whole others stays_parked ends = record {
   stays_parked = EachAfter-append StaysParked b T X Y stays_parked ends.stays_parked;
   quiet = events_after-append b T X Y ∙ (ap (λ first. first ++ events_after b (T ++ X) Y) quiet ∙ ends.quiet);
-  whole = λ q among. subst (λ U. IsWhole (taken_by b q U) (taken_by b q L)) (append_assoc T X Y) (here q among (cases_Bool (is_among q (names_of panels))));
+  whole = λ q among. subst (λ U. IsWhole (taken_by b q U) (taken_by b q L)) (append_assoc T X Y)
+      (here q among (cases_Bool (is_among q (names_of panels))));
   others = λ q not_among.
       let apart = or-parts (bytes_eq panel.name q) (is_among q (names_of panels)) not_among in
       ap (taken_by b q) (sym (append_assoc T X Y)) ∙ (ends.others q apart.1 ∙ others q apart.0);
@@ -220,7 +217,8 @@ module _ (b : Building) (L : List Delivery) (schedules : HasDistinctSchedules b)
   group : List Delivery
   group = flat_map (parked_of b L) b.panels
 
-  straights : (ps : List Panel) → Each (λ panel. IsStraight (taken_by b panel.name (straightened_after b [] L)) (taken_by b panel.name L)) ps
+  straights : (ps : List Panel)
+      → Each (λ panel. IsStraight (taken_by b panel.name (straightened_after b [] L)) (taken_by b panel.name L)) ps
   straights [] = tt
   straights (panel ∷ more) = ((Follows-walk b L schedules).panels panel.name, straights more)
 

@@ -1,5 +1,5 @@
 -- The laws of the straight list.
-use Rattle.std.specs.Prelude.{◌≡◌, ℕ, ℤ, pos, int_lt, if◌then◌else◌, ◌<◌, List, [], ◌∷◌, ◌++◌, map, zero}
+use Rattle.std.specs.Prelude.{◌≡◌, ℤ, pos, int_lt, if◌then◌else◌, ◌<◌, List, [], ◌∷◌, ◌++◌, map, zero}
 use Rattle.std.specs.Bool.{IsTrue}
 use Rattle.std.specs.List.{flat_map}
 use Rattle.std.specs.Str.{bytes_eq}

@@ -4,8 +4,10 @@
 //! `Route::body_limit` how long the body of a request to it may be.
 #![tactic(auto)]
 
+pub use laws::each_route_is_found;
 pub use route::Route;
 pub use routes::Routes;
 
+mod laws;
 mod route;
 mod routes;

@@ -1,19 +1,18 @@
 -- What an ask becomes, by the contents that it applies.
-use Rattle.std.proofs.Common.{◌≡◌, ℕ, suc, zero, ◌+◌, ◌-◌, ◌<◌, ◌≤◌, ◌==◌, ◌++◌, Bool, true, false, cond, not, ◌&&◌, ◌||◌, List, [], ◌∷◌}
+use Rattle.std.proofs.Common.{◌≡◌, ℕ, suc, zero, ◌+◌, ◌-◌, ◌<◌, ◌≤◌, ◌==◌, ◌++◌, Bool, true, false, cond, not, ◌&&◌, ◌||◌, [], ◌∷◌}
 use Rattle.std.proofs.Common.{Option}
-use Rattle.std.proofs.Common.{Some, None, is_some, refl, sym, ap, ◌∙◌, subst, arith, inl, inr, ◌⊎◌, nat_lt, nat_le}
+use Rattle.std.proofs.Common.{Some, None, is_some, refl, sym, ap, ◌∙◌, subst, arith, inl, inr, ◌⊎◌, nat_lt}
 use Rattle.std.proofs.lemmas.Bool.Decides.{nat_tests}
-use Rattle.std.proofs.lemmas.Bool.{both_ways, cases_Bool, cases_eq, cases_lt, false≢true}
+use Rattle.std.proofs.lemmas.Bool.{both_ways, cases_Bool, cases_eq, cases_lt}
 use Rattle.std.proofs.lemmas.List.{append-nil}
 use Rattle.points.specs.declared.content.Content.{Content}
-use Rattle.window.specs.declared.numbered_content.NumberedContent.{NumberedContent}
 use Rattle.window.specs.Applied.{applied, and_at, contents_from}
-use Rattle.window.specs.Taken.{Ask, Command, Skip, Taken, take, content_at, is_key, front, accepts, accepts_skip, with_command}
+use Rattle.window.specs.Taken.{Ask, Command, Skip, Taken, take, content_at, is_key, front, accepts}
 use Rattle.window.specs.Window.{window}
 use Rattle.window.proofs.AppliedLemmas.{content_at-take_command, content_at-take_skip}
-use Rattle.window.proofs.FrontLemmas.{EndsInWindow, IsFront-front, IsWithin-accepted, front-take, take-accepted, take-refused}
+use Rattle.window.proofs.FrontLemmas.{EndsInWindow, IsFront-front, IsWithin-accepted, take-refused}
 use Rattle.window_straight.specs.Between.{asks_between, skip_to}
-use Rattle.window_straight.specs.Straightened.{command_under, ends_gap, skip_upto, straightened, straightened_at, straightened_from}
+use Rattle.window_straight.specs.Straightened.{command_under, skip_upto, straightened, straightened_at, straightened_from}
 use Rattle.window_straight.proofs.WalkLemmas.{none_of, upto-take}
 
 record IsPast (now : Taken) (first next n : ℕ) : Type 0 where
@@ -79,7 +78,8 @@ asks_between-from (suc c) now first next n is ends =
     by (content_at now n) refl (λ m past. asks_between-from c now first m (n + 1) past (omega arith))
   where
     by : (content : Option Content) → content_at now n ≡ content
-        → ((m : ℕ) → IsPast now first m (n + 1) → straightened_from (suc c) first now (n + 1) ≡ asks_between m (contents_from c now (n + 1)) (front now))
+        → ((m : ℕ) → IsPast now first m (n + 1) → straightened_from (suc c) first now (n + 1)
+        ≡ asks_between m (contents_from c now (n + 1)) (front now))
         → straightened_from (suc (suc c)) first now n ≡ asks_between next (contents_from (suc c) now n) (front now)
     by None found more =
         let least = is.least in
@@ -87,7 +87,8 @@ asks_between-from (suc c) now first next n is ends =
         let missing : is_key now n ≡ false = ap is_some found in
         let apart : (n == front now) ≡ false = eqb_apart n (front now) (λ same. omega arith) in
         let open_gap : (is_key now n || n == front now) ≡ false = rw (missing, apart) refl in
-        ap (λ xs. (xs ++ command_under n (content_at now n)) ++ straightened_from (suc c) first now (n + 1)) (skip-none now first n open_gap)
+        ap (λ xs. (xs ++ command_under n (content_at now n))
+        ++ straightened_from (suc c) first now (n + 1)) (skip-none now first n open_gap)
         ∙ (ap (λ content. command_under n content ++ straightened_from (suc c) first now (n + 1)) found
         ∙ (more next (record {
           least = least;
@@ -106,7 +107,8 @@ asks_between-from (suc c) now first next n is ends =
         let can : (is_key now n || n == front now) ≡ true = rw key refl in
         let back : n + 1 - 1 ≡ n = omega arith in
         ap (λ content. (skip_upto first now n ++ command_under n content) ++ straightened_from (suc c) first now (n + 1)) found
-        ∙ (ap (λ xs. (xs ++ Command n content ∷ []) ++ straightened_from (suc c) first now (n + 1)) (skip-straightened now first next n is can)
+        ∙ (ap (λ xs. (xs ++ Command n content ∷ [])
+        ++ straightened_from (suc c) first now (n + 1)) (skip-straightened now first next n is can)
         ∙ (ap (λ rest. (skip_to next n ++ Command n content ∷ []) ++ rest) (more (n + 1) (record {
           least = omega arith;
           most = omega arith;
@@ -143,7 +145,8 @@ front-near t ask ends =
     free (Command m content) = elim (cases_Bool (accepts t m)) [
       | inl accepted ↦
           let below = (IsWithin-accepted t m accepted).below in
-          ap is_some (content_at-take_command t m (front t + window) content (omega (arith, below))) ∙ ends.none (front t + window) (omega arith)
+          ap is_some (content_at-take_command t m (front t + window) content (omega (arith, below)))
+          ∙ ends.none (front t + window) (omega arith)
       | inr refused ↦
           ap (λ u. is_key u (front t + window)) (take-refused t m content refused) ∙ ends.none (front t + window) (omega arith)
     ]

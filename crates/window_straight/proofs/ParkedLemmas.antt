@@ -1,12 +1,12 @@
 -- The commands that are still parked come at the end, and are parked there.
-use Rattle.std.proofs.Common.{◌≡◌, ℕ, suc, zero, ◌+◌, ◌-◌, ◌<◌, ◌≤◌, ◌==◌, ◌++◌, Bool, true, false, cond, not, ◌&&◌, ◌||◌, List, [], ◌∷◌}
+use Rattle.std.proofs.Common.{◌≡◌, ℕ, suc, zero, ◌+◌, ◌<◌, ◌≤◌, ◌++◌, true, List, [], ◌∷◌}
 use Rattle.std.proofs.Common.{map, Option}
-use Rattle.std.proofs.Common.{Some, None, is_some, refl, sym, ap, ◌∙◌, subst, arith, inl, inr, nat_lt, nat_le}
+use Rattle.std.proofs.Common.{Some, None, is_some, refl, sym, ap, ◌∙◌, subst, arith, inl, inr}
 use Rattle.std.proofs.lemmas.Bool.{cases_eq, cases_lt, false≢true}
 use Rattle.points.specs.declared.content.Content.{Content}
 use Rattle.window.specs.declared.numbered_content.NumberedContent.{NumberedContent}
-use Rattle.window.specs.Applied.{applied, and_at, contents_from}
-use Rattle.window.specs.Taken.{Ask, Command, Skip, Taken, take, taken, opening, content_at, is_key, front, accepts, with_command}
+use Rattle.window.specs.Applied.{contents_from}
+use Rattle.window.specs.Taken.{Ask, Command, Skip, Taken, take, taken, content_at, is_key, front, accepts, with_command}
 use Rattle.window.specs.Window.{window}
 use Rattle.window.proofs.FrontLemmas.{EndsInWindow, IsFront-front, take-accepted}
 use Rattle.window.proofs.PlanLemmas.{accepts-missing, applied-same_front, content_new, content_other, front-parked}
@@ -85,7 +85,8 @@ fill (suc c) s t n is least within =
         ] in
         let accepted = accepts-missing s n (ap is_some (is.beyond n (omega arith))) (omega arith) (omega arith) in
         let grown = take-accepted s n content accepted in
-        let rest = more (take s (Command n content)) (subst (λ u. IsFilled u t (n + 1)) (sym grown) (IsFilled-some s t n content is apart found)) in
+        let rest = more (take s (Command n content))
+        (subst (λ u. IsFilled u t (n + 1)) (sym grown) (IsFilled-some s t n content is apart found)) in
         rw found (record {
           ahead = ((accepted, apart), rest.ahead);
           applies = ap (λ first. first ++ applied_by (take s (Command n content)) (map command_of (contents_from c t (n + 1))))

@@ -1,7 +1,7 @@
 -- The definition on worked lists: what one panel asks, and what it becomes.
-use Rattle.std.proofs.Common.{◌≡◌, ℕ, List, [], ◌∷◌, ◌++◌, map, refl}
+use Rattle.std.proofs.Common.{◌≡◌, List, [], ◌∷◌, ◌++◌, refl}
 use Rattle.points.specs.declared.content.Content.{Content}
-use Rattle.window.specs.Taken.{Ask, Command, Skip, Taken, take, taken, opening, front}
+use Rattle.window.specs.Taken.{Ask, Command, Skip, Taken, take, opening, front}
 use Rattle.window.specs.Window.{window}
 use Rattle.window_straight.specs.Parked.{parked_asks}
 use Rattle.window_straight.specs.Straightened.{straightened}

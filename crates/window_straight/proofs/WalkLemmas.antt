@@ -1,9 +1,9 @@
 -- What one ask becomes leads a straight panel to where the ask leads.
-use Rattle.std.proofs.Common.{◌≡◌, ◌≢◌, ℕ, suc, zero, ◌+◌, ◌-◌, ◌<◌, ◌≤◌, ◌==◌, ◌++◌, Bool, true, false, cond, not, ◌&&◌, ◌||◌, max, List}
+use Rattle.std.proofs.Common.{◌≡◌, ◌≢◌, ℕ, suc, zero, ◌+◌, ◌-◌, ◌<◌, ◌≤◌, ◌==◌, ◌++◌, Bool, true, false, cond, not, ◌&&◌, ◌||◌, List}
 use Rattle.std.proofs.Common.{[], ◌∷◌, Option}
-use Rattle.std.proofs.Common.{Some, None, is_some, refl, sym, ap, ◌∙◌, subst, arith, inl, inr, ◌⊎◌, nat_lt, nat_le, append_assoc}
+use Rattle.std.proofs.Common.{Some, None, is_some, refl, sym, ap, ◌∙◌, subst, arith, inl, inr, ◌⊎◌, nat_lt, append_assoc}
 use Rattle.std.proofs.lemmas.Bool.Decides.{nat_tests}
-use Rattle.std.proofs.lemmas.Bool.{both_ways, cases_Bool, cases_eq, cases_lt, cases_order, false≢true}
+use Rattle.std.proofs.lemmas.Bool.{both_ways, cases_Bool, cases_eq, cases_lt, false≢true}
 use Rattle.std.proofs.lemmas.List.{append-nil}
 use Rattle.points.specs.declared.content.Content.{Content}
 use Rattle.window.specs.declared.numbered_content.NumberedContent.{NumberedContent}
@@ -12,10 +12,10 @@ use Rattle.window.specs.Taken.{Ask, Command, Skip, Taken, take, taken, content_a
 use Rattle.window.specs.Window.{window}
 use Rattle.window.proofs.FrontLemmas.{IsFront-front, front-is, front-take, key_new, key_other, key_stays, take-accepted, take-refused}
 use Rattle.window.proofs.PlanLemmas.{IsSkipWithin-accepted, accepts-front, accepts_skip-within, content_new, content_other}
-use Rattle.window.proofs.PlanLemmas.{contents_from-new, take-skip_accepted, take-skip_refused, window_positive, with_skip}
+use Rattle.window.proofs.PlanLemmas.{contents_from-new, take-skip_accepted, take-skip_refused, with_skip}
 use Rattle.window.proofs.TakenLemmas.{content_at-below, taken-append}
-use Rattle.window_straight.specs.Straight.{AreNext, IsNext, IsStraight, applied_by}
-use Rattle.window_straight.specs.Straightened.{command_under, ends_gap, skip_upto, straightened, straightened_at, straightened_from}
+use Rattle.window_straight.specs.Straight.{AreNext, IsStraight, applied_by}
+use Rattle.window_straight.specs.Straightened.{command_under, skip_upto, straightened, straightened_at, straightened_from}
 use Rattle.window_straight.specs.Laws.{WalksStraight}
 
 pub none_of : (content : Option Content) → is_some content ≡ false → content ≡ None
@@ -196,7 +196,8 @@ skip-step s now first n is near ends = elim (cases_eq (front s) n) [
       let above : front s < n = omega arith in
       let lower : nat_lt first n ≡ true = grind (arith, nat_tests) in
       let missing : is_key now (n - 1) ≡ false = is.gap (n - 1) (omega arith) (omega arith) in
-      subst (λ xs. Reaches s xs [] (λ t. IsAt t now n)) (sym (rw (lower, missing, ends) refl)) (skip-over s now first n is above (near above))
+      subst (λ xs. Reaches s xs [] (λ t. IsAt t now n)) (sym (rw (lower, missing, ends) refl))
+      (skip-over s now first n is above (near above))
 ]
   where
     quiet : front s ≡ n → (first < n) ⊎ (n ≤ first) → skip_upto first now n ≡ []
@@ -268,7 +269,8 @@ walk (suc c) s now first n is near least ends =
         let apart : (n == front now) ≡ false = eqb_apart n (front now) (omega arith) in
         let open_gap : (is_key now n || n == front now) ≡ false = rw (missing, apart) refl in
         subst (λ xs. Reaches s xs (contents_from (suc c) now n) (λ t. IsStraight t now))
-        (sym (ap (λ xs. (xs ++ command_under n (content_at now n)) ++ straightened_from (suc c) first now (n + 1)) (skip-none now first n open_gap)
+        (sym (ap (λ xs. (xs ++ command_under n (content_at now n))
+        ++ straightened_from (suc c) first now (n + 1)) (skip-none now first n open_gap)
         ∙ ap (λ content. command_under n content ++ straightened_from (suc c) first now (n + 1)) found))
         (subst (λ cs. Reaches s (straightened_from (suc c) first now (n + 1)) cs (λ t. IsStraight t now))
         (sym (ap (λ content. and_at n content (contents_from c now (n + 1))) found)) (more s (IsBefore-missing s now first n is missing)))
@@ -284,7 +286,8 @@ walk (suc c) s now first n is near least ends =
         (λ t at. more t (IsBefore-at t now first (n + 1) at (omega arith) (λ above. key_again key))) in
         subst (λ xs. Reaches s xs (contents_from (suc c) now n) (λ t. IsStraight t now))
         (sym (ap (λ content. (skip_upto first now n ++ command_under n content) ++ straightened_from (suc c) first now (n + 1)) found))
-        (subst (λ cs. Reaches s ((skip_upto first now n ++ Command n content ∷ []) ++ straightened_from (suc c) first now (n + 1)) cs (λ t. IsStraight t now))
+        (subst (λ cs. Reaches s ((skip_upto first now n ++ Command n content ∷ [])
+        ++ straightened_from (suc c) first now (n + 1)) cs (λ t. IsStraight t now))
         (sym (ap (λ content. and_at n content (contents_from c now (n + 1))) found)) all)
       where
         key_again : is_key now n ≡ true → is_key now (n + 1 - 1) ≡ true
@@ -315,7 +318,8 @@ AreNear-take t ask n above within missing =
     let now = take t ask in
     let limit = upto-take t ask in
     elim (cases_lt (front t + window) n) [
-      | inl far ↦ absurd (both_ways (is_key now (n - 1)) missing ((IsFront-front now).least (n - 1) (omega (arith, limit, far)) (omega arith)))
+      | inl far ↦ absurd (both_ways (is_key now (n - 1)) missing
+          ((IsFront-front now).least (n - 1) (omega (arith, limit, far)) (omega arith)))
       | inr near ↦ near
     ]
 

@@ -1,5 +1,5 @@
 -- What straightening one ask keeps.
-use Rattle.std.specs.Prelude.{◌≡◌, List}
+use Rattle.std.specs.Prelude.{◌≡◌}
 use Rattle.window.specs.Applied.{applied}
 use Rattle.window.specs.Taken.{Ask, Taken, front, take, taken}
 use Rattle.window_straight.specs.Between.{asks_between}

@@ -1,9 +1,8 @@
 -- How a panel after the straight list stands to the same panel after the list.
-use Rattle.std.specs.Prelude.{◌≡◌, ℕ, ◌<◌, ◌≤◌, ◌++◌, true, List, [], ◌∷◌, Option, Some, None}
-use Rattle.points.specs.declared.content.Content.{Content}
+use Rattle.std.specs.Prelude.{◌≡◌, ℕ, ◌<◌, ◌≤◌, ◌++◌, true, List, [], ◌∷◌, None}
 use Rattle.window.specs.declared.numbered_content.NumberedContent.{NumberedContent}
 use Rattle.window.specs.Applied.{applied}
-use Rattle.window.specs.Taken.{Ask, Command, Skip, Taken, content_at, front, is_key, take, accepts_skip}
+use Rattle.window.specs.Taken.{Ask, Command, Skip, Taken, content_at, front, take, accepts_skip}
 
 -- the same front, the same contents below it, and nothing from it on: what is parked comes at the end
 pub record IsStraight (straight now : Taken) : Type 0 where

@@ -1,5 +1,4 @@
 use Rattle.window_straight.proofs.BetweenLemmas.{straightened-asks_between}
-use Rattle.window_straight.proofs.RowExamples.{skipped}
 use Rattle.window.proofs.FrontLemmas.{front-take}
 use Rattle.window.specs.Taken.{take}
 use Rattle.window_straight.proofs.straightened_by_contents.Goals as goal

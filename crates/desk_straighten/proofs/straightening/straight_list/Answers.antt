@@ -30,8 +30,10 @@ loop-delivery-preserved c =
     let more : take (at + 1) all ≡ ds ++ d ∷ [] =
     take_more all at d (omega (arith, c.loop-delivery-test.true)) ∙ ap (λ (x : Delivery). ds ++ x ∷ []) (sym c.delivery-item.is) in
     record {
-      holds = subst (λ (E : List Delivery). Holds b E (standing_of c.straighten_one.new.store)) (sym more) (c.in_ok-straighten_one.ensures.holds ds so_far.holds);
-      straightened = straightened-more b ds (take (at + 1) all) d c.loop-delivery.straightened.items c.straighten_one.new.straightened.items more so_far.straightened
+      holds = subst (λ (E : List Delivery). Holds b E (standing_of c.straighten_one.new.store)) (sym more)
+          (c.in_ok-straighten_one.ensures.holds ds so_far.holds);
+      straightened = straightened-more b ds
+          (take (at + 1) all) d c.loop-delivery.straightened.items c.straighten_one.new.straightened.items more so_far.straightened
           (c.in_ok-straighten_one.ensures.straightens ds so_far.holds);
     }
 
@@ -48,7 +50,8 @@ loop-panel-preserved c =
     let more = subst (λ (qs : List Panel). take (at + 1) qs ≡ take at qs ++ panel ∷ []) c.panels-panel-items.ensures here in
     record {
       holds = c.in_ok-push_parked.ensures.same ∙ so_far.holds;
-      straightened = panels-more b L (take at b.panels) (take (at + 1) b.panels) panel (straightened_after b [] L) c.loop-panel.straightened.items
+      straightened = panels-more b L (take at b.panels) (take (at + 1) b.panels) panel
+          (straightened_after b [] L) c.loop-panel.straightened.items
           c.push_parked.new.straightened.items more so_far.straightened (c.in_ok-push_parked.ensures.straightens L so_far.holds);
     }
 
