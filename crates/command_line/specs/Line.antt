@@ -39,9 +39,17 @@ database_app name last = with_rule (with_rule (file_app name) (needed_rule (code
 abbrev pub check_app : App
 check_app = file_app (codes "check")
 
+-- a subcommand that takes FILE and DELIVERIES
+abbrev pub deliveries_app : Text → App
+deliveries_app name = with_rule (file_app name) (needed_rule (codes "deliveries"))
+
 -- `replay FILE DELIVERIES`
 abbrev pub replay_app : App
-replay_app = with_rule (file_app (codes "replay")) (needed_rule (codes "deliveries"))
+replay_app = deliveries_app (codes "replay")
+
+-- `straighten FILE DELIVERIES`
+abbrev pub straighten_app : App
+straighten_app = deliveries_app (codes "straighten")
 
 -- `import FILE DB CSV`
 abbrev pub import_app : App
@@ -70,9 +78,9 @@ serve_app = with_rule (with_rule
 -- `desk`, which needs a subcommand
 abbrev pub desk_app : App
 desk_app =
-    with_subcommand (with_subcommand (with_subcommand (with_subcommand (with_subcommand (with_subcommand
+    with_subcommand (with_subcommand (with_subcommand (with_subcommand (with_subcommand (with_subcommand (with_subcommand
     (on_top (λ s. record s { subcommand_required = true }) (new_app (codes "desk"))) check_app.top)
-    replay_app.top) import_app.top) tick_app.top) report_app.top) serve_app.top
+    replay_app.top) straighten_app.top) import_app.top) tick_app.top) report_app.top) serve_app.top
 
 -- what is made, if memory is had, is the command `app`, with no argument for its subcommands too
 abbrev pub Makes : {E : Type 0} → App → Result Command E → Type 0
@@ -84,6 +92,7 @@ Makes app r = IfOk r (λ c. (app_of c ≡ app) × ((fields_of c).has_globals ≡
 pub data Asked : Type 0 where
   Check : (file : Text) → Asked
   Replay : (file : Text) → (deliveries : Text) → Asked
+  Straighten : (file : Text) → (deliveries : Text) → Asked
   Import : (file : Text) → (database : Text) → (holidays : Text) → Asked
   Tick : (file : Text) → (database : Text) → (at : ℤ) → Asked
   Report : (file : Text) → (database : Text) → (date : Text) → Asked
@@ -92,6 +101,7 @@ pub data Asked : Type 0 where
 abbrev pub asked_of : Line → Asked
 asked_of (line.Check file) = Check file.now
 asked_of (line.Replay file deliveries) = Replay file.now deliveries.now
+asked_of (line.Straighten file deliveries) = Straighten file.now deliveries.now
 asked_of (line.Import file database holidays) = Import file.now database.now holidays.now
 asked_of (line.Tick file database at) = Tick file.now database.now at
 asked_of (line.Report file database date) = Report file.now database.now date.now
@@ -123,6 +133,10 @@ abbrev pub replay_in : List Row → Option Asked
 replay_in rows = option_and_then (λ file. option_map (λ deliveries. Replay file deliveries)
     (first_of (codes "deliveries") rows)) (first_of (codes "file") rows)
 
+abbrev pub straighten_in : List Row → Option Asked
+straighten_in rows = option_and_then (λ file. option_map (λ deliveries. Straighten file deliveries)
+    (first_of (codes "deliveries") rows)) (first_of (codes "file") rows)
+
 abbrev pub import_in : List Row → Option Asked
 import_in rows = option_and_then (λ file. option_and_then (λ database.
     option_map (λ holidays. Import file database holidays)
@@ -150,10 +164,11 @@ abbrev pub asked_in : Text × List Row → Option Asked
 asked_in (name, rows) =
     if bytes_eq name (codes "check") then check_in rows
     else (if bytes_eq name (codes "replay") then replay_in rows
+    else (if bytes_eq name (codes "straighten") then straighten_in rows
     else (if bytes_eq name (codes "import") then import_in rows
     else (if bytes_eq name (codes "tick") then tick_in rows
     else (if bytes_eq name (codes "report") then report_in rows
-    else (if bytes_eq name (codes "serve") then serve_in rows else None)))))
+    else (if bytes_eq name (codes "serve") then serve_in rows else None))))))
 
 -- what the words ask, the program's name first
 abbrev pub asked : List Text → Option Asked

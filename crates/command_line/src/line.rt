@@ -6,10 +6,11 @@ ghost use Rattle.clap.specs.Words.{App, HasKind, Kinds, fault_of, first_of, foun
 ghost use Rattle.clap.specs.Words.{rows_of, rule_of, subcommand_rows_of, with_rule, with_subcommand};
 ghost use Rattle.command_line.specs.ArgFault.{IsRefusedBy};
 ghost use Rattle.command_line.specs.Line.{Makes, asked, asked_in, asked_of, check_app, check_in};
-ghost use Rattle.command_line.specs.Line.{clock_rule, count_in, count_of, database_app, desk_app};
-ghost use Rattle.command_line.specs.Line.{file_app, import_app, import_in, is_told, moment_in};
+ghost use Rattle.command_line.specs.Line.{clock_rule, count_in, count_of, database_app, deliveries_app};
+ghost use Rattle.command_line.specs.Line.{desk_app, file_app, import_app, import_in, is_told, moment_in};
 ghost use Rattle.command_line.specs.Line.{needed_rule, replay_app, replay_in, report_app, report_in};
-ghost use Rattle.command_line.specs.Line.{requests_rule, serve_app, serve_in, tick_app, tick_in};
+ghost use Rattle.command_line.specs.Line.{requests_rule, serve_app, serve_in, straighten_app};
+ghost use Rattle.command_line.specs.Line.{straighten_in, tick_app, tick_in};
 
 use crate::ArgFault;
 use clap::error::ErrorKind;
@@ -26,6 +27,13 @@ pub enum Line<'a> {
     },
     /// `replay FILE DELIVERIES`: runs the deliveries over the building of the file, in memory.
     Replay {
+        /// The path of the building file.
+        file: &'a str,
+        /// The path of the list of deliveries.
+        deliveries: &'a str,
+    },
+    /// `straighten FILE DELIVERIES`: prints the straight list of the deliveries over the building of the file.
+    Straighten {
         /// The path of the building file.
         file: &'a str,
         /// The path of the list of deliveries.
@@ -101,6 +109,7 @@ fn desk_command<'a>(alloc: Global) -> Result<Command<'a>, AllocError>
         .subcommand_required(true);
     let desk = with_subcommand(Ok(desk), check_command(alloc));
     let desk = with_subcommand(desk, replay_command(alloc));
+    let desk = with_subcommand(desk, straighten_command(alloc));
     let desk = with_subcommand(desk, import_command(alloc));
     let desk = with_subcommand(desk, tick_command(alloc));
     let desk = with_subcommand(desk, report_command(alloc));
@@ -123,9 +132,15 @@ fn replay_command<'a>(alloc: Global) -> Result<Command<'a>, AllocError>
     ensures { Makes replay_app result }
 {
     let about = "Runs deliveries in memory, and prints each reply and then each point";
-    let help = "The deliveries, one JSON object a line";
-    let deliveries = needed(alloc, "deliveries", "DELIVERIES", help);
-    with_argument(file_command(alloc, "replay", about), deliveries)
+    deliveries_command(alloc, "replay", about)
+}
+
+/// The subcommand `straighten FILE DELIVERIES`.
+fn straighten_command<'a>(alloc: Global) -> Result<Command<'a>, AllocError>
+    ensures { Makes straighten_app result }
+{
+    let about = "Prints the straight list of deliveries, one JSON object a line";
+    deliveries_command(alloc, "straighten", about)
 }
 
 /// The subcommand `import FILE DB CSV`.
@@ -173,6 +188,19 @@ fn serve_command<'a>(alloc: Global) -> Result<Command<'a>, AllocError>
         with_argument(serve, requests_argument(alloc)),
         clock_argument(alloc),
     )
+}
+
+/// A subcommand that takes FILE and DELIVERIES.
+fn deliveries_command<'a>(
+    alloc: Global,
+    name: &'a str,
+    about: &'a str,
+) -> Result<Command<'a>, AllocError>
+    ensures { Makes (deliveries_app name.now) result }
+{
+    let help = "The deliveries, one JSON object a line";
+    let deliveries = needed(alloc, "deliveries", "DELIVERIES", help);
+    with_argument(file_command(alloc, name, about), deliveries)
 }
 
 /// A subcommand that takes FILE, DB and one argument more.
@@ -274,6 +302,7 @@ fn line_in<'a>(matches: &ArgMatches<'a>) -> Option<Line<'a>>
     match name {
         "check" => check_line(inner),
         "replay" => replay_line(inner),
+        "straighten" => straighten_line(inner),
         "import" => import_line(inner),
         "tick" => tick_line(inner),
         "report" => report_line(inner),
@@ -298,6 +327,19 @@ fn replay_line<'a>(matches: &ArgMatches<'a>) -> Option<Line<'a>>
         && let Some(deliveries) = text_at(matches, "deliveries")
     {
         Some(Line::Replay { file, deliveries })
+    } else {
+        None
+    }
+}
+
+/// What the arguments of `straighten` ask.
+fn straighten_line<'a>(matches: &ArgMatches<'a>) -> Option<Line<'a>>
+    ensures { option_map asked_of result ≡ straighten_in (rows_of (found_of matches.now)) }
+{
+    if let Some(file) = text_at(matches, "file")
+        && let Some(deliveries) = text_at(matches, "deliveries")
+    {
+        Some(Line::Straighten { file, deliveries })
     } else {
         None
     }

@@ -1,6 +1,7 @@
 pub mod ClockLine
 pub mod CommandMembers
 pub mod DeliveryLine
+pub mod DeliveryText
 pub mod LineFault
 pub mod Members
 pub mod PanelLine
