@@ -117,7 +117,7 @@ def an_interrupted_build_goes_on_where_it_was(program, room):
     lines = [re.sub(r"\d+(\.\d+)?", "N", line) for line in ran.stdout.splitlines()]
     wanted = ["proving N crates on N processors; from nothing some N minutes", "[N/N] lowest was proved before, N min, some N to go",
               "[N/N] desk_program proved, N min, some N to go", "build/desk is proved and up to date, after N minutes"]
-    expect(lines, wanted, "the second build")
+    expect((lines[:2], sorted(lines[2:])), (wanted[:2], wanted[2:]), "the second build")
     expect(ran.returncode, 0, "the second build")
     if not os.access(small / "build" / "desk", os.X_OK):
         raise AssertionError("the second build left no program")
