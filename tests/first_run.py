@@ -97,6 +97,8 @@ def small_repository(to):
                                 "/// Seven.\npub fn seven() -> u64\n    ensures { result ≡ 7 }\n{\n    7\n}\n")
     subprocess.run(["rt", "new", "crates/desk_program", "start_io"], cwd=to, check=True, capture_output=True)
     (to / "crates" / "desk_program" / "BUILD.bazel").unlink(missing_ok=True)
+    main = to / "crates" / "desk_program" / "src" / "main.rt"
+    main.write_text(f"// The number {mark}.\n" + main.read_text())
     (to / "crates.txt").write_text("lowest:\ndesk_program: lowest\n")
     return to
 
