@@ -39,10 +39,11 @@ AnswersRefused building earlier refused (Ok text) now = (text.items ≡ refusal_
 AnswersRefused building earlier refused (Err NotDelivery) now = ⊥
 AnswersRefused building earlier refused (Err (NotDone fault)) now = (fault ≡ NoMemory) × Holds building earlier now
 
--- on another line: no answer, and the tables of the earlier ones
+-- on another line: that it is no delivery, or a want of memory, and the tables of the earlier ones
 abbrev pub AnswersOther : Building → List Delivery → Result (Vec ℕ Global) LineFault → Standing → Type 0
 AnswersOther building earlier (Ok text) now = ⊥
-AnswersOther building earlier (Err fault) now = Holds building earlier now
+AnswersOther building earlier (Err NotDelivery) now = Holds building earlier now
+AnswersOther building earlier (Err (NotDone fault)) now = (fault ≡ NoMemory) × Holds building earlier now
 
 abbrev pub AnswersLine : Building → List Delivery → Option Told → Result (Vec ℕ Global) LineFault → Standing
     → Type 0

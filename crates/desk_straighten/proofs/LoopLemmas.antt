@@ -21,7 +21,7 @@ pub straightened-more : (b : Building) (ds more : List Delivery) (d : Delivery) 
     → old ≡ straightened_after b [] ds → new ≡ old ++ straightened_by b ds d → new ≡ straightened_after b [] more
 straightened-more b ds more d old new is so_far grown =
     grown ∙ (ap (λ xs. xs ++ straightened_by b ds d) so_far
-        ∙ (sym (straightened_after-push b [] ds d) ∙ ap (straightened_after b []) (sym is)))
+    ∙ (sym (straightened_after-push b [] ds d) ∙ ap (straightened_after b []) (sym is)))
 
 pub panels-more : (b : Building) (L : List Delivery) (ps more : List Panel) (panel : Panel) (first old new : List Delivery)
     → more ≡ ps ++ panel ∷ [] → old ≡ first ++ flat_map (parked_of b L) ps → new ≡ old ++ parked_of b L panel

@@ -35,10 +35,10 @@ rows-more b imported rows i row old new kept grown all next is keeps so_far =
     let items = added_by b (with_items imported old) row in
     let rest = drop (i + 1) rows in
     ap (λ front. front ++ added_rows b (with_items imported new) rest) (keeps
-        ∙ ap (λ here. kept ++ here) (row_if-adds row old items new is))
+    ∙ ap (λ here. kept ++ here) (row_if-adds row old items new is))
     ∙ (append_assoc kept (row_that_adds row items) (added_rows b (with_items imported new) rest)
     ∙ (ap (λ now. kept ++ (row_that_adds row items ++ added_rows b now rest)) (ap (with_items imported) is
-        ∙ sym (with_items-append imported old items))
+    ∙ sym (with_items-append imported old items))
     ∙ (ap (λ left. kept ++ added_rows b (with_items imported old) left) (sym next) ∙ so_far)))
 
 pub row_if-yes : (row : CalendarEntry) (old new : List ImportedEntry) (m n : ℕ) → m ≡ length old → n ≡ length new → m < n

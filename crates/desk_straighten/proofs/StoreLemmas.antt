@@ -152,11 +152,11 @@ straightened-held b p E d s before held at =
     let t = taken_by b p E in
     let now = taken_by b p (E ++ d ∷ []) in
     ap (λ (c : a_content). asks_between before (contents_of (rows_between (c.tables.row p) before (c.tables.next p)))
-        (c.tables.next p)) held
+    (c.tables.next p)) held
     ∙ (ap (λ (end : ℕ). asks_between before (contents_of (rows_between ((tables b (E ++ d ∷ [])).row p) before end)) end)
-        (next-tables b (E ++ d ∷ []) p)
+    (next-tables b (E ++ d ∷ []) p)
     ∙ (ap (λ (from : ℕ). asks_between from (contents_of (rows_between ((tables b (E ++ d ∷ [])).row p) from (asks.front now)))
-        (asks.front now)) at
+    (asks.front now)) at
     ∙ (ap (λ contents. asks_between (asks.front t) contents (asks.front now)) (contents-held b p E d)
     ∙ sym (straightened-asks_between t now (front-push b p E d)))))
 
@@ -209,7 +209,7 @@ All-rows_kept rows t (suc count) n keeps from most =
     by None e more = rw e more
     by (Some row) e more =
         rw e (All-cons (λ (entry : NumberedRow). entry.number ≤ LAST_NUMBER) (record { number = n; row = row })
-            (rows_from count rows (n + 1))
+        (rows_from count rows (n + 1))
         (most n (sym (is_some-rows rows t n (Keeps-from_front rows t n keeps from)) ∙ ap is_some e)) more)
 
 pub ReadsParked-held : (b : Building) (E : List Delivery) (s : Standing) → Holds b E s → (read : Standing) → read.content ≡ s.content

@@ -50,7 +50,8 @@ pub fn straighten_import(
     ensures holds { (earlier : List a_delivery) → Holds building.now earlier (standing_of store.old)
         → OnOk result (Holds building.now (earlier ++ delivery_of.Import rows.now ∷ []) (standing_of store.new)) }
     ensures straightens { (earlier : List a_delivery) → Holds building.now earlier (standing_of store.old)
-        → OnOk result (straightened.new.items ≡ straightened.old.items ++ straightened_by building.now earlier (delivery_of.Import rows.now)) }
+        → OnOk result (straightened.new.items ≡ straightened.old.items
+        ++ straightened_by building.now earlier (delivery_of.Import rows.now)) }
 {
     let _last = store.last_tick()?;
     let added = rows_that_add(alloc, store, building, rows)?;

@@ -30,8 +30,9 @@ fn push_moved(
     requires holds { HoldsSome building.now (standing_of store.old) }
     requires rises { before ≤ (standing_of store.old).content.tables.next panel.now }
     ensures same { OnOk result ((standing_of store.new).content ≡ (standing_of store.old).content) }
-    ensures straightens { let tables = (standing_of store.old).content.tables in OnOk result (straightened.new.items ≡ straightened.old.items
-        ++ map (sent panel.now) (asks_between before (contents_of (rows_between (tables.row panel.now) before (tables.next panel.now))) (tables.next panel.now))) }
+    ensures straightens { let tables = (standing_of store.old).content.tables in
+        OnOk result (straightened.new.items ≡ straightened.old.items ++ map (sent panel.now) (asks_between before
+        (contents_of (rows_between (tables.row panel.now) before (tables.next panel.now))) (tables.next panel.now))) }
 {
     let after = store.panel_next(panel)?;
     let run = store.commands_run(panel, before, after)?;
@@ -53,7 +54,8 @@ pub fn straighten_command(
     ensures holds { (earlier : List a_delivery) → Holds building.now earlier (standing_of store.old)
         → OnOk result (Holds building.now (earlier ++ delivery_of.Command panel.now number content.now ∷ []) (standing_of store.new)) }
     ensures straightens { (earlier : List a_delivery) → Holds building.now earlier (standing_of store.old)
-        → OnOk result (straightened.new.items ≡ straightened.old.items ++ straightened_by building.now earlier (delivery_of.Command panel.now number content.now)) }
+        → OnOk result (straightened.new.items ≡ straightened.old.items
+        ++ straightened_by building.now earlier (delivery_of.Command panel.now number content.now)) }
 {
     let before = store.panel_next(panel)?;
     deliver_command(alloc, store, building, panel, number, content)?;
@@ -73,7 +75,8 @@ pub fn straighten_skip(
     ensures holds { (earlier : List a_delivery) → Holds building.now earlier (standing_of store.old)
         → OnOk result (Holds building.now (earlier ++ delivery_of.Skip panel.now upto ∷ []) (standing_of store.new)) }
     ensures straightens { (earlier : List a_delivery) → Holds building.now earlier (standing_of store.old)
-        → OnOk result (straightened.new.items ≡ straightened.old.items ++ straightened_by building.now earlier (delivery_of.Skip panel.now upto)) }
+        → OnOk result (straightened.new.items ≡ straightened.old.items
+        ++ straightened_by building.now earlier (delivery_of.Skip panel.now upto)) }
 {
     let before = store.panel_next(panel)?;
     deliver_skip(alloc, store, building, panel, upto)?;

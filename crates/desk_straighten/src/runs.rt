@@ -13,7 +13,12 @@ use std::alloc::AllocError;
 use window::LAST_NUMBER;
 
 // Pushes a skip of a panel, where numbers from `next` on are missing below `upto`.
-fn skip(straightened: &mut Vec<Delivery>, panel: &Name, next: u64, upto: u64) -> Result<(), AllocError>
+fn skip(
+    straightened: &mut Vec<Delivery>,
+    panel: &Name,
+    next: u64,
+    upto: u64,
+) -> Result<(), AllocError>
     requires { upto ≤ LAST_NUMBER + 1 }
     ensures { OnOk result (straightened.new.items ≡ straightened.old.items ++ map (sent panel.now) (skip_to next upto)) }
 {
@@ -37,7 +42,8 @@ pub fn push_run(
 ) -> Result<(), AllocError>
     requires end { end ≤ LAST_NUMBER + 1 }
     requires numbers { All (λ (entry : a_row). entry.number < end) run.now }
-    ensures { OnOk result (straightened.new.items ≡ straightened.old.items ++ map (sent panel.now) (asks_between next (contents_of run.now) end)) }
+    ensures { OnOk result (straightened.new.items ≡ straightened.old.items
+        ++ map (sent panel.now) (asks_between next (contents_of run.now) end)) }
 {
     for entry in run {
         skip(straightened, panel, next, entry.number)?;

@@ -10,8 +10,8 @@ ghost use Rattle.deliveries_straight.specs.StraightList.{straight_list, straight
 
 use crate::imports::straighten_import;
 use crate::panel_asks::{straighten_command, straighten_skip};
-use crate::ticks::straighten_tick;
 use crate::parked_commands::push_parked;
+use crate::ticks::straighten_tick;
 use building::Building;
 use deliveries::Delivery;
 use mem_store::MemStore;
@@ -37,10 +37,31 @@ fn straighten_one(
             panel,
             number,
             content,
-        } => straighten_command(alloc, store, building, straightened, panel, *number, content),
-        Delivery::Skip { panel, upto } => straighten_skip(alloc, store, building, straightened, panel, *upto),
+        } => straighten_command(
+            alloc,
+            store,
+            building,
+            straightened,
+            panel,
+            *number,
+            content,
+        ),
+        Delivery::Skip { panel, upto } => straighten_skip(
+            alloc,
+            store,
+            building,
+            straightened,
+            panel,
+            *upto,
+        ),
         Delivery::Tick { at } => straighten_tick(alloc, store, building, straightened, *at),
-        Delivery::Import { rows } => straighten_import(alloc, store, building, straightened, rows.as_slice()),
+        Delivery::Import { rows } => straighten_import(
+            alloc,
+            store,
+            building,
+            straightened,
+            rows.as_slice(),
+        ),
     }
 }
 

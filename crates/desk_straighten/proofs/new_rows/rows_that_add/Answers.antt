@@ -30,7 +30,7 @@ loop-row-preserved g c =
           ∙ (w.in_ok-push.ensures.items
           ∙ ap (λ (rows : List CalendarEntry). c.loop-row.kept.items ++ rows)
           (sym (row_if-yes row before now m n (c.len-before.ensures ∙ c.loop-row.items.ok.0) (c.len.ensures
-              ∙ c.add_row.new.items.ok.0) more)))
+          ∙ c.add_row.new.items.ok.0) more)))
       | else-before-len w ↦
           let test = w.if-before-len.false in
           let no_more : n ≤ m = grind (arith, nat_tests) in

@@ -33,5 +33,5 @@ returns-clause-straightens c =
     c.in_ok-push_run.ensures
     ∙ (ap (λ run. c.args.straightened.now.items ++ map (sent p) (asks_between c.args.before (contents_of run) c.in_ok-after.after)) read
     ∙ ap (λ (end : ℕ). c.args.straightened.now.items
-        ++ map (sent p) (asks_between c.args.before (contents_of (rows_between (s.content.tables.row p) c.args.before end)) end))
+    ++ map (sent p) (asks_between c.args.before (contents_of (rows_between (s.content.tables.row p) c.args.before end)) end))
     (c.in_ok-after.ensures.value tt))
