@@ -1,13 +1,11 @@
 -- Printing one line after another.
-use Rattle.std.proofs.Common.{◌≡◌, ℕ, suc, ◌+◌, ◌-◌, ◌<◌, ◌==◌, ◌&&◌, ◌++◌, Bool, true, false, List, [], ◌∷◌}
-use Rattle.std.proofs.Common.{length, take, get_or, Ok, Option, Some, None, IfSome, option_map, option_and_then}
-use Rattle.std.proofs.Common.{cond, lt-ltb, refl, sym, ap, ap₂, subst, ◌∙◌, append_assoc, arith}
+use Rattle.std.proofs.Common.{◌≡◌, ℕ, ◌+◌, ◌<◌, ◌++◌, true, false, List, [], ◌∷◌}
+use Rattle.std.proofs.Common.{length, take, get_or, Ok, Option, Some}
+use Rattle.std.proofs.Common.{refl, sym, ap, ap₂, subst, ◌∙◌, append_assoc}
 use Rattle.std.proofs.lemmas.Grind.{flat_map-append}
 use Rattle.std.proofs.lemmas.List.{append-nil, take_more}
-use Rattle.std.proofs.lemmas.Option.{same_Some}
 use Rattle.std.specs.List.{flat_map}
-use Rattle.std.specs.Io.KnownBytes.{Appends, IsAtEnd, Keeps}
-use Rattle.std.specs.Io.BufRead.{DropsThrough, drop_through, strip_last, take_through}
+use Rattle.std.specs.Io.KnownBytes.{Appends, Keeps}
 use Rattle.building.specs.Building.{Building, contents_of}
 use Rattle.building.specs.BuildingFile.{building_of}
 use Rattle.deliveries.specs.declared.delivery.Delivery.{Delivery}
@@ -20,18 +18,13 @@ use Rattle.points.specs.Rights.{point_named}
 use Rattle.desk.specs.PointState.{state_of}
 use Rattle.delivery_lines.specs.declared.told.Told.{Told}
 use Rattle.delivery_lines.specs.declared.told.Told.TheVariants as of
-use Rattle.delivery_lines.specs.DeliveryLine.{told_of}
 use Rattle.desk_console.proofs.PrintedLemmas.{Appends-Appends, Appends-Keeps, Appends-nothing}
-use Rattle.desk_cli.specs.Replay.{Prints, Replays, answers_to, deliveries_in, is_empty_line, line_of_point}
-use Rattle.desk_cli.specs.Replay.{lines_of, point_lines, state_line, told_by, with_first}
+use Rattle.desk_cli.specs.ListLines.{TakesLine}
+use Rattle.desk_cli.specs.Replay.{Prints, Replays, answers_to, deliveries_in, line_of_point, lines_of, point_lines, state_line}
+use Rattle.desk_cli.proofs.LineLemmas.{deliveries_in-append, told_by-append}
 use Rattle.delivery_lines.specs.ReplyText.{refusal_line, reply_line}
 
--- ---- answers and lines, one part after another
-
-pub deliveries_in-append : (ts us : List Told) → deliveries_in (ts ++ us) ≡ deliveries_in ts ++ deliveries_in us
-deliveries_in-append [] us = refl
-deliveries_in-append (of.Delivery d ∷ ts) us = ap (λ ds. d ∷ ds) (deliveries_in-append ts us)
-deliveries_in-append (of.RefusedImport refused ∷ ts) us = deliveries_in-append ts us
+-- ---- answers, one part after another
 
 pub answers_to-append : (b : Building) (E : List Delivery) (ts us : List Told)
     → answers_to b E (ts ++ us) ≡ answers_to b E ts ++ answers_to b (E ++ deliveries_in ts) us
@@ -47,21 +40,6 @@ answers_to-append b E (of.RefusedImport refused ∷ ts) us =
     ap (λ text. one ++ text) (answers_to-append b E ts us)
     ∙ sym (append_assoc one (answers_to b E ts) (answers_to b (E ++ deliveries_in ts) us))
 
-pub told_by-append : (b : Building) (ls ms : List (List ℕ)) (ds es : List Told) → told_by b ls ≡ Some ds → told_by b ms ≡ Some es
-    → told_by b (ls ++ ms) ≡ Some (ds ++ es)
-told_by-append b [] ms ds es p q = q ∙ ap (λ (ts : List Told). Some (ts ++ es)) (same_Some _ _ p)
-told_by-append b (l ∷ ls) ms ds es p q =
-    step (is_empty_line l) (told_of b l) (told_by b ls) (told_by b (ls ++ ms)) p (λ ts e. told_by-append b ls ms ts es e q)
-  where
-    step : (empty : Bool) (one : Option Told) (rest all : Option (List Told))
-        → cond empty rest (option_and_then (λ d. option_map (λ ts. d ∷ ts) rest) one) ≡ Some ds
-        → ((ts : List Told) → rest ≡ Some ts → all ≡ Some (ts ++ es))
-        → cond empty all (option_and_then (λ d. option_map (λ ts. d ∷ ts) all) one) ≡ Some (ds ++ es)
-    step true one rest all e ih = ih ds e
-    step false None rest all e ih = cc
-    step false (Some d) None all e ih = cc
-    step false (Some d) (Some ts) all e ih = rw (ih ts refl) (ap (λ (xs : List Told). Some (xs ++ es)) (same_Some _ _ e))
-
 -- what was printed of some lines, and then of more
 pub Prints-Prints : (b : Building) (E : List Delivery) (ls ms : List (List ℕ)) (w x y : Option (List ℕ)) (t u : Content)
     → (first : Prints b E ls w x t) → Prints b (E ++ deliveries_in first.told) ms x y u → Prints b E (ls ++ ms) w y u
@@ -74,53 +52,6 @@ Prints-Prints b E ls ms w x y t u first more = record {
   holds = more.holds ∙ ap (λ list. sound (tables b list)) (append_assoc E (deliveries_in first.told) (deliveries_in more.told)
       ∙ ap (λ ds. E ++ ds) (sym (deliveries_in-append first.told more.told)));
 }
-
--- ---- the next line
-
-under_cons : (b : Bool) (x : ℕ) (xs ys : List ℕ) → cond b (x ∷ xs) (x ∷ ys) ≡ x ∷ cond b xs ys
-under_cons true x xs ys = refl
-under_cons false x xs ys = refl
-
-cut_cons : (x : ℕ) (ws : List ℕ) (k j : ℕ) → k ≡ suc j
-    → cond (get_or (x ∷ ws) k 0 == 10) (take k (x ∷ ws)) (x ∷ ws) ≡ x ∷ cond (get_or ws j 0 == 10) (take j ws) ws
-cut_cons x ws k j e =
-    let P : ℕ → Type 0 = λ n. cond (get_or (x ∷ ws) n 0 == 10) (take n (x ∷ ws)) (x ∷ ws) ≡ x ∷ cond (get_or ws j 0 == 10) (take j ws) ws in
-    subst P (sym e) (under_cons (get_or ws j 0 == 10) x (take j ws) ws)
-
-strip_last-some : (xs : List ℕ) → 0 < length xs → strip_last 10 xs ≡ cond (get_or xs (length xs - 1) 0 == 10) (take (length xs - 1) xs) xs
-strip_last-some xs h = ap (λ b. cond (b && (get_or xs (length xs - 1) 0 == 10)) (take (length xs - 1) xs) xs) (lt-ltb 0 (length xs) h)
-
-strip_last-cons : (x : ℕ) (ws : List ℕ) → 0 < length ws → strip_last 10 (x ∷ ws) ≡ x ∷ strip_last 10 ws
-strip_last-cons x [] h = absurd (omega arith)
-strip_last-cons x (w ∷ ws) h =
-    strip_last-some (x ∷ w ∷ ws) (omega arith) ∙ cut_cons x (w ∷ ws) (suc (suc (length ws)) - 1) (suc (length ws) - 1) (omega arith)
-    ∙ ap (λ l. x ∷ l) (sym (strip_last-some (w ∷ ws) (omega arith)))
-
-strip_last-one : (x : ℕ) (b : Bool) → (x == 10) ≡ b → strip_last 10 (x ∷ []) ≡ cond b [] (x ∷ [])
-strip_last-one x b e = ap (λ t. cond t [] (x ∷ [])) e
-
-some_taken : (y : ℕ) (ys : List ℕ) → 0 < length (take_through 10 (y ∷ ys))
-some_taken y ys =
-    elim (y == 10) as (λ b. 0 < length (cond b (y ∷ []) (y ∷ take_through 10 ys))) [ true ↦ omega arith | false ↦ omega arith ]
-
-next_line : (x : ℕ) (xs : List ℕ) → lines_of (x ∷ xs) ≡ strip_last 10 (take_through 10 (x ∷ xs)) ∷ lines_of (drop_through 10 (x ∷ xs))
-next_line x [] =
-    elim (x == 10) as (λ b. (x == 10) ≡ b
-    → lines_of (x ∷ []) ≡ strip_last 10 (take_through 10 (x ∷ [])) ∷ lines_of (drop_through 10 (x ∷ []))) [
-      | true ↦ λ e. rw e (ap (λ l. l ∷ []) (sym (strip_last-one x true e)))
-      | false ↦ λ e. rw e (ap (λ l. l ∷ []) (sym (strip_last-one x false e)))
-    ] refl
-next_line x (y ∷ ys) = elim (x == 10) as (λ b. (x == 10) ≡ b → lines_of (x ∷ y ∷ ys) ≡ strip_last 10 (take_through 10 (x ∷ y ∷ ys))
-    ∷ lines_of (drop_through 10 (x ∷ y ∷ ys))) [
-      | true ↦ λ e. rw e (ap (λ l. l ∷ lines_of (y ∷ ys)) (sym (strip_last-one x true e)))
-      | false ↦ λ e. rw e (ap (with_first x) (next_line y ys) ∙ ap (λ l. l ∷ lines_of (drop_through 10 (y ∷ ys)))
-          (sym (strip_last-cons x (take_through 10 (y ∷ ys)) (some_taken y ys))))
-    ] refl
-
-lines_of-next : (xs : List ℕ) → 0 < length (take_through 10 xs)
-    → lines_of xs ≡ strip_last 10 (take_through 10 xs) ∷ lines_of (drop_through 10 xs)
-lines_of-next [] h = absurd (omega arith)
-lines_of-next (x ∷ xs) h = next_line x xs
 
 -- ---- the way through a reader's bytes
 
@@ -148,38 +79,28 @@ Progress-start b E bytes left old now left_is holds = record {
       };
 }
 
-pub Progress-end : (b : Building) (E : List Delivery) (bytes : List ℕ) (left old new : Option (List ℕ)) (now : Content)
-    → Progress b E bytes left old new now → IsAtEnd left → Prints b E (lines_of bytes) old new now
-Progress-end b E bytes left old new now p end =
-    let at_end : p.rest ≡ [] = subst IsAtEnd p.left_is end in
-    subst (λ ls. Prints b E ls old new now) (sym (p.lines_are ∙ ap (λ r. p.passed ++ lines_of r) at_end ∙ append-nil p.passed)) p.prints
-
--- the next line that was read, and those after it
-pub lines_of-left : (b : Building) (E : List Delivery) (bytes line : List ℕ) (left old new : Option (List ℕ)) (now : Content)
-    → (p : Progress b E bytes left old new now)
-    → IfSome left (λ xs. line ≡ take_through 10 xs) → 0 < length line
-    → lines_of p.rest ≡ strip_last 10 line ∷ lines_of (drop_through 10 p.rest)
-lines_of-left b E bytes line left old new now p reads some =
-    let line_is : line ≡ take_through 10 p.rest = subst (λ o. IfSome o (λ xs. line ≡ take_through 10 xs)) p.left_is reads in
-    lines_of-next p.rest (subst (λ l. 0 < length l) line_is some)
-    ∙ ap (λ l. strip_last 10 l ∷ lines_of (drop_through 10 p.rest)) (sym line_is)
+pub Progress-end : (b : Building) (E : List Delivery) (bytes line : List ℕ) (left after old new : Option (List ℕ)) (now : Content)
+    → Progress b E bytes left old new now → ((rest : List ℕ) → left ≡ Some rest → TakesLine rest false line after)
+    → Prints b E (lines_of bytes) old new now
+Progress-end b E bytes line left after old new now p none =
+    subst (λ ls. Prints b E ls old new now)
+    (sym (p.lines_are ∙ ap (λ ls. p.passed ++ ls) (none p.rest p.left_is) ∙ append-nil p.passed)) p.prints
 
 -- one more line was read and printed
 pub Progress-line : (b : Building) (E : List Delivery) (bytes line : List ℕ) (left after old mid new : Option (List ℕ)) (now then : Content)
-    → Progress b E bytes left old mid now → IfSome left (λ xs. line ≡ take_through 10 xs) → DropsThrough left after 10 → 0 < length line
-    → ((F : List Delivery) → now ≡ sound (tables b F) → Prints b F (strip_last 10 line ∷ []) mid new then)
+    → Progress b E bytes left old mid now → ((rest : List ℕ) → left ≡ Some rest → TakesLine rest true line after)
+    → ((F : List Delivery) → now ≡ sound (tables b F) → Prints b F (line ∷ []) mid new then)
     → Progress b E bytes after old new then
-Progress-line b E bytes line left after old mid new now then p reads drops some prints =
-    let after_is : after ≡ Some (drop_through 10 p.rest) = subst (λ o. DropsThrough o after 10) p.left_is drops in
-    let next = lines_of-left b E bytes line left old mid now p reads some in
+Progress-line b E bytes line left after old mid new now then p takes prints =
+    let next = takes p.rest p.left_is in
     record {
-      passed = p.passed ++ strip_last 10 line ∷ [];
-      rest = drop_through 10 p.rest;
-      left_is = after_is;
+      passed = p.passed ++ line ∷ [];
+      rest = next.0;
+      left_is = next.1;
       lines_are =
-          p.lines_are ∙ ap (λ ls. p.passed ++ ls) next
-          ∙ sym (append_assoc p.passed (strip_last 10 line ∷ []) (lines_of (drop_through 10 p.rest)));
-      prints = Prints-Prints b E p.passed (strip_last 10 line ∷ []) old mid new now then p.prints
+          p.lines_are ∙ ap (λ ls. p.passed ++ ls) next.2
+          ∙ sym (append_assoc p.passed (line ∷ []) (lines_of next.0));
+      prints = Prints-Prints b E p.passed (line ∷ []) old mid new now then p.prints
           (prints (E ++ deliveries_in p.prints.told) p.prints.holds);
     }
 

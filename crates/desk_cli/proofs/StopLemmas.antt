@@ -1,9 +1,8 @@
 -- What a run has printed at most, wherever it stops.
-use Rattle.std.proofs.Common.{◌≡◌, ℕ, ◌<◌, ◌++◌, false, Ok, Vec, List, [], ◌∷◌, length, Option, None}
-use Rattle.std.proofs.Common.{Some, IfSome, refl, sym, ap, subst, ◌∙◌, inl, inr, ⊎_elim, append_assoc}
+use Rattle.std.proofs.Common.{◌≡◌, ℕ, ◌++◌, true, false, Ok, Vec, List, [], ◌∷◌, Option, None}
+use Rattle.std.proofs.Common.{Some, refl, sym, ap, subst, ◌∙◌, inl, inr, ⊎_elim, append_assoc}
 use Rattle.std.proofs.lemmas.List.{append-nil}
 use Rattle.std.specs.declared.alloc.Global.{Global}
-use Rattle.std.specs.Io.BufRead.{DropsThrough, drop_through, strip_last, take_through}
 use Rattle.std.specs.Io.KnownBytes.{Appends, Keeps}
 use Rattle.building.specs.Building.{Building, contents_of}
 use Rattle.building.specs.BuildingFile.{building_of}
@@ -12,6 +11,7 @@ use Rattle.deliveries.specs.Reply.{reply}
 use Rattle.deliveries.specs.Tables.{tables}
 use Rattle.store.specs.Standing.{Content, Standing, sound}
 use Rattle.desk_cli.specs.LineAnswer.{AnswersLine}
+use Rattle.desk_cli.specs.ListLines.{TakesLine}
 use Rattle.delivery_lines.specs.declared.told.Told.{Told}
 use Rattle.delivery_lines.specs.declared.told.Told.TheVariants as of
 use Rattle.delivery_lines.specs.DeliveryLine.{told_of}
@@ -19,7 +19,8 @@ use Rattle.desk_console.specs.Printed.{AppendsStart}
 use Rattle.desk_console.proofs.PrintedLemmas.{start-Keeps, start-after, start-longer, start-nothing, start-whole}
 use Rattle.desk_cli.specs.Replay.{Prints, PrintsNoMore, PrintsStart, deliveries_in, is_empty_line, lines_of, point_lines}
 use Rattle.delivery_lines.specs.ReplyText.{refusal_line, reply_line}
-use Rattle.desk_cli.proofs.ReplayLemmas.{Progress, answers_to-append, lines_of-left, told_by-append}
+use Rattle.desk_cli.proofs.LineLemmas.{told_by-append}
+use Rattle.desk_cli.proofs.ReplayLemmas.{Progress, answers_to-append}
 
 -- ---- the first lines
 
@@ -138,15 +139,15 @@ Progress-stops b E bytes left old new now p =
 
 -- at it
 pub Progress-stops-at : (b : Building) (E : List Delivery) (bytes line : List ℕ) (left after old mid new : Option (List ℕ)) (now : Content)
-    → Progress b E bytes left old mid now → IfSome left (λ xs. line ≡ take_through 10 xs) → DropsThrough left after 10 → 0 < length line
-    → ((F : List Delivery) → now ≡ sound (tables b F) → PrintsStart b F (strip_last 10 line ∷ []) mid new)
+    → Progress b E bytes left old mid now → ((rest : List ℕ) → left ≡ Some rest → TakesLine rest true line after)
+    → ((F : List Delivery) → now ≡ sound (tables b F) → PrintsStart b F (line ∷ []) mid new)
     → PrintsStart b E (lines_of bytes) old new
-Progress-stops-at b E bytes line left after old mid new now p reads drops some stops =
-    let next = lines_of-left b E bytes line left old mid now p reads some in
+Progress-stops-at b E bytes line left after old mid new now p takes stops =
+    let next = takes p.rest p.left_is in
     subst (λ ls. PrintsStart b E ls old new)
-    (sym (p.lines_are ∙ ap (λ ls. p.passed ++ ls) next))
-    (first-after b E p.passed (strip_last 10 line ∷ lines_of (drop_through 10 p.rest)) old mid new now p.prints
-    (first-of_more b (E ++ deliveries_in p.prints.told) (strip_last 10 line ∷ []) (lines_of (drop_through 10 p.rest)) mid new
+    (sym (p.lines_are ∙ ap (λ ls. p.passed ++ ls) next.2))
+    (first-after b E p.passed (line ∷ lines_of next.0) old mid new now p.prints
+    (first-of_more b (E ++ deliveries_in p.prints.told) (line ∷ []) (lines_of next.0) mid new
     (stops (E ++ deliveries_in p.prints.told) p.prints.holds)))
 
 -- ---- the whole run
@@ -183,7 +184,7 @@ no_more-points file list b b' b'' old mid new last now file_is same prints still
   }),
 )
 
-Keeps-Keeps : (a b c : Option (List ℕ)) → Keeps a b → Keeps b c → Keeps a c
+pub Keeps-Keeps : (a b c : Option (List ℕ)) → Keeps a b → Keeps b c → Keeps a c
 Keeps-Keeps None b c h k = tt
 Keeps-Keeps (Some xs) None c h k = absurd h
 Keeps-Keeps (Some xs) (Some ys) None h k = absurd k

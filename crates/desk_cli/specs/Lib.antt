@@ -1,3 +1,5 @@
 pub mod Replay
 pub mod Check
 pub mod LineAnswer
+pub mod ListLines
+pub mod Straighten

@@ -1,7 +1,6 @@
 //! The run of a list of deliveries over a building, in memory.
 
 ghost use Rattle.std.specs.Prelude.{◌≡◌, List, ℕ, [], ◌∷◌, IfOk, Ok, OnOk, Some, string_bytes};
-ghost use Rattle.std.specs.Io.BufRead.{strip_last};
 ghost use Rattle.std.specs.Io.Buffered.{reader_remaining};
 ghost use Rattle.std.specs.Io.KnownBytes.{Appends, Keeps};
 ghost use Rattle.points.specs.Rights.{point_named};
@@ -13,9 +12,10 @@ ghost use Rattle.deliveries.specs.declared.delivery.Delivery.{Delivery as a_deli
 ghost use Rattle.desk_console.specs.Input.{bytes_of};
 ghost use Rattle.desk_console.specs.Printed.{AppendsStart};
 ghost use Rattle.desk_cli.specs.Replay.{Opens, Prints, PrintsNoMore, PrintsStart, Replays};
-ghost use Rattle.desk_cli.specs.Replay.{is_empty_line, lines_of, point_lines, state_line};
+ghost use Rattle.desk_cli.specs.Replay.{lines_of, point_lines, state_line};
 
 use crate::line_answer::answer_line;
+use crate::list_lines::{is_empty, read_line};
 use delivery_lines::LineFault;
 use desk::Desk;
 use desk_console::{Input, Listed, RunFault, Status, flush, print_text, read_building};
@@ -24,7 +24,7 @@ use mem_store::MemStore;
 use point_lines::point_line;
 use points::Name;
 use std::alloc::Global;
-use std::io::{self, BufRead, BufReader, Read, Write};
+use std::io::{self, BufReader, Read, Write};
 use store::Store;
 
 /// Runs the deliveries of a list over the building of a file, in memory: prints each reply as a line,
@@ -143,16 +143,20 @@ fn print_replies<'a, S: Store + Drop, D: Read + Drop, W: Write>(
     let mut scratch = Scratch::new(alloc);
     let mut line = Vec::new(alloc);
     for number in 1..u64::MAX {
-        line.clear();
-        match reader.read_until(b'\n', &mut line) {
-            Ok(0) => return Ok(()),
-            Ok(_) => {
-                let waits = reader.buffer().is_empty();
-                let line = without_end(line.as_slice());
-                print_reply_and_flush(alloc, &mut scratch, desk, number, line, waits, out)?;
-            }
-            Err(error) => return Err(RunFault::of_read(&error, path)),
+        let is_line = read_line(path, &mut reader, &mut line)?;
+        if !is_line {
+            return Ok(());
         }
+        let waits = reader.buffer().is_empty();
+        print_reply_and_flush(
+            alloc,
+            &mut scratch,
+            desk,
+            number,
+            line.as_slice(),
+            waits,
+            out,
+        )?;
     }
     Err(RunFault::CannotRead { path })
 }
@@ -250,22 +254,4 @@ fn point_text<'a, S: Store + Drop>(
         Some(state) => Ok(point_line(alloc, name, state.present, state.priority)?),
         None => Ok(String::new(alloc)),
     }
-}
-
-/// The line without its LF.
-fn without_end(line: &[u8]) -> &[u8]
-    ensures { result.now ≡ strip_last 10 line.now }
-{
-    if !line.is_empty() && line[line.len() - 1] == b'\n' {
-        &line[..line.len() - 1]
-    } else {
-        line
-    }
-}
-
-/// Whether nothing stands in the line, or a CR alone.
-fn is_empty(line: &[u8]) -> bool
-    ensures { result ≡ is_empty_line line.now }
-{
-    matches!(line, b"" | b"\r")
 }

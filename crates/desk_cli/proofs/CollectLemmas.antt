@@ -1,0 +1,85 @@
+-- The deliveries of one line after another.
+use Rattle.std.proofs.Common.{◌≡◌, ℕ, ◌++◌, true, false, List, [], ◌∷◌, Option, Some, refl, sym, ap, subst, ◌∙◌, append_assoc}
+use Rattle.std.proofs.lemmas.List.{append-nil}
+use Rattle.building.specs.Building.{Building}
+use Rattle.deliveries.specs.declared.delivery.Delivery.{Delivery}
+use Rattle.delivery_lines.specs.declared.told.Told.TheVariants as of
+use Rattle.delivery_lines.specs.DeliveryLine.{told_of}
+use Rattle.holidays.specs.declared.import_fault.ImportFault.{ImportFault}
+use Rattle.desk_cli.specs.ListLines.{Collects, TakesLine}
+use Rattle.desk_cli.specs.Replay.{deliveries_in, is_empty_line, lines_of}
+use Rattle.desk_cli.proofs.LineLemmas.{deliveries_in-append, told_by-append}
+
+-- ---- one line
+
+pub collects_empty : (b : Building) (line : List ℕ) (ds : List Delivery) → is_empty_line line ≡ true → Collects b (line ∷ []) ds ds
+collects_empty b line ds empty = record { read = []; read_is = rw empty refl; added = sym (append-nil ds) }
+
+pub collects_delivery : (b : Building) (line : List ℕ) (old new : List Delivery) (d : Delivery) → is_empty_line line ≡ false
+    → told_of b line ≡ Some (of.Delivery d) → new ≡ old ++ d ∷ [] → Collects b (line ∷ []) old new
+collects_delivery b line old new d some one added = record {
+  read = of.Delivery d ∷ [];
+  read_is = rw (some, one) refl;
+  added = added;
+}
+
+pub collects_refused : (b : Building) (line : List ℕ) (ds : List Delivery) (refused : ImportFault) → is_empty_line line ≡ false
+    → told_of b line ≡ Some (of.RefusedImport refused) → Collects b (line ∷ []) ds ds
+collects_refused b line ds refused some one = record {
+  read = of.RefusedImport refused ∷ [];
+  read_is = rw (some, one) refl;
+  added = sym (append-nil ds);
+}
+
+-- ---- some lines, and then more
+
+pub Collects-Collects : (b : Building) (ls ms : List (List ℕ)) (x y z : List Delivery) → Collects b ls x y → Collects b ms y z
+    → Collects b (ls ++ ms) x z
+Collects-Collects b ls ms x y z first more = record {
+  read = first.read ++ more.read;
+  read_is = told_by-append b ls ms first.read more.read first.read_is more.read_is;
+  added =
+      more.added ∙ ap (λ ds. ds ++ deliveries_in more.read) first.added
+      ∙ append_assoc x (deliveries_in first.read) (deliveries_in more.read)
+      ∙ ap (λ ds. x ++ ds) (sym (deliveries_in-append first.read more.read));
+}
+
+-- of all the bytes, the deliveries of the lines before those that are left were collected
+pub record Collecting (b : Building) (bytes : List ℕ) (left : Option (List ℕ)) (deliveries : List Delivery) : Type 0 where
+  pub passed : List (List ℕ)
+  pub rest : List ℕ
+  pub left_is : left ≡ Some rest
+  pub lines_are : lines_of bytes ≡ passed ++ lines_of rest
+  pub collects : Collects b passed [] deliveries
+
+pub Collecting-start : (b : Building) (bytes : List ℕ) (left : Option (List ℕ)) (deliveries : List Delivery) → left ≡ Some bytes
+    → deliveries ≡ [] → Collecting b bytes left deliveries
+Collecting-start b bytes left deliveries left_is none = record {
+  passed = [];
+  rest = bytes;
+  left_is = left_is;
+  lines_are = refl;
+  collects = record { read = []; read_is = refl; added = none };
+}
+
+pub Collecting-line : (b : Building) (bytes line : List ℕ) (left after : Option (List ℕ)) (old new : List Delivery)
+    → Collecting b bytes left old → ((rest : List ℕ) → left ≡ Some rest → TakesLine rest true line after)
+    → Collects b (line ∷ []) old new → Collecting b bytes after new
+Collecting-line b bytes line left after old new p takes more =
+    let next = takes p.rest p.left_is in
+    record {
+      passed = p.passed ++ line ∷ [];
+      rest = next.0;
+      left_is = next.1;
+      lines_are =
+          p.lines_are ∙ ap (λ ls. p.passed ++ ls) next.2
+          ∙ sym (append_assoc p.passed (line ∷ []) (lines_of next.0));
+      collects = Collects-Collects b p.passed (line ∷ []) [] old new p.collects more;
+    }
+
+pub Collecting-end : (b : Building) (bytes line : List ℕ) (left after : Option (List ℕ)) (deliveries : List Delivery)
+    → Collecting b bytes left deliveries → ((rest : List ℕ) → left ≡ Some rest → TakesLine rest false line after)
+    → Collects b (lines_of bytes) [] deliveries
+Collecting-end b bytes line left after deliveries p none =
+    subst (λ ls. Collects b ls [] deliveries)
+    (sym (p.lines_are ∙ ap (λ ls. p.passed ++ ls) (none p.rest p.left_is) ∙ append-nil p.passed)) p.collects
