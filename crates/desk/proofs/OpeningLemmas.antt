@@ -173,5 +173,6 @@ Opens-unread b fault first second third before after =
     Opens-failed b fault first third (Reads-then (Some fault) first second third before after)
 
 -- over empty tables a desk begins with those of no deliveries
-pub Opens-empty : (b : Building) (old new : Standing) → Opens b None old new → new.is_honest → old.content ≡ sound no_tables → Holds b [] new
+pub Opens-empty : (b : Building) (old new : Standing) → Opens b None old new → new.is_honest → old.content ≡ sound no_tables
+    → Holds b [] new
 Opens-empty b old new opens honest empty = opens.kept honest (λ e. cc) ∙ (empty ∙ ap sound (tables-none b))

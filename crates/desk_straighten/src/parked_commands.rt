@@ -49,7 +49,8 @@ pub fn push_parked(
     requires some { HoldsSome building.now (standing_of store.old) }
     ensures same { OnOk result ((standing_of store.new).content ≡ (standing_of store.old).content) }
     ensures straightens { (earlier : List a_delivery) → Holds building.now earlier (standing_of store.old)
-        → OnOk result (straightened.new.items ≡ straightened.old.items ++ map (sent panel.now) (parked_asks (taken_by building.now panel.now earlier))) }
+        → OnOk result (straightened.new.items ≡ straightened.old.items
+        ++ map (sent panel.now) (parked_asks (taken_by building.now panel.now earlier))) }
 {
     let next = store.panel_next(panel)?;
     let run = store.commands_run(panel, next, next + WINDOW)?;
