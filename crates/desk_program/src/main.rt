@@ -3,7 +3,7 @@
 
 use crate::runs::Asked;
 use command_line::{ArgFault, Line};
-use desk_cli::{check, replay};
+use desk_cli::{check, replay, straighten};
 use desk_console::{Input, Listed, Status};
 use std::env;
 use std::fs::{self, File};
@@ -61,6 +61,20 @@ fn run_replay(rt: &HostRuntime, file: &str, deliveries: &str) -> io::Result<Stat
     Ok(replay(alloc, building, list, &mut out, &mut rt.stderr()))
 }
 
+fn run_straighten(rt: &HostRuntime, file: &str, deliveries: &str) -> io::Result<Status> {
+    let alloc = rt.alloc();
+    let mut out = BufWriter::new(alloc, io::writer(rt))?;
+    let building = Input {
+        path: file,
+        reader: fs::open(rt, file),
+    };
+    let list = Listed {
+        path: deliveries,
+        open: || open_list(rt, deliveries),
+    };
+    Ok(straighten(alloc, building, list, &mut out, &mut rt.stderr()))
+}
+
 /// The status of words that ask nothing, once their text is told.
 fn refuse(rt: &HostRuntime, fault: &ArgFault) -> Status {
     let _told = write!(rt.stderr(), "{fault}");
@@ -88,6 +102,7 @@ fn run(rt: &HostRuntime, words: &[String]) -> io::Result<Status> {
     match Line::of(rt.alloc(), words) {
         Ok(Line::Check { file }) => run_check(rt, file),
         Ok(Line::Replay { file, deliveries }) => run_replay(rt, file, deliveries),
+        Ok(Line::Straighten { file, deliveries }) => run_straighten(rt, file, deliveries),
         Ok(
             Line::Import {
                 file,
