@@ -15,6 +15,8 @@ BUILT = ROOT / "build" / "desk"
 # The sum of the sources that BUILT was made of stands beside it.
 SUM = ROOT / "build" / "desk.sources"
 PARTS = ("src", "specs", "proofs")
+# The prover walks a gigabyte or two of memory. Told so, its allocator asks for large pages, which saves a tenth of its time.
+ENVIRONMENT = {**os.environ, "MIMALLOC_ALLOW_LARGE_OS_PAGES": "1"}
 TOOLCHAIN = "rattle-kit-13f logic dac8208d650f15bf"
 LEAST_PYTHON = (3, 11)
 
