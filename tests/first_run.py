@@ -27,8 +27,13 @@ POINT LIGHT                                      0  0
 
 def make(target, folder, **environment):
     """Runs make in a folder."""
-    given = {**os.environ, **environment}
+    given = {**without_make(), **environment}
     return subprocess.run(["make", target], cwd=folder, env=given, capture_output=True, text=True, timeout=SECONDS)
+
+
+def without_make():
+    """The environment as it is without a make above, which would have this one tell its folders."""
+    return {name: value for name, value in os.environ.items() if name not in ("MAKELEVEL", "MAKEFLAGS", "MFLAGS")}
 
 
 def expect(found, wanted, what):
@@ -105,7 +110,8 @@ def small_repository(to):
 
 def an_interrupted_build_goes_on_where_it_was(program, room):
     small = small_repository(room / "small")
-    began = subprocess.Popen(["make", "desk"], cwd=small, stdout=subprocess.PIPE, stderr=subprocess.PIPE, text=True, start_new_session=True)
+    how = {"cwd": small, "env": without_make(), "stdout": subprocess.PIPE, "stderr": subprocess.PIPE, "start_new_session": True}
+    began = subprocess.Popen(["make", "desk"], **how, text=True)
     for line in began.stdout:
         if line.startswith("[1/2] lowest proved, "):
             break
