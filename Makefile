@@ -1,8 +1,8 @@
-# The desk: make run replays the example, make desk proves and builds the program, make test is the gate.
+# The desk: make run replays the example, make desk proves and builds the program, make test is the gate, make page shows the page.
 
 PREFIX ?= /usr/local
 
-.PHONY: run desk test wrong-bodies bench install clean python
+.PHONY: run desk test wrong-bodies bench page install clean python
 
 run: python
 	@python3 scripts/run_desk
@@ -22,8 +22,12 @@ bench: desk
 	@python3 scripts/bench_server.py
 	@python3 scripts/bench_schedules.py
 
+page: desk
+	@python3 scripts/show_page
+
 install: desk
 	install -D -m 755 build/desk $(DESTDIR)$(PREFIX)/bin/desk
+	install -D -m 644 -t $(DESTDIR)$(PREFIX)/share/desk/page deploy/page/*
 
 clean:
 	rm -rf build crates/*/out

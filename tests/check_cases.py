@@ -1,15 +1,17 @@
-"""Tries `desk check`, and `desk replay` and `desk straighten` of no delivery, on files that are made from the worked
-building, one change or two at a time.
+"""Tries `desk check` and `desk describe`, and `desk replay` and `desk straighten` of no delivery, on files that are made
+from the worked building, one change or two at a time.
 
 Usage: check_cases.py PROGRAM
 
 A case is a fault's line, or `ok`, and changes: each is a text that stands in the worked building and what
 takes its place. What is wanted follows from docs/OPERATING.md alone. The last line is `N passed, M failed`.
 """
+import json
 import pathlib
 import subprocess
 import sys
 import tempfile
+import tomllib
 
 from tables import WORKED
 
@@ -317,6 +319,35 @@ def run(program, words, folder):
     return subprocess.run([program, *words], cwd=folder, capture_output=True, timeout=60)
 
 
+def description(file):
+    """What a building that is not at fault is described as, by the library's own reading; nothing where it has no reading."""
+    try:
+        read = tomllib.loads(file.decode("utf-8-sig").replace("\r\n", "\n"))
+    except tomllib.TOMLDecodeError:
+        return None
+    described = {
+        "zone": read["zone"],
+        "points": read.get("point", []),
+        "panels": read.get("panel", []),
+        "calendars": [calendar["name"] for calendar in read.get("calendar", [])],
+        "schedules": [{"name": schedule["name"], "period": schedule.get("period", "*..*"), "priority": schedule["priority"],
+                       "targets": schedule["targets"], "on_leave": schedule.get("on_leave", "stay")} for schedule in read.get("schedule", [])],
+    }
+    return json.dumps(described, sort_keys=True, separators=(",", ":"), ensure_ascii=False).encode() + b"\n"
+
+
+def describing(program, wanted, file, folder):
+    """What `describe` of the file tells besides what is wanted, or nothing."""
+    ran = run(program, ["describe", "building.toml"], folder)
+    found = [ran.returncode, ran.stdout, ran.stderr]
+    if not wanted.startswith("ok"):
+        expected = [1, b"", f"desk: {wanted}\n".encode()]
+    else:
+        line = description(file)
+        expected = [0, ran.stdout if line is None else line, b""]
+    return "" if found == expected else f"described as {found}, wanted {expected}"
+
+
 def difference(program, wanted, file, folder):
     """What `check`, `replay` and `straighten` of the file tell besides what is wanted, or nothing."""
     (pathlib.Path(folder) / "building.toml").write_bytes(file)
@@ -332,7 +363,7 @@ def difference(program, wanted, file, folder):
         expected = [1, b"", line, 1, line, 1, b"", line]
     found = [checked.returncode, checked.stdout, checked.stderr, replayed.returncode, replayed.stderr]
     found += [straightened.returncode, straightened.stdout, straightened.stderr]
-    return "" if found == expected else f"{found}, wanted {expected}"
+    return describing(program, wanted, file, folder) if found == expected else f"{found}, wanted {expected}"
 
 
 def all_cases():

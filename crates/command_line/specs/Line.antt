@@ -39,6 +39,10 @@ database_app name last = with_rule (with_rule (file_app name) (needed_rule (code
 abbrev pub check_app : App
 check_app = file_app (codes "check")
 
+-- `describe FILE`
+abbrev pub describe_app : App
+describe_app = file_app (codes "describe")
+
 -- a subcommand that takes FILE and DELIVERIES
 abbrev pub deliveries_app : Text → App
 deliveries_app name = with_rule (file_app name) (needed_rule (codes "deliveries"))
@@ -79,8 +83,8 @@ serve_app = with_rule (with_rule
 abbrev pub desk_app : App
 desk_app =
     with_subcommand (with_subcommand (with_subcommand (with_subcommand (with_subcommand (with_subcommand (with_subcommand
-    (on_top (λ s. record s { subcommand_required = true }) (new_app (codes "desk"))) check_app.top)
-    replay_app.top) straighten_app.top) import_app.top) tick_app.top) report_app.top) serve_app.top
+    (with_subcommand (on_top (λ s. record s { subcommand_required = true }) (new_app (codes "desk"))) check_app.top)
+    describe_app.top) replay_app.top) straighten_app.top) import_app.top) tick_app.top) report_app.top) serve_app.top
 
 -- what is made, if memory is had, is the command `app`, with no argument for its subcommands too
 abbrev pub Makes : {E : Type 0} → App → Result Command E → Type 0
@@ -91,6 +95,7 @@ Makes app r = IfOk r (λ c. (app_of c ≡ app) × ((fields_of c).has_globals ≡
 -- what a line asks, with the texts that it names
 pub data Asked : Type 0 where
   Check : (file : Text) → Asked
+  Describe : (file : Text) → Asked
   Replay : (file : Text) → (deliveries : Text) → Asked
   Straighten : (file : Text) → (deliveries : Text) → Asked
   Import : (file : Text) → (database : Text) → (holidays : Text) → Asked
@@ -100,6 +105,7 @@ pub data Asked : Type 0 where
 
 abbrev pub asked_of : Line → Asked
 asked_of (line.Check file) = Check file.now
+asked_of (line.Describe file) = Describe file.now
 asked_of (line.Replay file deliveries) = Replay file.now deliveries.now
 asked_of (line.Straighten file deliveries) = Straighten file.now deliveries.now
 asked_of (line.Import file database holidays) = Import file.now database.now holidays.now
@@ -128,6 +134,9 @@ is_told None = false
 
 abbrev pub check_in : List Row → Option Asked
 check_in rows = option_map Check (first_of (codes "file") rows)
+
+abbrev pub describe_in : List Row → Option Asked
+describe_in rows = option_map Describe (first_of (codes "file") rows)
 
 abbrev pub replay_in : List Row → Option Asked
 replay_in rows = option_and_then (λ file. option_map (λ deliveries. Replay file deliveries)
@@ -163,12 +172,13 @@ serve_in rows = option_and_then (λ file. option_and_then (λ database. option_a
 abbrev pub asked_in : Text × List Row → Option Asked
 asked_in (name, rows) =
     if bytes_eq name (codes "check") then check_in rows
+    else (if bytes_eq name (codes "describe") then describe_in rows
     else (if bytes_eq name (codes "replay") then replay_in rows
     else (if bytes_eq name (codes "straighten") then straighten_in rows
     else (if bytes_eq name (codes "import") then import_in rows
     else (if bytes_eq name (codes "tick") then tick_in rows
     else (if bytes_eq name (codes "report") then report_in rows
-    else (if bytes_eq name (codes "serve") then serve_in rows else None))))))
+    else (if bytes_eq name (codes "serve") then serve_in rows else None)))))))
 
 -- what the words ask, the program's name first
 abbrev pub asked : List Text → Option Asked

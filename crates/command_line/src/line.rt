@@ -7,6 +7,7 @@ ghost use Rattle.clap.specs.Words.{rows_of, rule_of, subcommand_rows_of, with_ru
 ghost use Rattle.command_line.specs.ArgFault.{IsRefusedBy};
 ghost use Rattle.command_line.specs.Line.{Makes, asked, asked_in, asked_of, check_app, check_in};
 ghost use Rattle.command_line.specs.Line.{clock_rule, count_in, count_of, database_app, deliveries_app};
+ghost use Rattle.command_line.specs.Line.{describe_app, describe_in};
 ghost use Rattle.command_line.specs.Line.{desk_app, file_app, import_app, import_in, is_told, moment_in};
 ghost use Rattle.command_line.specs.Line.{needed_rule, replay_app, replay_in, report_app, report_in};
 ghost use Rattle.command_line.specs.Line.{requests_rule, serve_app, serve_in, straighten_app};
@@ -22,6 +23,11 @@ use std::alloc::{AllocError, Global};
 pub enum Line<'a> {
     /// `check FILE`: reads the building of the file, and tells what it has.
     Check {
+        /// The path of the building file.
+        file: &'a str,
+    },
+    /// `describe FILE`: prints the building of the file as one JSON object.
+    Describe {
         /// The path of the building file.
         file: &'a str,
     },
@@ -108,6 +114,7 @@ fn desk_command<'a>(alloc: Global) -> Result<Command<'a>, AllocError>
         .about("The operating desk of a building: BACnet schedules and command priorities")
         .subcommand_required(true);
     let desk = with_subcommand(Ok(desk), check_command(alloc));
+    let desk = with_subcommand(desk, describe_command(alloc));
     let desk = with_subcommand(desk, replay_command(alloc));
     let desk = with_subcommand(desk, straighten_command(alloc));
     let desk = with_subcommand(desk, import_command(alloc));
@@ -125,6 +132,13 @@ fn check_command<'a>(alloc: Global) -> Result<Command<'a>, AllocError>
         "check",
         "Reads a building, and tells what it has or its first fault",
     )
+}
+
+/// The subcommand `describe FILE`.
+fn describe_command<'a>(alloc: Global) -> Result<Command<'a>, AllocError>
+    ensures { Makes describe_app result }
+{
+    file_command(alloc, "describe", "Prints a building as one JSON object")
 }
 
 /// The subcommand `replay FILE DELIVERIES`.
@@ -301,6 +315,7 @@ fn line_in<'a>(matches: &ArgMatches<'a>) -> Option<Line<'a>>
     let (name, inner) = matches.subcommand()?;
     match name {
         "check" => check_line(inner),
+        "describe" => describe_line(inner),
         "replay" => replay_line(inner),
         "straighten" => straighten_line(inner),
         "import" => import_line(inner),
@@ -317,6 +332,14 @@ fn check_line<'a>(matches: &ArgMatches<'a>) -> Option<Line<'a>>
 {
     let file = text_at(matches, "file")?;
     Some(Line::Check { file })
+}
+
+/// What the arguments of `describe` ask.
+fn describe_line<'a>(matches: &ArgMatches<'a>) -> Option<Line<'a>>
+    ensures { option_map asked_of result ≡ describe_in (rows_of (found_of matches.now)) }
+{
+    let file = text_at(matches, "file")?;
+    Some(Line::Describe { file })
 }
 
 /// What the arguments of `replay` ask.

@@ -13,16 +13,20 @@ building_of-long : (xs : List ℕ) → nat_le (length xs) longest_file ≡ false
 unfolding building_of tree_of
 building_of-long xs e = rw e refl
 
-pub building_of-taken : (bytes : List ℕ) (c : Contents) → building_of (take 1_048_577 bytes) ≡ Ok c → building_of bytes ≡ Ok c
-building_of-taken bytes c e =
-    elim (nat_le (length bytes) 1_048_577) as (λ t. nat_le (length bytes) 1_048_577 ≡ t → building_of bytes ≡ Ok c) [
-      | true ↦ λ short. ap building_of (sym (take_all 1_048_577 bytes (leb-true (length bytes) 1_048_577 short))) ∙ e
+-- a building's file was read whole
+pub whole_taken : (bytes : List ℕ) (c : Contents) → building_of (take 1_048_577 bytes) ≡ Ok c → take 1_048_577 bytes ≡ bytes
+whole_taken bytes c e =
+    elim (nat_le (length bytes) 1_048_577) as (λ t. nat_le (length bytes) 1_048_577 ≡ t → take 1_048_577 bytes ≡ bytes) [
+      | true ↦ λ short. take_all 1_048_577 bytes (leb-true (length bytes) 1_048_577 short)
       | false ↦ λ long.
           let more : 1_048_577 < length bytes = leb-false (length bytes) 1_048_577 long in
           let full : length (take 1_048_577 bytes) ≡ 1_048_577 = length-take-le 1_048_577 bytes (omega arith) in
           let fault = building_of-long (take 1_048_577 bytes) (ap (λ n. nat_le n longest_file) full) in
           let bad : Err (fault_at top_location key.File BeyondLimit) ≡ Ok c = sym fault ∙ e in cc
     ] refl
+
+pub building_of-taken : (bytes : List ℕ) (c : Contents) → building_of (take 1_048_577 bytes) ≡ Ok c → building_of bytes ≡ Ok c
+building_of-taken bytes c e = ap building_of (sym (whole_taken bytes c e)) ∙ e
 
 -- the bytes that are read where a reader gives its first
 pub taken_bytes : {R : Type 0} (remaining : R → Option (List ℕ)) (limit : ℕ) (inner reader : R) (bytes start buf : List ℕ)

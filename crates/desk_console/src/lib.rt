@@ -6,7 +6,7 @@
 
 pub use input::{Input, Listed};
 pub use printing::{flush, print_text, print_whole};
-pub use reading::read_building;
+pub use reading::{read_building, read_start};
 pub use run_fault::RunFault;
 pub use status::Status;
 

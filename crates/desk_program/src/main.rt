@@ -3,7 +3,7 @@
 
 use crate::runs::Asked;
 use command_line::{ArgFault, Line};
-use desk_cli::{check, replay, straighten};
+use desk_cli::{check, describe, replay, straighten};
 use desk_console::{Input, Listed, Status};
 use std::env;
 use std::fs::{self, File};
@@ -45,6 +45,16 @@ fn run_check(rt: &HostRuntime, file: &str) -> io::Result<Status> {
         reader: fs::open(rt, file),
     };
     Ok(check(alloc, building, &mut out, &mut rt.stderr()))
+}
+
+fn run_describe(rt: &HostRuntime, file: &str) -> io::Result<Status> {
+    let alloc = rt.alloc();
+    let mut out = BufWriter::new(alloc, io::writer(rt))?;
+    let building = Input {
+        path: file,
+        reader: fs::open(rt, file),
+    };
+    Ok(describe(alloc, building, &mut out, &mut rt.stderr()))
 }
 
 fn run_replay(rt: &HostRuntime, file: &str, deliveries: &str) -> io::Result<Status> {
@@ -101,6 +111,7 @@ fn refuse_unread(rt: &HostRuntime, error: &io::Error) -> Status {
 fn run(rt: &HostRuntime, words: &[String]) -> io::Result<Status> {
     match Line::of(rt.alloc(), words) {
         Ok(Line::Check { file }) => run_check(rt, file),
+        Ok(Line::Describe { file }) => run_describe(rt, file),
         Ok(Line::Replay { file, deliveries }) => run_replay(rt, file, deliveries),
         Ok(Line::Straighten { file, deliveries }) => run_straighten(rt, file, deliveries),
         Ok(

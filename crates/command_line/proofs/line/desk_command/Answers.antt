@@ -7,11 +7,12 @@ pub returns : goal.returns
 returns c =
     let desk : App = on_top (λ s. record s { subcommand_required = true }) (new_app (codes "desk")) in
     c.with_subcommand.ensures _ _
+    (c.with_subcommand-desk-7.ensures _ _
     (c.with_subcommand-desk-6.ensures _ _
     (c.with_subcommand-desk-5.ensures _ _
     (c.with_subcommand-desk-4.ensures _ _
     (c.with_subcommand-desk-3.ensures _ _
     (c.with_subcommand-desk-2.ensures _ _
     (c.with_subcommand-desk.ensures desk _ (search rules) c.check_command.ensures)
-    c.replay_command.ensures) c.straighten_command.ensures) c.import_command.ensures) c.tick_command.ensures) c.report_command.ensures)
-    c.serve_command.ensures
+    c.describe_command.ensures) c.replay_command.ensures) c.straighten_command.ensures) c.import_command.ensures)
+    c.tick_command.ensures) c.report_command.ensures) c.serve_command.ensures
