@@ -10,12 +10,13 @@ import urllib.request
 
 import page_serving
 
-CHROMIUM, DRIVER = shutil.which("chromium"), shutil.which("chromedriver")
+CHROMIUM, DRIVER, OPENSSL = (shutil.which(name) for name in ("chromium", "chromedriver", "openssl"))
 OPTIONS = ("--headless=new", "--no-sandbox", "--disable-gpu", "--disable-dev-shm-usage", "--window-size=1100,900")
 ELEMENT = "element-6066-11e4-a52e-4f735466cecf"
 SECONDS = 60
 # How long a page may take to show what is wanted.
 PATIENCE = 20
+ATTEMPTS = 20
 
 
 class Browser:
@@ -62,8 +63,15 @@ class Browser:
         self.call("POST", "/actions", {"actions": [{"type": "key", "id": "keys", "actions": presses}]})
 
     def click(self, selector):
-        found = self.call("POST", "/element", {"using": "css selector", "value": selector})
-        self.call("POST", f"/element/{found[ELEMENT]}/click", {})
+        """Clicks an element, found anew where a look of the page has put another one in its place."""
+        for attempt in range(ATTEMPTS):
+            try:
+                found = self.call("POST", "/element", {"using": "css selector", "value": selector})
+                return self.call("POST", f"/element/{found[ELEMENT]}/click", {})
+            except urllib.error.HTTPError:
+                if attempt == ATTEMPTS - 1:
+                    raise
+                time.sleep(0.05)
 
     def picture(self):
         return base64.b64decode(self.call("GET", "/screenshot"))
@@ -87,5 +95,5 @@ class Browser:
 
 def what_is_missing():
     """The packages of Debian that a test of the page lacks here."""
-    needed = {"nginx-light": page_serving.NGINX, "chromium": CHROMIUM, "chromium-driver": DRIVER}
+    needed = {"nginx-light": page_serving.NGINX, "chromium": CHROMIUM, "chromium-driver": DRIVER, "openssl": OPENSSL}
     return [name for name, found in needed.items() if not found]

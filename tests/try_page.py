@@ -8,9 +8,12 @@ set, and it looks again each third of a second in place of each 30 seconds. With
 written there. Where nginx, Chromium or its driver is missing, nothing is tried, and a line tells what. The last line
 printed is `N passed, M failed`.
 """
+import contextlib
+import http.client
 import json
 import pathlib
 import shutil
+import ssl
 import subprocess
 import sys
 import tempfile
@@ -261,6 +264,42 @@ CLOCK = """return (async (rule, moments) => {
 })(...arguments)"""
 
 
+# ---- the proxy that knows who asks
+
+def certificate(folder, name):
+    """A certificate of its own for a name, with its key."""
+    words = [browser.OPENSSL, "req", "-x509", "-newkey", "rsa:2048", "-nodes", "-days", "2", "-subj", f"/CN={name}",
+             "-keyout", str(folder / f"{name}.key"), "-out", str(folder / f"{name}.pem")]
+    subprocess.run(words, check=True, capture_output=True, timeout=browser.SECONDS)
+    return (folder / f"{name}.pem").read_text()
+
+
+def status_for(folder, port, who, method, path, body=None):
+    """The status that who has this certificate gets, or who has none."""
+    context = ssl.create_default_context(cafile=folder / "server.pem")
+    context.check_hostname = False
+    if who:
+        context.load_cert_chain(folder / f"{who}.pem", folder / f"{who}.key")
+    connection = http.client.HTTPSConnection("127.0.0.1", port, context=context, timeout=browser.SECONDS)
+    with contextlib.closing(connection):
+        connection.request(method, path, body)
+        return connection.getresponse().status
+
+
+def the_proxy_serves_the_page_to_staff_alone(program, folder, shown):
+    (folder / "clients.pem").write_text(certificate(folder, "facility") + certificate(folder, "P1"))
+    certificate(folder, "server")
+    page_serving.describe(program, folder)
+    own, other = "/panels/P1/commands", "/panels/P2/commands"
+    asked = [(None, "GET", "/", None, 400), (None, "GET", "/points/LIGHT", None, 400), ("P1", "POST", own, COMMAND, 200),
+             ("P1", "POST", other, COMMAND, 403), ("facility", "POST", own, COMMAND, 403), ("facility", "POST", "/tick", TICK[1], 404)]
+    for path in ("/", "/index.html", "/desk.js", "/building_time.js", "/desk.css", "/description.json", "/points/LIGHT", "/reports/2025-06-02"):
+        asked += [("facility", "GET", path, None, 200), ("P1", "GET", path, None, 403)]
+    with serving(program, folder, CONNECTIONS) as desk, page_serving.deployed_page_of(desk, folder) as port:
+        for who, method, path, body, wanted in asked:
+            expect((who, path, status_for(folder, port, who, method, path, body)), (who, path, wanted))
+
+
 def choose(shown, field, value, event):
     shown.run("const [id, value, event] = arguments; const field = document.getElementById(id); field.value = value;"
               "field.dispatchEvent(new Event(event, { bubbles: true }))", field, value, event)
@@ -270,7 +309,7 @@ TESTS = [the_points_and_the_day_are_those_of_the_report, the_next_change_of_the_
          a_quiet_schedule_is_pale, a_change_by_a_panel_shows_at_the_next_look, points_are_filtered,
          the_places_of_a_point_are_told_with_who_may_write_them, it_works_by_keyboard, it_fits_a_phone_and_the_dark,
          odd_names_are_shown_as_text, a_hostile_description_is_shown_as_text, the_end_of_the_desk_is_told_and_the_values_stay,
-         a_page_without_a_proxy_tells_it, the_building_s_clock_is_that_of_its_rule]
+         a_page_without_a_proxy_tells_it, the_building_s_clock_is_that_of_its_rule, the_proxy_serves_the_page_to_staff_alone]
 
 
 def try_each(program, shown):
@@ -306,13 +345,16 @@ def main(program, picture=None):
     return 1 if failed else 0
 
 
+BY_THE_CARETAKER = ("/panels/P-CARE/commands", b'{"number":1,"point":"R102-SET","priority":8,"value":2250}')
+
+
 def take_picture(program, shown, to):
-    """Writes a picture of the page of the worked day, with one command by hand."""
+    """Writes a picture of the page of the example office, with one command by hand."""
     with tempfile.TemporaryDirectory(dir=IN_MEMORY) as room:
         folder = pathlib.Path(room)
         shutil.copy(pathlib.Path(__file__).resolve().parent.parent / "examples" / "office.toml", folder / "building.toml")
         with Opened(program, folder, shown) as page:
-            page.deliver(TICK)
+            page.deliver(TICK, BY_THE_CARETAKER)
             page.open()
             time.sleep(2)
             to.write_bytes(shown.picture())
