@@ -110,7 +110,7 @@ changes_each_stopped told count fault old mid new size before goes once follows 
 
     kept : new.is_honest → (Some fault ≡ Some Failed → ⊥) → (shut : Bool) → mid.is_shut ≡ shut → new.content ≡ mid.content
     kept honest going true shut = (goes.untouched honest shut).content
-    kept honest going false open = once.unchanged honest (goes.goes_on going ∙ open) fault refl
+    kept honest going false opened = once.unchanged honest (goes.goes_on going ∙ opened) fault refl
 
     either : new.is_honest → (content : Content) → (content ≡ mid.content) ⊎ ((change : Change) × Makes change mid.content content)
         → FollowsIn (length told) old.content content ⊎ FollowsIn (length told + 1) old.content content

@@ -1,4 +1,4 @@
-use Rattle.std.proofs.Common.{◌≡◌, ◌∙◌, ◌++◌, ◌∷◌, ◌+◌, [], None, take, refl, sym, ap, subst, arith, Ok, Err}
+use Rattle.std.proofs.Common.{◌≡◌, ◌∙◌, ◌++◌, ◌∷◌, ◌+◌, [], None, length, length-append, take, refl, sym, ap, subst, arith, Ok, Err}
 use Rattle.std.proofs.lemmas.List.{take_more}
 use Rattle.store.proofs.ReadLemmas.{stays_open}
 use Rattle.building.specs.Building.{Building}
@@ -43,6 +43,8 @@ loop-delivery-preserved g c =
     record {
       building = c.in-Ok.ensures.building ∙ so_far.building;
       count = omega (arith, c.push_reserved.ensures.len, so_far.count);
+      sized = ap length c.push_reserved.ensures.items ∙ length-append c.loop-delivery.replies.items (c.in-Ok.reply ∷ [])
+          ∙ ap (λ n. n + 1) so_far.sized;
       room = omega (arith, c.push_reserved.ensures.capacity, so_far.room);
       stands = Stands-after None first old new so_far.stands c.in-Ok.ensures.goes;
       opened = λ some. stays_open old new c.in-Ok.ensures.goes;
@@ -69,5 +71,5 @@ returns-in-Err-clause-changes_each g c =
     let so_far = c.loop-delivery.invariant in
     changes_each_stopped c.loop-delivery.replies.items c.loop-delivery.delivery-index c.in-Err.fault
     (g.S.Store.standing c.args.self.now.store) (g.S.Store.standing c.loop-delivery.self.store)
-    (g.S.Store.standing c.deliver.new.self.store) so_far.count so_far.stands c.in-Err.ensures.goes c.in-Err.ensures.changes_once
+    (g.S.Store.standing c.deliver.new.self.store) so_far.sized so_far.stands c.in-Err.ensures.goes c.in-Err.ensures.changes_once
     so_far.follows

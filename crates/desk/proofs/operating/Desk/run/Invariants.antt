@@ -12,6 +12,7 @@ invariant-loop-delivery g l =
     record {
       building : l.self.building ≡ l.fn.self.building;
       count : vec_len l.replies ≡ l.delivery-index;
+      sized : length l.replies.items ≡ l.delivery-index;
       room : length l.deliveries ≤ vec_capacity l.replies;
       stands : Stands None was now;
       opened : 0 < l.delivery-index → now.is_shut ≡ false;
