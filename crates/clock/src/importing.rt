@@ -7,7 +7,7 @@ ghost use Rattle.deliveries.specs.Delivered.{Delivers, Holds};
 ghost use Rattle.deliveries.specs.Machine.{added, added_by, added_to, local_of};
 ghost use Rattle.deliveries.specs.Reply.{refused_record};
 ghost use Rattle.settling.specs.Calendars.{Tells, with_items};
-ghost use Rattle.store.specs.Standing.{Goes, IsOpen, Reads};
+ghost use Rattle.store.specs.Standing.{ChangesOnce, Goes, IsOpen, Reads};
 ghost use Rattle.store.specs.Tables.{Text};
 
 use crate::changing::settled_change;
@@ -108,6 +108,7 @@ fn import<S: Store>(
 ) -> Result<Reply, StoreFault>
     requires open { IsOpen (S.standing store.old) }
     ensures goes { Goes (result_err result) (S.standing store.old) (S.standing store.new) }
+    ensures changes_once { ChangesOnce (result_err result) (S.standing store.old) (S.standing store.new) }
     ensures delivers { (earlier : List a_delivery) → refused_record building.now rows.now ≡ None
         → last ≡ (S.standing store.old).content.tables.last_tick
         → (S.standing store.new).is_honest → Holds building.now earlier (S.standing store.old)
@@ -138,6 +139,7 @@ pub fn deliver_import<S: Store>(
     rows: &[CalendarEntry],
 ) -> Result<Reply, StoreFault>
     ensures goes { Goes (result_err result) (S.standing store.old) (S.standing store.new) }
+    ensures changes_once { ChangesOnce (result_err result) (S.standing store.old) (S.standing store.new) }
     ensures delivers { (earlier : List a_delivery) → (S.standing store.new).is_honest → Holds building.now earlier (S.standing store.old)
         → Delivers building.now earlier (delivery_of.Import rows.now) result (S.standing store.new) }
 {

@@ -6,7 +6,7 @@ ghost use Rattle.deliveries.specs.declared.delivery.Delivery.TheVariants as deli
 ghost use Rattle.deliveries.specs.Delivered.{Delivers, Holds};
 ghost use Rattle.deliveries.specs.Events.{is_later, last_tick_of};
 ghost use Rattle.local_times.specs.LocalTimes.{local_at};
-ghost use Rattle.store.specs.Standing.{Goes, IsOpen};
+ghost use Rattle.store.specs.Standing.{ChangesOnce, Goes, IsOpen};
 
 use crate::changing::settled_change;
 use building::Building;
@@ -35,6 +35,7 @@ fn tick_at<S: Store>(
 ) -> Result<Reply, StoreFault>
     requires open { IsOpen (S.standing store.old) }
     ensures goes { Goes (result_err result) (S.standing store.old) (S.standing store.new) }
+    ensures changes_once { ChangesOnce (result_err result) (S.standing store.old) (S.standing store.new) }
     ensures delivers { (earlier : List a_delivery) → local_at building.now.zone moment ≡ Some local
         → is_later (last_tick_of building.now earlier) moment ≡ true
         → (S.standing store.new).is_honest → Holds building.now earlier (S.standing store.old)
@@ -60,6 +61,7 @@ pub fn deliver_tick<S: Store>(
     moment: i64,
 ) -> Result<Reply, StoreFault>
     ensures goes { Goes (result_err result) (S.standing store.old) (S.standing store.new) }
+    ensures changes_once { ChangesOnce (result_err result) (S.standing store.old) (S.standing store.new) }
     ensures delivers { (earlier : List a_delivery) → (S.standing store.new).is_honest → Holds building.now earlier (S.standing store.old)
         → Delivers building.now earlier (delivery_of.Tick moment) result (S.standing store.new) }
 {

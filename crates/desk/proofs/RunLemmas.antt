@@ -1,18 +1,20 @@
 -- Deliveries one after the other.
-use Rattle.std.proofs.Common.{◌≡◌, ◌⊎◌, ℕ, suc, zero, ◌+◌, ◌<◌, ◌++◌, false, List, [], ◌∷◌, Option, Some, None, Ok, Err, take, length}
+use Rattle.std.proofs.Common.{◌≡◌, ◌⊎◌, Bool, true, ℕ, suc, zero, ◌+◌, ◌<◌, ◌++◌, false, List, [], ◌∷◌, Option, Some, None, Ok, Err, take, length}
 use Rattle.std.proofs.Common.{refl, sym, ap, ◌∙◌, subst, arith, inl, inr, append_assoc}
 use Rattle.std.proofs.lemmas.Bool.{false≢true}
 use Rattle.std.proofs.lemmas.List.{append-nil}
 use Rattle.store.specs.declared.fault.StoreFault.{StoreFault}
 use Rattle.store.specs.declared.fault.StoreFault.TheVariants.{NoMemory, Failed, Shut, BadRow}
-use Rattle.store.specs.Standing.{Content, Goes, HasRisen, Standing, sound}
+use Rattle.store.specs.declared.change.Change.{Change}
+use Rattle.store.specs.Standing.{ChangesOnce, Content, Goes, HasRisen, IsSettled, Makes, Standing, sound}
+use Rattle.store.proofs.ReadLemmas.{was_open}
 use Rattle.building.specs.Building.{Building}
 use Rattle.deliveries.specs.declared.delivery.Delivery.{Delivery}
 use Rattle.deliveries.specs.declared.reply.Reply.{Reply}
 use Rattle.deliveries.specs.Reply.{reply, replies}
 use Rattle.deliveries.specs.Tables.{tables}
 use Rattle.deliveries.specs.Delivered.{Delivers, Holds}
-use Rattle.desk.specs.Headline.{Ends, Stands}
+use Rattle.desk.specs.Headline.{ChangesEach, Ends, FollowsIn, Stands}
 
 pub replies-push : (b : Building) (E ds : List Delivery) (d : Delivery)
     → replies b E (ds ++ d ∷ []) ≡ replies b E ds ++ reply b (E ++ ds) d ∷ []
@@ -72,3 +74,49 @@ ends-failed b E ds d count Shut old new within more opened goes delivered = elim
   | inr some ↦ absurd (false≢true (sym (opened some) ∙ goes.shut.0 refl))
 ]
 ends-failed b E ds d count BadRow old new within more opened goes delivered = delivered
+
+-- ---- whatever the store held
+
+-- one step more
+pub follows_more : (steps : ℕ) (old mid new : Content) → FollowsIn steps old mid
+    → (new ≡ mid) ⊎ ((change : Change) × Makes change mid new) → FollowsIn (steps + 1) old new
+follows_more steps old mid new before step =
+    let next : suc steps ≡ steps + 1 = omega arith in subst (λ n. FollowsIn n old new) next (mid, before, step)
+
+-- a run that stopped before its first delivery, or at its end
+pub changes_each_whole : (told : List Reply) (fault : Option StoreFault) (old new : Standing) → Stands fault old new
+    → (fault ≡ Some Failed → ⊥) → (new.is_honest → FollowsIn (length told) old.content new.content)
+    → ChangesEach told fault old new
+changes_each_whole told fault old new stands going follows = record {
+  held = λ honest other. follows honest;
+  left = λ honest settled was content left.
+      inl (subst (FollowsIn (length told) old.content)
+      (sym (stands.settled settled honest (stands.goes_on going ∙ was) content left)) (follows honest));
+}
+
+-- a run that stopped at a delivery
+pub changes_each_stopped : (told : List Reply) (count : ℕ) (fault : StoreFault) (old mid new : Standing) → length told ≡ count
+    → Stands None old mid → Goes (Some fault) mid new → ChangesOnce (Some fault) mid new
+    → (mid.is_honest → FollowsIn count old.content mid.content) → ChangesEach told (Some fault) old new
+changes_each_stopped told count fault old mid new size before goes once follows = record {
+  held = λ honest going. of_steps honest (kept honest going (mid.is_shut) refl);
+  left = λ honest settled was content left. either honest content (once.left honest (before.goes_on (λ e. cc) ∙ was) content left);
+}
+  where
+    of_steps : new.is_honest → new.content ≡ mid.content → FollowsIn (length told) old.content new.content
+    of_steps honest same =
+        subst (λ n. FollowsIn n old.content new.content) (sym size)
+        (subst (FollowsIn count old.content) (sym same) (follows (goes.honest honest)))
+
+    kept : new.is_honest → (Some fault ≡ Some Failed → ⊥) → (shut : Bool) → mid.is_shut ≡ shut → new.content ≡ mid.content
+    kept honest going true shut = (goes.untouched honest shut).content
+    kept honest going false opened = once.unchanged honest (goes.goes_on going ∙ opened) fault refl
+
+    either : new.is_honest → (content : Content) → (content ≡ mid.content) ⊎ ((change : Change) × Makes change mid.content content)
+        → FollowsIn (length told) old.content content ⊎ FollowsIn (length told + 1) old.content content
+    either honest content (inl same) =
+        inl (subst (λ n. FollowsIn n old.content content) (sym size)
+        (subst (FollowsIn count old.content) (sym same) (follows (goes.honest honest))))
+    either honest content (inr makes) =
+        inr (subst (λ n. FollowsIn (n + 1) old.content content) (sym size)
+        (follows_more count old.content mid.content content (follows (goes.honest honest)) (inr makes)))

@@ -1,8 +1,9 @@
-use Rattle.std.specs.Prelude.{◌≡◌, ℕ, ◌+◌, ◌<◌, ◌≤◌, List, ◌++◌, take, length, Option, Some, None}
+use Rattle.std.specs.Prelude.{◌≡◌, ◌⊎◌, ℕ, zero, suc, ◌+◌, ◌<◌, ◌≤◌, false, List, ◌++◌, take, length, Option, Some, None}
 use Rattle.store.specs.declared.fault.StoreFault.{StoreFault}
 use Rattle.store.specs.declared.fault.StoreFault.TheVariants.{NoMemory, Failed, Shut, BadRow}
 use Rattle.std.specs.Bool.{IsTrue}
-use Rattle.store.specs.Standing.{HasRisen, IsSettled, IsUntouched, Standing}
+use Rattle.store.specs.declared.change.Change.{Change}
+use Rattle.store.specs.Standing.{Content, HasRisen, IsSettled, IsUntouched, Makes, Standing}
 use Rattle.building.specs.Building.{Building}
 use Rattle.deliveries.specs.declared.delivery.Delivery.{Delivery}
 use Rattle.deliveries.specs.declared.reply.Reply.{Reply}
@@ -38,3 +39,15 @@ pub record Stands (fault : Option StoreFault) (old new : Standing) : Type 0 wher
   pub steady : (fault ≡ Some Failed → ⊥) → new.failures ≡ old.failures
   pub failed : fault ≡ Some Failed → IsTrue new.is_shut × HasRisen old.failures new.failures
   pub settled : IsSettled old → IsSettled new
+
+-- one content after another by so many steps, each a whole change or none
+abbrev pub FollowsIn : ℕ → Content → Content → Type 0
+FollowsIn zero old new = new ≡ old
+FollowsIn (suc steps) old new = (mid : Content) × FollowsIn steps old mid × ((new ≡ mid) ⊎ ((change : Change) × Makes change mid new))
+
+-- A run over whatever a store held: each delivery that was answered made one change or none, and that at which the run
+-- stopped made none, or after a failure a stop leaves what was held without its change or with it.
+pub record ChangesEach (told : List Reply) (fault : Option StoreFault) (old new : Standing) : Type 0 where
+  pub held : new.is_honest → (fault ≡ Some Failed → ⊥) → FollowsIn (length told) old.content new.content
+  pub left : new.is_honest → IsSettled old → old.is_shut ≡ false → (content : Content) → new.may_leave content
+      → FollowsIn (length told) old.content content ⊎ FollowsIn (length told + 1) old.content content

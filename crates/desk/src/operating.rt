@@ -6,11 +6,11 @@ ghost use Rattle.day_reports.specs.DayReport.{report_text};
 ghost use Rattle.points.specs.Rights.{point_named};
 ghost use Rattle.settling.specs.Calendars.{Tells};
 ghost use Rattle.store.specs.declared.fault.StoreFault.TheVariants.{BadRow, NoMemory, Shut};
-ghost use Rattle.store.specs.Standing.{Goes, Reads, sound};
+ghost use Rattle.store.specs.Standing.{ChangesOnce, Goes, Reads, sound};
 ghost use Rattle.store.specs.Tables.{Text, no_tables};
 ghost use Rattle.deliveries.specs.declared.delivery.Delivery.{Delivery as a_delivery};
 ghost use Rattle.deliveries.specs.Delivered.{Delivers, Holds};
-ghost use Rattle.desk.specs.Headline.{Runs, Stands};
+ghost use Rattle.desk.specs.Headline.{ChangesEach, Runs, Stands};
 ghost use Rattle.desk.specs.Opening.{Opens};
 ghost use Rattle.desk.specs.PointState.{state_of};
 
@@ -91,9 +91,11 @@ impl<S: Store + Drop> Desk<S> {
 
     /// Carries out one delivery and answers it: of whatever list the store holds the tables, it then holds those
     /// of the list with this delivery after it. A delivery begins with a read, so that a store that is shut
-    /// answers before all else; what it changes it changes in one commit, its last call of the store.
+    /// answers before all else; what it changes it changes in one commit, its last call of the store. Whatever the
+    /// store held, a delivery that is refused changes nothing.
     pub fn deliver(&mut self, delivery: &Delivery) -> Result<Reply, StoreFault>
         ensures goes { Goes (result_err result) (S.standing self.old.store) (S.standing self.new.store) }
+        ensures changes_once { ChangesOnce (result_err result) (S.standing self.old.store) (S.standing self.new.store) }
         ensures delivers { (earlier : List a_delivery) → (S.standing self.new.store).is_honest
             → Holds self.old.building earlier (S.standing self.old.store)
             → Delivers self.old.building earlier delivery.now result (S.standing self.new.store) }
@@ -138,6 +140,7 @@ impl<S: Store + Drop> Desk<S> {
             → Holds self.old.building earlier (S.standing self.old.store)
             → Runs self.old.building earlier deliveries.now result.0.items result.1 (S.standing self.new.store) }
         ensures stands { Stands result.1 (S.standing self.old.store) (S.standing self.new.store) }
+        ensures changes_each { ChangesEach result.0.items result.1 (S.standing self.old.store) (S.standing self.new.store) }
         ensures shut { IsTrue (S.standing self.old.store).is_shut → 0 < length deliveries.now
             → (result.1 ≡ Some Shut) ⊎ (result.1 ≡ Some NoMemory) }
         ensures building { self.new.building ≡ self.old.building }

@@ -1,7 +1,7 @@
 //! Answering a panel's command or skip.
 ghost use Rattle.std.specs.Prelude.{◌≡◌, ◌+◌, ◌≤◌, List, Some, IfSome};
 ghost use Rattle.std.specs.Result.{result_err};
-ghost use Rattle.store.specs.Standing.{Goes, IsOpen};
+ghost use Rattle.store.specs.Standing.{ChangesOnce, Goes, IsOpen};
 ghost use Rattle.window.specs.Taken.{Ask, front};
 ghost use Rattle.deliveries.specs.declared.delivery.Delivery.{Delivery as a_delivery};
 ghost use Rattle.deliveries.specs.declared.delivery.Delivery.TheVariants as delivery_of;
@@ -43,6 +43,7 @@ fn answer_plan<S: Store>(
     requires open { IsOpen (S.standing store.old) }
     requires known { panel_named building.now panel.now.name ≡ Some panel.now }
     ensures goes { Goes (result_err result) (S.standing store.old) (S.standing store.new) }
+    ensures changes_once { ChangesOnce (result_err result) (S.standing store.old) (S.standing store.new) }
     ensures delivers { (earlier : List a_delivery) (delivery : a_delivery) (ask : Ask)
         → IsPlanned building.now earlier delivery ask panel.now.name next number plan.now
         → (S.standing store.new).is_honest → Holds building.now earlier (S.standing store.old)
@@ -74,6 +75,7 @@ fn answer_known_command<S: Store>(
     requires open { IsOpen (S.standing store.old) }
     requires known { panel_named building.now panel.now.name ≡ Some panel.now }
     ensures goes { Goes (result_err result) (S.standing store.old) (S.standing store.new) }
+    ensures changes_once { ChangesOnce (result_err result) (S.standing store.old) (S.standing store.new) }
     ensures delivers { (earlier : List a_delivery) → next ≡ front (taken_by building.now panel.now.name earlier)
         → (S.standing store.new).is_honest → Holds building.now earlier (S.standing store.old)
         → Delivers building.now earlier (delivery_of.Command panel.now.name number content.now) result (S.standing store.new) }
@@ -98,6 +100,7 @@ fn answer_known_skip<S: Store>(
     requires open { IsOpen (S.standing store.old) }
     requires known { panel_named building.now panel.now.name ≡ Some panel.now }
     ensures goes { Goes (result_err result) (S.standing store.old) (S.standing store.new) }
+    ensures changes_once { ChangesOnce (result_err result) (S.standing store.old) (S.standing store.new) }
     ensures delivers { (earlier : List a_delivery) → next ≡ front (taken_by building.now panel.now.name earlier)
         → (S.standing store.new).is_honest → Holds building.now earlier (S.standing store.old)
         → Delivers building.now earlier (delivery_of.Skip panel.now.name upto) result (S.standing store.new) }
@@ -122,6 +125,7 @@ pub fn deliver_command<S: Store>(
     content: &Content,
 ) -> Result<Reply, StoreFault>
     ensures goes { Goes (result_err result) (S.standing store.old) (S.standing store.new) }
+    ensures changes_once { ChangesOnce (result_err result) (S.standing store.old) (S.standing store.new) }
     ensures delivers { (earlier : List a_delivery) → (S.standing store.new).is_honest → Holds building.now earlier (S.standing store.old)
         → Delivers building.now earlier (delivery_of.Command name.now number content.now) result (S.standing store.new) }
 {
@@ -141,6 +145,7 @@ pub fn deliver_skip<S: Store>(
     upto: i64,
 ) -> Result<Reply, StoreFault>
     ensures goes { Goes (result_err result) (S.standing store.old) (S.standing store.new) }
+    ensures changes_once { ChangesOnce (result_err result) (S.standing store.old) (S.standing store.new) }
     ensures delivers { (earlier : List a_delivery) → (S.standing store.new).is_honest → Holds building.now earlier (S.standing store.old)
         → Delivers building.now earlier (delivery_of.Skip name.now upto) result (S.standing store.new) }
 {

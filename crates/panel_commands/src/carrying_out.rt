@@ -7,7 +7,7 @@ ghost use Rattle.deliveries.specs.Accepted.{panel_named};
 ghost use Rattle.deliveries.specs.Moved.{parked_rows};
 ghost use Rattle.store.specs.Change.{CanStand, IsKeptRow, IsNumber, IsPlace};
 ghost use Rattle.window.specs.declared.numbered_content.NumberedContent.{NumberedContent as an_entry};
-ghost use Rattle.store.specs.Standing.{IsOpen};
+ghost use Rattle.store.specs.Standing.{ChangesOnce, IsOpen};
 ghost use Rattle.panel_commands.specs.Carried.{Carries, IsChangeOf, IsInRange, first_told, is_in_range, is_number};
 ghost use Rattle.window.specs.declared.TheConstants.{LAST_NUMBER};
 
@@ -127,7 +127,8 @@ pub fn carry_out<S: Store>(
     requires open { IsOpen (S.standing store.old) }
     requires known { panel_named building.now panel.now.name ≡ Some panel.now }
     requires ranges { IsInRange plan.now }
-    ensures { Carries building.now panel.now.name plan.now result (S.standing store.old) (S.standing store.new) }
+    ensures carries { Carries building.now panel.now.name plan.now result (S.standing store.old) (S.standing store.new) }
+    ensures changes_once { ChangesOnce (result_err result) (S.standing store.old) (S.standing store.new) }
 {
     let acted = act_on_each(alloc, store, building, panel, plan.apply.as_slice())?;
     let answer = first_answer(acted.rows.as_slice());

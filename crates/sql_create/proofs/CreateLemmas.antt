@@ -23,17 +23,18 @@ use Rattle.sqlite.specs.Does.{Tally, Does, lacks_sequence}
 use Rattle.sqlite.specs.Rows.{Written}
 use Rattle.sqlite.specs.Effect.{Database}
 use Rattle.sqlite.specs.Listing.{understood}
-use Rattle.sqlite.specs.State.{State, HasCleanDisk, IsRolledBack, KeepsCommit, Survives, Writes, Executes, ExecutesInside, mode_of}
+use Rattle.sqlite.specs.State.{State, HasCleanDisk, IsNotRun, IsRolledBack, IsUnchanged, KeepsCommit, Survives, Writes, Executes, ExecutesInside, mode_of}
 use Rattle.sqlite.specs.Steps.{FailsToCommit}
 use Rattle.sqlite.specs.Held.{Held, state}
 use Rattle.sqlite.proofs.Callers.{IsPlain, command_of, statement_of, runs_as, one_step}
-use Rattle.sqlite.proofs.InsideLemmas.{inside_keeps, keeps_then}
+use Rattle.sqlite.proofs.InsideLemmas.{inside_keeps, keeps_then, unchanged_keeps}
 use Rattle.sqlite.proofs.StateLemmas.{survives_then}
 use Rattle.sql_create.specs.Schema.{desk_table, panel_table, command_table, place_table, shown_table, imported_table, schema_0, schema_1, schema_2, schema_3, schema_4, schema_5, desk_schema}
 use Rattle.sql_create.specs.Texts.{create_desk, create_panel, create_command, create_place, create_shown, create_imported}
 use Rattle.sql_create.specs.Making.{MakesTable}
 use Rattle.sql_create.proofs.CreateTexts.{makes_desk, makes_panel, makes_command, makes_place, makes_shown, makes_imported}
-use Rattle.sql_create.specs.Creating.{IsInside, MakesTableIn, IsEmptyAs, IsFilled, IsAsBefore, first_desk_row}
+use Rattle.sql_create.specs.Creating.{AreFirst, IsInside, MakesTableIn, IsEmptyAs, IsFilled, IsAsBefore, first_desk_row}
+use Rattle.sqlite_value.specs.Order.{Row}
 
 -- a part that gave a value did not stop on the way
 went : {B E R : Type 0} {b : B} {Stops : E → Type 0} → ((stop : E) × Stops stop × (Ok b ≡ Err stop)) ⊎ R → R
@@ -288,3 +289,21 @@ module _ {S : Type 0} (g : Ghosts S) (old mid new : Held S) where
       → FailsToCommit (state g mid) (state g new) e → IsTrue (state g new).is_open → IsAsBefore (state g old) (state g new)
   not_committed e settled kept inside (inl failed) is_open = gone_back settled kept failed.3 is_open
   not_committed e settled kept inside (inr late) is_open = absurd (both_ways _ late.1 inside)
+
+-- ---- a text is asked and not run
+
+pub asked_keeps : (old new : State) → IsUnchanged old new → KeepsCommit old new
+asked_keeps old new same = unchanged_keeps old new (inl same)
+
+pub asked_fails : (sql : List ℕ) (old new : State) (e : Error) → ((params : Row) → IsNotRun old new sql params e) → KeepsCommit old new
+unfolding IsNotRun
+asked_fails sql old new e none = unchanged_keeps old new (elim (none []) [ inl refused ↦ inl refused.1 | inr failed ↦ inr failed.3 ])
+
+pub asked_stays : (old new : State) → IsUnchanged old new → IsTrue old.in_transaction → IsTrue new.in_transaction
+asked_stays old new same inside = same.0.mode ∙ inside
+
+pub asked_filled : (old new : State) → IsUnchanged old new → IsFilled old → IsFilled new
+asked_filled old new same filled = record {
+  inside = record { mode = same.0.mode ∙ filled.inside.mode; schema_is = ap (λ (d : Database). d.schema) same.0.now_is ∙ filled.inside.schema_is };
+  first = subst (λ (d : Database). AreFirst d.trees) (sym same.0.now_is) filled.first;
+}

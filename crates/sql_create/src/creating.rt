@@ -173,6 +173,23 @@ fn make_last_three<S: Alter>(tx: &mut Transaction<'_, S>) -> Result<(), Error>
     Ok(())
 }
 
+/// Asks the empty text, which is kept under the schema as it is from then on: so whether a connection still answers can be
+/// asked without memory.
+#[tactic(auto, using(crate::proofs::CreateLemmas::asked_keeps, crate::proofs::CreateLemmas::asked_stays, crate::proofs::CreateLemmas::asked_filled))]
+fn ask_nothing<S: Alter>(tx: &mut Transaction<'_, S>) -> Result<(), Error>
+    ensures same_reference { tx.new.conn.ghost_name ≡ tx.old.conn.ghost_name }
+    ensures ok { HasCleanDisk (state S.Store tx.new.conn.now) → IsFilled (state S.Store tx.old.conn.now)
+        → OnOk result (IsFilled (state S.Store tx.new.conn.now)) }
+    ensures inside { HasCleanDisk (state S.Store tx.new.conn.now) → IsTrue (state S.Store tx.old.conn.now).in_transaction
+        → OnOk result (IsTrue (state S.Store tx.new.conn.now).in_transaction) }
+    ensures kept { HasCleanDisk (state S.Store tx.new.conn.now)
+        → KeepsCommit (state S.Store tx.old.conn.now) (state S.Store tx.new.conn.now) }
+    ensures survives { Survives (state S.Store tx.old.conn.now) (state S.Store tx.new.conn.now) (λ _. ⊥) }
+{
+    tx.prepare("")?;
+    Ok(())
+}
+
 /// Makes the six tables, and writes the row of `desk`.
 #[tactic(auto, using(crate::proofs::CreateLemmas::survives_on, crate::proofs::CreateLemmas::keeps_on, crate::proofs::CreateLemmas::clean_before))]
 fn fill<S: Alter>(tx: &mut Transaction<'_, S>) -> Result<(), Error>
@@ -188,7 +205,7 @@ fn fill<S: Alter>(tx: &mut Transaction<'_, S>) -> Result<(), Error>
     make_first_three(tx)?;
     make_last_three(tx)?;
     first_row(tx)?;
-    Ok(())
+    ask_nothing(tx)
 }
 
 /// Makes the six tables in one transaction.

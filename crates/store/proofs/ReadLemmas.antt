@@ -1,10 +1,10 @@
 -- Reads one after the other, and a commit behind them.
-use Rattle.std.proofs.Common.{◌≡◌, ◌⊎◌, Bool, true, false, Option, Some, None, refl, sym, ap, ◌∙◌, subst}
+use Rattle.std.proofs.Common.{◌≡◌, ◌⊎◌, inl, inr, Bool, true, false, Option, Some, None, refl, sym, ap, ◌∙◌, subst}
 use Rattle.std.specs.Bool.{IsTrue}
 use Rattle.store.specs.declared.change.Change.{Change}
 use Rattle.store.specs.declared.fault.StoreFault.{StoreFault}
 use Rattle.store.specs.declared.fault.StoreFault.TheVariants.{NoMemory, Failed, Shut, BadRow}
-use Rattle.store.specs.Standing.{Standing, Content, Goes, Reads, Commits, Makes, HasRisen, IsOpen}
+use Rattle.store.specs.Standing.{ChangesOnce, Commits, Content, Goes, HasRisen, IsOpen, Makes, Reads, Standing}
 
 not_shut : None ≡ Some Shut → ⊥
 not_shut e = cc
@@ -127,3 +127,51 @@ Reads-told fault first second before is = record {
 
     memory_not_bad : Some NoMemory ≡ Some BadRow → ⊥
     memory_not_bad e = cc
+
+-- ---- a call that makes one change or none
+
+still_open : (shut : Bool) → shut ≡ false → shut ≡ true → ⊥
+still_open shut going failed = is_not (sym going ∙ failed)
+
+-- a read makes none, whatever it tells
+pub changes_once_read : (fault : Option StoreFault) (old new : Standing) → Reads fault old new → ChangesOnce fault old new
+changes_once_read fault old new reads = record {
+  made = λ honest none. inl (reads.kept honest (λ failed. not_failed (sym none ∙ failed)));
+  unchanged = λ honest going told is. reads.kept honest (λ failed. still_open new.is_shut going (reads.goes.failed failed).0);
+  left = λ honest was content left. inl (reads.left honest was content left);
+}
+
+-- reads were answered, and nothing else was asked, whatever is told then
+pub changes_once_told : (fault : Option StoreFault) (old new : Standing) → Reads None old new → ChangesOnce fault old new
+changes_once_told fault old new reads = record {
+  made = λ honest none. inl (reads.kept honest not_failed);
+  unchanged = λ honest going told is. reads.kept honest not_failed;
+  left = λ honest was content left. inl (reads.left honest was content left);
+}
+
+-- a commit behind reads makes its change or none
+pub changes_once_commit : (change : Change) (fault : Option StoreFault) (first second third : Standing) → Reads None first second
+    → Commits change fault second third → ChangesOnce fault first third
+changes_once_commit change fault first second third reads commits =
+    let whole = Commits-then change fault first second third reads commits in
+    record {
+      made = λ honest none. inr (change, whole.made honest none);
+      unchanged = whole.unchanged;
+      left = λ honest was content left. elim (whole.left honest was content left) [
+        | inl same ↦ inl same
+        | inr makes ↦ inr (change, makes)
+      ];
+    }
+
+-- the same behind a read
+pub changes_once_then : (fault : Option StoreFault) (first second third : Standing) → Reads None first second
+    → (third.is_honest → second.is_honest) → ChangesOnce fault second third → ChangesOnce fault first third
+changes_once_then fault first second third reads was_honest after =
+    let kept : third.is_honest → second.content ≡ first.content = λ honest. reads.kept (was_honest honest) not_failed in
+    record {
+      made = λ honest none. subst (λ old. (third.content ≡ old) ⊎ ((change : Change) × Makes change old third.content)) (kept honest)
+          (after.made honest none);
+      unchanged = λ honest going told is. after.unchanged honest going told is ∙ kept honest;
+      left = λ honest was content left. subst (λ old. (content ≡ old) ⊎ ((change : Change) × Makes change old content)) (kept honest)
+          (after.left honest (stays_open first second reads.goes) content left);
+    }

@@ -78,3 +78,11 @@ pub record Commits (change : Change) (fault : Option StoreFault) (old new : Stan
   pub left : new.is_honest → old.is_shut ≡ false → (content : Content) → new.may_leave content
       → (content ≡ old.content) ⊎ Makes change old.content content
   pub never_bad : fault ≡ Some BadRow → ⊥
+
+-- A call that makes one change or none, whatever the store held before. Where it is refused and the store is not shut,
+-- nothing has changed; after any exit a stop leaves what was held, or that with one change made whole.
+pub record ChangesOnce (fault : Option StoreFault) (old new : Standing) : Type 0 where
+  pub made : new.is_honest → fault ≡ None → (new.content ≡ old.content) ⊎ ((change : Change) × Makes change old.content new.content)
+  pub unchanged : new.is_honest → new.is_shut ≡ false → (told : StoreFault) → fault ≡ Some told → new.content ≡ old.content
+  pub left : new.is_honest → old.is_shut ≡ false → (content : Content) → new.may_leave content
+      → (content ≡ old.content) ⊎ ((change : Change) × Makes change old.content content)

@@ -4,6 +4,7 @@ use Rattle.deliveries.specs.declared.reply.Reply.TheVariants.{ImportRefused}
 use Rattle.deliveries.proofs.ClockLemmas.{reply-refused, tables-refused}
 use Rattle.deliveries.proofs.DeliveredLemmas.{Delivers-read_only}
 use Rattle.clock.proofs.ClockedLemmas.{not_all-known}
+use Rattle.store.proofs.ReadLemmas.{changes_once_then}
 use Rattle.clock.proofs.importing.deliver_import.Goals as goal
 
 pub returns-in-Some-clause-delivers : goal.returns-in-Some-clause-delivers
@@ -16,3 +17,7 @@ returns-in-Some-clause-delivers g c = λ earlier honest held.
     Delivers-read_only b earlier (Import rows) (ImportRefused c.in-Some.record) first second c.in_ok-last.ensures.reads honest held
     (sym (reply-refused b earlier rows c.in-Some.record refused))
     (tables-refused b earlier rows (not_all-known b rows c.in-Some.record refused))
+
+pub returns-in-None-clause-changes_once : goal.returns-in-None-clause-changes_once
+returns-in-None-clause-changes_once g c =
+    changes_once_then _ _ _ _ c.in_ok-last.ensures.reads c.import.ensures.goes.honest c.import.ensures.changes_once

@@ -7,7 +7,7 @@ use Rattle.deliveries.specs.Machine.{local_of}
 use Rattle.deliveries.proofs.DeliveredLemmas.{Delivers-made, Delivers-not_made}
 use Rattle.settling.specs.Calendars.{Tells, with_items}
 use Rattle.store.specs.Standing.{Content}
-use Rattle.store.proofs.ReadLemmas.{Reads-then, kept-read}
+use Rattle.store.proofs.ReadLemmas.{Reads-then, changes_once_commit, kept-read}
 use Rattle.clock.proofs.ClockedLemmas.{Settled-over, Tells-held, imported-reply, imported-tables, last_of-held}
 use Rattle.clock.proofs.importing.import.Goals as goal
 
@@ -69,3 +69,13 @@ returns-clause-delivers g c = λ earlier none last_is honest held.
     change) kept raw) in
     Delivers-not_made b earlier (Import rows) change first second third reads honest held
     (imported-tables b earlier first held rows none items items_are change settles) c.in-Err.fault commits
+
+pub returns-in-Ok-clause-changes_once : goal.returns-in-Ok-clause-changes_once
+returns-in-Ok-clause-changes_once g c =
+    changes_once_commit c.in_ok-change.change _ _ _ _
+    (Reads-then None _ _ _ c.in_ok-items.ensures.reads c.in_ok-change.ensures.reads) c.in-Ok.ensures.commits
+
+pub returns-clause-changes_once : goal.returns-clause-changes_once
+returns-clause-changes_once g c =
+    changes_once_commit c.in_ok-change.change _ _ _ _
+    (Reads-then None _ _ _ c.in_ok-items.ensures.reads c.in_ok-change.ensures.reads) c.in-Err.ensures.commits

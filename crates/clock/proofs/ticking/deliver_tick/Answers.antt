@@ -6,7 +6,7 @@ use Rattle.deliveries.specs.Events.{is_later, is_moment, last_tick_of}
 use Rattle.deliveries.proofs.ClockLemmas.{reply-bad_moment, reply-old, tables-bad_moment, tables-old}
 use Rattle.deliveries.proofs.DeliveredLemmas.{Delivers-read_only}
 use Rattle.local_times.specs.LocalTimes.{local_at}
-use Rattle.store.proofs.ReadLemmas.{kept-read}
+use Rattle.store.proofs.ReadLemmas.{changes_once_then, kept-read}
 use Rattle.clock.proofs.ClockedLemmas.{last-held}
 use Rattle.clock.proofs.ticking.deliver_tick.Goals as goal
 
@@ -57,3 +57,7 @@ returns-clause-delivers g c = λ earlier honest held.
     (c.tick_at.ensures.delivers earlier (subst (λ z. local_at b.zone z ≡ Some c.in-Some.local) (sym whole) is_at)
     (subst (λ z. is_later (last_tick_of b earlier) z ≡ true) (sym whole) later) honest
     (kept-read first second c.in_ok-last.ensures.reads before ∙ held))
+
+pub returns-clause-changes_once : goal.returns-clause-changes_once
+returns-clause-changes_once g c =
+    changes_once_then _ _ _ _ c.in_ok-last.ensures.reads c.tick_at.ensures.goes.honest c.tick_at.ensures.changes_once

@@ -5,6 +5,7 @@ use Rattle.deliveries.specs.Clocked.{Settles}
 use Rattle.deliveries.proofs.DeliveredLemmas.{Delivers-made, Delivers-not_made}
 use Rattle.settling.specs.Calendars.{with_items}
 use Rattle.clock.proofs.ClockedLemmas.{Settled-over, ticked-reply, ticked-tables}
+use Rattle.store.proofs.ReadLemmas.{changes_once_commit}
 use Rattle.clock.proofs.ticking.tick_at.Goals as goal
 
 pub returns-in-Ok-clause-delivers : goal.returns-in-Ok-clause-delivers
@@ -46,3 +47,11 @@ returns-clause-delivers g c = λ earlier is_at later honest held.
     c.new-nothing.ensures.items (c.in_ok-change.ensures.settles (commits.goes.honest honest) imported tells)) in
     Delivers-not_made b earlier (Tick moment) change first second third c.in_ok-change.ensures.reads honest held
     (ticked-tables b earlier first held moment local change is_at later settles) c.in-Err.fault commits
+
+pub returns-in-Ok-clause-changes_once : goal.returns-in-Ok-clause-changes_once
+returns-in-Ok-clause-changes_once g c =
+    changes_once_commit c.in_ok-change.change _ _ _ _ c.in_ok-change.ensures.reads c.in-Ok.ensures.commits
+
+pub returns-clause-changes_once : goal.returns-clause-changes_once
+returns-clause-changes_once g c =
+    changes_once_commit c.in_ok-change.change _ _ _ _ c.in_ok-change.ensures.reads c.in-Err.ensures.commits

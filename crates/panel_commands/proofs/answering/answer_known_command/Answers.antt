@@ -7,6 +7,7 @@ use Rattle.window.specs.declared.TheConstants.{LAST_NUMBER}
 use Rattle.window.specs.Taken as asks
 use Rattle.panel_commands.specs.Planned.{IsPlanned}
 use Rattle.panel_commands.proofs.PlannedLemmas.{planned-command}
+use Rattle.store.proofs.ReadLemmas.{changes_once_then}
 use Rattle.panel_commands.proofs.answering.answer_known_command.Goals as goal
 
 pub returns-in_default-clause-delivers : goal.returns-in_default-clause-delivers
@@ -36,3 +37,7 @@ returns-clause-delivers g c = λ earlier next_is honest held.
     (subst (λ z. IsPlanned b earlier (Command panel.name c.args.number content) (asks.Command c.in-Some.natural content) panel.name
     c.args.next z c.in_ok-plan.plan) (sym whole) planned) honest
     (c.in_ok-view.ensures.reads.kept before (λ e. cc) ∙ held)
+
+pub returns-clause-changes_once : goal.returns-clause-changes_once
+returns-clause-changes_once g c =
+    changes_once_then _ _ _ _ c.in_ok-view.ensures.reads c.answer_plan.ensures.goes.honest c.answer_plan.ensures.changes_once

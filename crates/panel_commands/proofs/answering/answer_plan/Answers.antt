@@ -38,7 +38,7 @@ returns-in-Ok-clause-delivers g c = λ earlier delivery ask planned honest held.
     let whole : to_z w64 (of_z w64 c.args.number) ≡ c.args.number = search rules in
     let delivered =
     Delivers-carried b earlier delivery ask c.args.panel.now c.args.next c.args.number c.args.plan.now c.requires.known planned
-    c.in-Ok.answer old now c.in-Ok.ensures honest held in (
+    c.in-Ok.answer old now c.in-Ok.ensures.carries honest held in (
       c.reply_on-in-Ok.ensures ∙ ap (λ z. reply_on c.args.plan.now.verdict c.args.next c.args.plan.now.next z c.in-Ok.answer) whole
           ∙ delivered.0,
       delivered.1,
@@ -50,4 +50,4 @@ returns-in-Err-clause-delivers g c = λ earlier delivery ask planned honest held
     let old = g.S.Store.standing c.args.store.now in
     let now = g.S.Store.standing c.carry_out.new.store in
     Delivers-failed b earlier delivery ask c.args.panel.now c.args.next c.args.number c.args.plan.now c.requires.known planned
-    c.in-Err.fault old now c.requires.open c.in-Err.ensures honest held
+    c.in-Err.fault old now c.requires.open c.in-Err.ensures.carries honest held

@@ -6,6 +6,7 @@ use Rattle.deliveries.proofs.DeliveredLemmas.{Delivers-read_only}
 use Rattle.deliveries.proofs.StepLemmas.{reply-unknown, tables-unknown}
 use Rattle.panel_commands.proofs.CommandLemmas.{name_of-named, named-again}
 use Rattle.panel_commands.proofs.PlannedLemmas.{next-held}
+use Rattle.store.proofs.ReadLemmas.{changes_once_then}
 use Rattle.panel_commands.proofs.answering.deliver_skip.Goals as goal
 
 pub answer_known_skip-requires-clause-known : goal.answer_known_skip-requires-clause-known
@@ -34,3 +35,7 @@ returns-in-None-clause-delivers g c = λ earlier honest held.
     let unknown : panel_named b c.args.name.now ≡ None = sym c.find_panel.ensures ∙ ap option_copied c.in-None.is in
     Delivers-read_only b earlier d _ old new c.in_ok-next.ensures.reads honest held (sym (reply-unknown b earlier d tt unknown))
     (tables-unknown b earlier d tt unknown)
+
+pub returns-in-Some-clause-changes_once : goal.returns-in-Some-clause-changes_once
+returns-in-Some-clause-changes_once g c =
+    changes_once_then _ _ _ _ c.in_ok-next.ensures.reads c.answer_known_skip.ensures.goes.honest c.answer_known_skip.ensures.changes_once

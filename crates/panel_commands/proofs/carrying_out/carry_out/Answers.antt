@@ -1,11 +1,12 @@
 use Rattle.std.proofs.Common.{◌∙◌, ap}
 use Rattle.deliveries.specs.Moved.{answered_rows, places_after_each}
 use Rattle.panel_commands.specs.Carried.{first_told}
+use Rattle.store.proofs.ReadLemmas.{changes_once_commit}
 use Rattle.panel_commands.proofs.CarryLemmas.{Carries-committed, change-moved, first_told-answered}
 use Rattle.panel_commands.proofs.carrying_out.carry_out.Goals as goal
 
-pub returns : goal.returns
-returns g c =
+pub returns-clause-carries : goal.returns-clause-carries
+returns-clause-carries g c =
     let b = c.args.building.now in
     let p = c.args.panel.now.name in
     let plan = c.args.plan.now in
@@ -21,8 +22,8 @@ returns g c =
     (acted.rows before ∙ ap (λ entries. answered_rows b first.content.tables.places p entries) c.as_slice.ensures)
     (acted.places before ∙ ap (λ entries. places_after_each b first.content.tables.places p entries) c.as_slice.ensures))
 
-pub returns-in-Ok : goal.returns-in-Ok
-returns-in-Ok g c =
+pub returns-in-Ok-clause-carries : goal.returns-in-Ok-clause-carries
+returns-in-Ok-clause-carries g c =
     let b = c.args.building.now in
     let p = c.args.panel.now.name in
     let plan = c.args.plan.now in
@@ -43,3 +44,13 @@ returns-in-Ok g c =
     change-moved b p plan c.in_ok-acted.acted c.in_ok-change.change first.content.tables c.in_ok-change.ensures.change
     (acted.rows before ∙ ap (λ entries. answered_rows b first.content.tables.places p entries) c.as_slice.ensures)
     (acted.places before ∙ ap (λ entries. places_after_each b first.content.tables.places p entries) c.as_slice.ensures))
+
+pub returns-clause-changes_once : goal.returns-clause-changes_once
+returns-clause-changes_once g c =
+    changes_once_commit c.in_ok-change.change _ _ (g.S.Store.standing c.act_on_each.new.store) _ c.in_ok-acted.ensures.reads
+    c.in-Err.ensures.commits
+
+pub returns-in-Ok-clause-changes_once : goal.returns-in-Ok-clause-changes_once
+returns-in-Ok-clause-changes_once g c =
+    changes_once_commit c.in_ok-change.change _ _ (g.S.Store.standing c.act_on_each.new.store) _ c.in_ok-acted.ensures.reads
+    c.in-Ok.ensures.commits

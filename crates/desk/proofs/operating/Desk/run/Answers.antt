@@ -1,10 +1,10 @@
-use Rattle.std.proofs.Common.{◌≡◌, ◌∙◌, ◌++◌, ◌∷◌, ◌+◌, [], None, take, sym, ap, subst, arith, Ok, Err}
+use Rattle.std.proofs.Common.{◌≡◌, ◌∙◌, ◌++◌, ◌∷◌, ◌+◌, [], None, length, length-append, take, refl, sym, ap, subst, arith, Ok, Err}
 use Rattle.std.proofs.lemmas.List.{take_more}
 use Rattle.store.proofs.ReadLemmas.{stays_open}
 use Rattle.building.specs.Building.{Building}
 use Rattle.deliveries.specs.declared.delivery.Delivery.{Delivery}
 use Rattle.deliveries.specs.Delivered.{Delivers, Holds}
-use Rattle.desk.proofs.RunLemmas.{ends-failed, run-more, Stands-after}
+use Rattle.desk.proofs.RunLemmas.{changes_each_stopped, changes_each_whole, ends-failed, follows_more, run-more, Stands-after}
 use Rattle.desk.proofs.operating.Desk.run.Goals as goal
 
 pub returns-in-Err-clause-headline : goal.returns-in-Err-clause-headline
@@ -43,9 +43,13 @@ loop-delivery-preserved g c =
     record {
       building = c.in-Ok.ensures.building ∙ so_far.building;
       count = omega (arith, c.push_reserved.ensures.len, so_far.count);
+      sized = ap length c.push_reserved.ensures.items ∙ length-append c.loop-delivery.replies.items (c.in-Ok.reply ∷ [])
+          ∙ ap (λ n. n + 1) so_far.sized;
       room = omega (arith, c.push_reserved.ensures.capacity, so_far.room);
       stands = Stands-after None first old new so_far.stands c.in-Ok.ensures.goes;
       opened = λ some. stays_open old new c.in-Ok.ensures.goes;
+      follows = λ honest. follows_more c.loop-delivery.delivery-index first.content old.content new.content
+          (so_far.follows (c.in-Ok.ensures.goes.honest honest)) (c.in-Ok.ensures.changes_once.made honest refl);
       so_far = λ E honest held.
           let done = so_far.so_far E (c.in-Ok.ensures.goes.honest honest) held in
           let ds = take c.loop-delivery.delivery-index c.args.deliveries.now in
@@ -61,3 +65,11 @@ loop-delivery-preserved g c =
           done.0 delivered in
           (c.push_reserved.ensures.items ∙ step.0, step.1);
     }
+
+pub returns-in-Err-clause-changes_each : goal.returns-in-Err-clause-changes_each
+returns-in-Err-clause-changes_each g c =
+    let so_far = c.loop-delivery.invariant in
+    changes_each_stopped c.loop-delivery.replies.items c.loop-delivery.delivery-index c.in-Err.fault
+    (g.S.Store.standing c.args.self.now.store) (g.S.Store.standing c.loop-delivery.self.store)
+    (g.S.Store.standing c.deliver.new.self.store) so_far.sized so_far.stands c.in-Err.ensures.goes c.in-Err.ensures.changes_once
+    so_far.follows
