@@ -4,14 +4,18 @@ ghost use Rattle.jiff_core.specs.Date.{IsYmd, weekday_of};
 ghost use Rattle.jiff_core.specs.Weekday.{monday_zero};
 ghost use Rattle.dates.specs.Day.{days_left, IsDay};
 
-use jiff_core::civil::{self, Date, Weekday};
+use jiff::civil::{Date, Weekday};
+use jiff_core::civil;
 use std::fmt;
 use std::marker::Model;
 
 /// A civil day from 1900-01-01 to 2154-12-31. Days compare by their order in time.
+///
+/// It is made and asked by a `jiff::civil::Date`, and holds the plain date that stands behind one: a proof of what holds a
+/// day reads the type of that, and would read all of `jiff` by the other.
 #[derive(Clone, Copy, PartialEq, Eq, PartialOrd, Ord, Debug)]
 pub struct Day {
-    date: Date,
+    date: civil::Date,
 }
 
 impl Model for Day {
@@ -37,7 +41,9 @@ impl Day {
             return None;
         }
         match Date::new(year as i16, month as i8, day as i8) {
-            Ok(date) => Some(Day { date }),
+            Ok(date) => Some(Day {
+                date: date.to_plain(),
+            }),
             Err(_) => None,
         }
     }
@@ -70,14 +76,15 @@ impl Day {
     pub fn weekday(self) -> Weekday
         ensures { monday_zero result ≡ weekday_of self }
     {
-        self.date.weekday()
+        Date::from_plain(self.date).weekday()
     }
 
     /// How many days follow this one in its month, 0 to 30.
     pub fn days_left_in_month(self) -> u8
         ensures { result ≡ days_left self }
     {
-        civil::days_in_month(self.date.year, self.date.month) - self.date.day
+        let month_length = Date::from_plain(self.date).days_in_month();
+        month_length as u8 - self.date.day
     }
 }
 

@@ -15,7 +15,7 @@
 pub use day::Day;
 pub use entry::Entry;
 pub use entry_fault::EntryFault;
-pub use jiff_core::civil::Weekday;
+pub use jiff::civil::Weekday;
 pub use month_days::{MonthDay, MonthDays};
 pub use months::{Month, Months};
 pub use pattern::Pattern;

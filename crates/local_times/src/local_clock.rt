@@ -7,7 +7,8 @@ ghost use Rattle.local_times.specs.LocalTimes.{clock_at, IsShown, local_at, loca
 
 use crate::zone_rule::ZoneRule;
 use dates::Day;
-use jiff_core::{Timestamp, civil};
+use jiff::Timestamp;
+use jiff_core::civil;
 use sched::Time;
 
 /// The nanoseconds of a hundredth of a second.
@@ -33,7 +34,7 @@ pub fn local_time(zone: &ZoneRule, moment: i64) -> Option<LocalTime>
         return None;
     }
     let instant = Timestamp::from_nanosecond(moment as i128 * NANOSECONDS).ok()?;
-    let shown = zone.time_zone().to_datetime(instant);
+    let shown = zone.time_zone().to_datetime(instant).to_plain();
     shown_at(shown.date, shown.time)
 }
 

@@ -1,17 +1,19 @@
 //! The rule of a time zone.
 
 ghost use Rattle.std.specs.Prelude.{◌≡◌, option_map, Some};
+ghost use Rattle.jiff.specs.ZoneView.{plain_zone};
 ghost use Rattle.jiff_tz.specs.PosixReader.{read_whole};
 ghost use Rattle.local_times.specs.ZoneRule.{rule_text};
 
-use jiff_tz::{TimeZone, posix};
+use jiff::tz::TimeZone;
 use std::marker::Model;
 
-/// The rule of a time zone, as a POSIX rule text says it. Contracts see it as the time zone of `jiff_tz`. It
-/// takes no memory.
+/// The rule of a time zone, as a POSIX rule text says it. Contracts see it as the time zone of `jiff_tz` that stands behind
+/// one of `jiff`, and that is what it holds: a proof of what holds a rule reads the type of that, and would read all of
+/// `jiff` by the other. It takes no memory.
 #[derive(Clone, Copy)]
 pub struct ZoneRule {
-    zone: TimeZone<'static>,
+    zone: jiff_tz::TimeZone<'static>,
 }
 
 impl Model for ZoneRule {
@@ -29,16 +31,16 @@ impl ZoneRule {
     pub fn read(text: &str) -> Option<ZoneRule>
         ensures { option_map rule_text result ≡ option_map Some (read_whole text.now) }
     {
-        let rule = posix::TimeZone::parse(text.as_bytes()).ok()?;
+        let zone = TimeZone::posix(text).ok()?;
         Some(ZoneRule {
-            zone: TimeZone::Posix(rule),
+            zone: zone.to_plain(),
         })
     }
 
-    /// The rule as a time zone of `jiff_tz`.
-    pub fn time_zone(&self) -> TimeZone<'static>
-        ensures { result ≡ self.now }
+    /// The rule as a time zone of `jiff`.
+    pub(crate) fn time_zone(&self) -> TimeZone<'static>
+        ensures { plain_zone result ≡ self.now }
     {
-        self.zone
+        TimeZone::from_plain(self.zone)
     }
 }

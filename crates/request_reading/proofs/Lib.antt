@@ -1,1 +1,2 @@
+pub mod MethodLemmas
 pub mod RequestLemmas

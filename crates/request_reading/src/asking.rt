@@ -1,16 +1,18 @@
 //! What a head asks.
 
-ghost use Rattle.std.specs.Prelude.{◌≡◌, IsUtf8};
+ghost use Rattle.std.specs.Prelude.{◌≡◌, IsUtf8, option_map};
 ghost use Rattle.holidays.specs.Answers.{result_map};
 ghost use Rattle.httparse.specs.Grammar.{RequestHead};
 ghost use Rattle.httparse.specs.Spans.{IsRequestAt, IsRequestWithin};
 ghost use Rattle.request_routes.specs.Routes.{asked_of, route_of};
 ghost use Rattle.request_reading.specs.AskedRoute.{of_length, route_asked, shown, within_limit};
 
+use http::Method;
 use httparse::spans::{HeaderSpan, RequestSpans};
 use request_fields::body_length;
 use request_routes::{Route, Routes};
 use response_texts::Refusal;
+use std::alloc::Global;
 use texts::text_of;
 
 /// What a head asks.
@@ -25,6 +27,7 @@ pub(crate) struct AskedRoute<'a> {
 /// plain length (H2), where no route has its method and target, and where the body is longer than the route takes (H4),
 /// the first of these first.
 pub(crate) fn route_asked<'a>(
+    alloc: Global,
     routes: &Routes,
     buffer: &'a [u8],
     headers: &[HeaderSpan],
@@ -36,6 +39,7 @@ pub(crate) fn route_asked<'a>(
 {
     let length = body_length(buffer, &headers[..spans.headers]);
     asked_by(
+        alloc,
         routes,
         spans.method.of(buffer),
         spans.path.of(buffer),
@@ -45,6 +49,7 @@ pub(crate) fn route_asked<'a>(
 
 /// What a method and a target ask, with the length of the body if the fields tell one.
 fn asked_by<'a>(
+    alloc: Global,
     routes: &Routes,
     method: &[u8],
     target: &'a [u8],
@@ -55,8 +60,17 @@ fn asked_by<'a>(
 {
     let length = length.ok_or(Refusal::UnclearLength)?;
     let target = text_of(target).ok_or(Refusal::NoRoute)?;
-    let route = routes.find(method, target).ok_or(Refusal::NoRoute)?;
+    let route = route_of(alloc, routes, method, target).ok_or(Refusal::NoRoute)?;
     within_limit(route, length)
+}
+
+/// The route that a method's token and a target ask. A token of which no `Method` can be made has none: only one that is
+/// longer than any method of the table takes memory.
+fn route_of<'a>(alloc: Global, routes: &Routes, method: &[u8], target: &'a str) -> Option<Route<'a>>
+    ensures { option_map asked_of result ≡ route_of method.now target.now }
+{
+    let method = Method::from_bytes(alloc, method).ok()?;
+    routes.find(&method, target)
 }
 
 /// A route, with a body of this length.

@@ -59,7 +59,7 @@ fn read_after<R: Read>(
     ensures failures { Counts reader.old.failures reader.new.failures result }
 {
     let read = &buffer[..found.filled];
-    match route_asked(routes, read, headers, &found.spans) {
+    match route_asked(alloc, routes, read, headers, &found.spans) {
         Ok(asked) => read_asked(alloc, building, reader, &read[found.spans.len..], &asked),
         Err(refusal) => Ok(Request::Refused(refusal)),
     }

@@ -44,6 +44,7 @@ get_rows =
     with_row (codes "/points/{point}") row.Point
     (with_row (codes "/reports/{date}") row.Report [])
 
+-- those of a method, which is the bytes of its token, with regard to case (RFC 9110)
 abbrev pub rows_of : Text → Option Rows
 rows_of method =
     if bytes_eq method (codes "POST") then Some post_rows

@@ -7,6 +7,7 @@ ghost use Rattle.request_routes.specs.Routes.{asked_of, get_rows, is_ascii_byte,
 ghost use Rattle.request_routes.specs.Routes.{route_among, route_of, route_with, rows_of, with_row};
 
 use crate::Route;
+use http::Method;
 use matchit::{Params, Router};
 use std::alloc::{AllocError, Global};
 use std::marker::Model;
@@ -49,21 +50,23 @@ impl Routes {
         })
     }
 
-    /// The route that a method and a target ask. A method is the bytes of its token, with regard to case (RFC 9110).
-    pub fn find<'a>(&self, method: &[u8], target: &'a str) -> Option<Route<'a>>
+    /// The route that a method and a target ask.
+    pub fn find<'a>(&self, method: &Method, target: &'a str) -> Option<Route<'a>>
         ensures { option_map asked_of result ≡ route_of method.now target.now }
     {
         find_among(self.rows_of(method)?, target)
     }
 
     /// The routes of a method.
-    fn rows_of(&self, method: &[u8]) -> Option<&Router<Row>>
+    fn rows_of(&self, method: &Method) -> Option<&Router<Row>>
         ensures { option_copied result ≡ rows_of method.now }
     {
-        match method {
-            b"POST" => Some(&self.posts),
-            b"GET" => Some(&self.gets),
-            _ => None,
+        if *method == Method::POST {
+            Some(&self.posts)
+        } else if *method == Method::GET {
+            Some(&self.gets)
+        } else {
+            None
         }
     }
 }

@@ -6,6 +6,7 @@ use Rattle.std.specs.Result.{IfOk, is_ok, result_ok}
 use Rattle.std.proofs.lemmas.Bool.{false≢true}
 use Rattle.std.proofs.lemmas.Int.{to_z-of_z}
 use Rattle.jiff_core.proofs.SignedLemmas.{signed_arith}
+use Rattle.jiff_core.specs.DateTime.{civil_nanos}
 use Rattle.jiff_core.specs.Timestamp.{nanos_of_seconds}
 use Rattle.jiff_tz.specs.Zone.{offset_at}
 use Rattle.local_times.proofs.ClockLemmas.{local_before, local_far, local_from, local_of-shown, shown_parts}
@@ -49,9 +50,9 @@ returns-clause-value c =
     let value = simp to_z-of_z at c.from_nanosecond.ensures.value in
     let instant = sym c.ok.ensures.value ∙ c.in_ok-instant.was in
     let nanos = ok_value (λ t. t.nanosecond ≡ moment *ℤ pos 10_000_000) c.from_nanosecond.result c.in_ok-instant.instant instant value in
-    let shown = c.to_datetime-shown.ensures
+    let shown = ap civil_nanos c.to_plain-shown.ensures ∙ c.to_datetime.ensures
     ∙ ap₂ (λ z n. n +ℤ nanos_of_seconds (offset_at z n)) c.time_zone.ensures nanos in
-    c.shown_at.ensures.value ∙ local_of-shown zone moment c.to_datetime-shown.result shown ∙ sym (local_from zone moment from)
+    c.shown_at.ensures.value ∙ local_of-shown zone moment c.to_plain-shown.result shown ∙ sym (local_from zone moment from)
 
 pub returns-clause-shows : goal.returns-clause-shows
 returns-clause-shows c =
@@ -63,6 +64,6 @@ returns-clause-shows c =
     let value = simp to_z-of_z at c.from_nanosecond.ensures.value in
     let instant = sym c.ok.ensures.value ∙ c.in_ok-instant.was in
     let nanos = ok_value (λ t. t.nanosecond ≡ moment *ℤ pos 10_000_000) c.from_nanosecond.result c.in_ok-instant.instant instant value in
-    let shown = c.to_datetime-shown.ensures
+    let shown = ap civil_nanos c.to_plain-shown.ensures ∙ c.to_datetime.ensures
     ∙ ap₂ (λ z n. n +ℤ nanos_of_seconds (offset_at z n)) c.time_zone.ensures nanos in
-    shown_parts zone moment c.to_datetime-shown.result c.shown_at.result shown c.shown_at.ensures.parts
+    shown_parts zone moment c.to_plain-shown.result c.shown_at.result shown c.shown_at.ensures.parts
