@@ -47,7 +47,7 @@ fn a_command_over_the_loopback_gets_its_response(rt: HostRuntime) -> Result<(), 
     assert_got(
         &rt,
         &got,
-        Served::Answered(StatusCode::Ok),
+        Served::Answered(StatusCode::OK),
         done(),
         "the loopback",
     );

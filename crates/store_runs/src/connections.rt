@@ -53,7 +53,7 @@ fn serve_stream<S: Store + Drop>(
     let served = served(rt, routes, desk, stream, taken);
     if let Served::Answered(status) = served {
         end(rt, stream, taken, status);
-        return status == StatusCode::InternalServerError;
+        return status == StatusCode::INTERNAL_SERVER_ERROR;
     }
     false
 }
