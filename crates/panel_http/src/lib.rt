@@ -6,6 +6,7 @@
 //! `specs/Serving.antt`.
 #![tactic(auto)]
 
+pub use counted::Counted;
 pub use http::StatusCode;
 pub use request_reading::Routes;
 pub use served::Served;

@@ -2,11 +2,10 @@
 
 use crate::machine_clock::moment;
 use crate::timed_stream::TimedStream;
-use counted::Counted;
 use deliveries::Delivery;
 use desk::Desk;
 use desk_console::Status;
-use panel_http::{Routes, Served, StatusCode, serve_one};
+use panel_http::{Counted, Routes, Served, StatusCode, serve_one};
 use std::io::Read;
 use std::net::{Shutdown, TcpListener, TcpStream};
 use std::time::Instant;
