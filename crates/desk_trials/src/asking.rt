@@ -1,9 +1,8 @@
 //! The worked request, and how a desk is asked. A long text, a call with a long contract and an assertion are dear to
 //! prove beside other code, so each of them stands in a function of its own.
 use crate::ends::{Page, Pieces};
-use counted::Counted;
 use desk::Desk;
-use panel_http::{Routes, Served, serve_one};
+use panel_http::{Counted, Routes, Served, serve_one};
 use std::alloc::Global;
 use std::fmt::Display;
 use std::io::{Read, Write};

@@ -1,9 +1,8 @@
 //! The worked request over the loopback.
 use crate::asking::{Got, assert_got, command, done, served};
 use crate::desks::desk;
-use counted::Counted;
 use desk::Desk;
-use panel_http::{Served, StatusCode};
+use panel_http::{Counted, Served, StatusCode};
 use std::alloc::Global;
 use std::io::{Read, Write};
 use std::net::{Ipv4Addr, SocketAddr, TcpListener, TcpStream};
@@ -47,7 +46,7 @@ fn a_command_over_the_loopback_gets_its_response(rt: HostRuntime) -> Result<(), 
     assert_got(
         &rt,
         &got,
-        Served::Answered(StatusCode::Ok),
+        Served::Answered(StatusCode::OK),
         done(),
         "the loopback",
     );

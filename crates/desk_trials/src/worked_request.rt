@@ -41,7 +41,7 @@ fn two_reads(first: usize) -> Case {
         end: command().len(),
         first,
         room: 1_000,
-        served: Served::Answered(StatusCode::Ok),
+        served: Served::Answered(StatusCode::OK),
         text: done(),
         point: point_after(),
     }
@@ -52,7 +52,7 @@ fn cut_body(end: usize) -> Case {
         end,
         first: HEAD,
         room: 1_000,
-        served: Served::Answered(StatusCode::BadRequest),
+        served: Served::Answered(StatusCode::BAD_REQUEST),
         text: cut(),
         point: point_before(),
     }
@@ -120,14 +120,14 @@ fn try_case<S: Store + Drop>(
     assert_got(
         rt,
         &told.point,
-        Served::Answered(StatusCode::Ok),
+        Served::Answered(StatusCode::OK),
         case.point,
         case.end,
     );
     assert_got(
         rt,
         &told.again,
-        Served::Answered(StatusCode::Ok),
+        Served::Answered(StatusCode::OK),
         done(),
         "the repeat",
     );

@@ -7,24 +7,24 @@ use Rattle.panel_http.specs.declared.unanswered.Unanswered.{Unanswered}
 use Rattle.panel_http.specs.declared.unanswered.Unanswered.TheVariants as unanswered
 use Rattle.request_reading.specs.Requests.{IsRequest}
 use Rattle.request_reading.specs.declared.request.Request.{Request}
-use Rattle.response_texts.specs.declared.status_code.StatusCode.{StatusCode}
+use Rattle.response_texts.specs.Response.{Status}
 use Rattle.response_texts.specs.declared.whole_response.Response.{Response}
 use Rattle.store.specs.Standing.{Standing}
 use Rattle.panel_http.specs.Serving.{IsSilent, Serves, Tells, Text, Writes, written}
 use Rattle.panel_http.specs.declared.served.Served.{Served}
 use Rattle.panel_http.specs.declared.served.Served.TheVariants.{Answered, NoReply, NoRequest, ReplyLost}
 
-abbrev status_or : StatusCode → Option (StatusCode × Text) → StatusCode
+abbrev status_or : Status → Option (Status × Text) → Status
 status_or default None = default
 status_or default (Some told) = told.0
 
-abbrev text_or : Text → Option (StatusCode × Text) → Text
+abbrev text_or : Text → Option (Status × Text) → Text
 text_or default None = default
 text_or default (Some told) = told.1
 
 -- what an answer that is written tells
 tells : (b : Building) (earlier : List Delivery) (bytes : Text) (request : Request) (answer : Result Response Unanswered)
-    (old now : Standing) (status : StatusCode) (text : Text)
+    (old now : Standing) (status : Status) (text : Text)
     → IsRequest b bytes request → Answers b earlier request answer old now → written answer ≡ Some (status, text)
     → Tells b earlier bytes status text old now
 tells b earlier bytes request (Ok response) old now status text is answers told =

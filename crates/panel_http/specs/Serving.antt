@@ -10,10 +10,8 @@ use Rattle.panel_http.specs.declared.unanswered.Unanswered.{Unanswered}
 use Rattle.panel_http.specs.declared.unanswered.Unanswered.TheVariants as unanswered
 use Rattle.request_reading.specs.Requests.{IsRequest}
 use Rattle.request_reading.specs.declared.request.Request.{Request}
-use Rattle.response_texts.specs.Response.{Said, response_text}
+use Rattle.response_texts.specs.Response.{Said, Status, response_text}
 use Rattle.response_texts.specs.Responses.{no_memory_said, store_said}
-use Rattle.response_texts.specs.declared.status_code.StatusCode.{StatusCode}
-use Rattle.response_texts.specs.declared.status_code.StatusCode.TheVariants as status
 use Rattle.response_texts.specs.declared.whole_response.Response.{Response}
 use Rattle.store.specs.Standing.{Standing}
 use Rattle.panel_http.specs.declared.served.Served.{Served}
@@ -23,13 +21,13 @@ abbrev pub Text : Type 0
 Text = List ℕ
 
 -- the status and the text of what is said
-abbrev pub IsOf : Said → StatusCode → Text → Type 0
+abbrev pub IsOf : Said → Status → Text → Type 0
 IsOf said code text = (code ≡ said.status) × (text ≡ response_text said)
 
 -- ---- what is told, and what the store holds then
 
 -- the response of the definitions to what the bytes ask, and the tables with what they deliver
-pub record Responds (building : Building) (earlier : List Delivery) (bytes : Text) (code : StatusCode) (text : Text)
+pub record Responds (building : Building) (earlier : List Delivery) (bytes : Text) (code : Status) (text : Text)
     (now : Standing) : Type 0 where
   pub request : Request
   pub is_request : IsRequest building bytes request
@@ -39,20 +37,20 @@ pub record Responds (building : Building) (earlier : List Delivery) (bytes : Tex
   pub holds : Holds building (after earlier request) now
 
 -- memory was refused, and nothing is delivered
-pub record LacksMemory (building : Building) (earlier : List Delivery) (code : StatusCode) (text : Text)
+pub record LacksMemory (building : Building) (earlier : List Delivery) (code : Status) (text : Text)
     (now : Standing) : Type 0 where
   pub is_told : IsOf no_memory_said code text
   pub holds : Holds building earlier now
 
 -- the store failed in this call, or was shut
-pub record LacksStore (building : Building) (earlier : List Delivery) (bytes : Text) (code : StatusCode) (text : Text)
+pub record LacksStore (building : Building) (earlier : List Delivery) (bytes : Text) (code : Status) (text : Text)
     (old now : Standing) : Type 0 where
   pub request : Request
   pub is_request : IsRequest building bytes request
   pub is_told : IsOf store_said code text
   pub ends : StoreEnds building earlier (after earlier request) old now
 
-abbrev pub Tells : Building → List Delivery → Text → StatusCode → Text → Standing → Standing → Type 0
+abbrev pub Tells : Building → List Delivery → Text → Status → Text → Standing → Standing → Type 0
 Tells building earlier bytes code text old now =
     Responds building earlier bytes code text now
     ⊎ (LacksMemory building earlier code text now ⊎ LacksStore building earlier bytes code text old now)
@@ -73,7 +71,7 @@ abbrev pub Serves : Building → List Delivery → Text → ℕ → ℕ → Opti
 Serves building earlier bytes read_before read_after held holds before now old new (Answered code) =
     (0 < length bytes) × (text : Text) × Appends held holds text × Tells building earlier bytes code text old new
 Serves building earlier bytes read_before read_after held holds before now old new ReplyLost =
-    (0 < length bytes) × (code : StatusCode) × (text : Text) × Lost held holds text before now
+    (0 < length bytes) × (code : Status) × (text : Text) × Lost held holds text before now
     × Tells building earlier bytes code text old new
 Serves building earlier bytes read_before read_after held holds before now old new NoRequest =
     (Rises read_before read_after ⊎ (bytes ≡ [])) × Keeps held holds × Holds building earlier new
@@ -83,15 +81,15 @@ Serves building earlier bytes read_before read_after held holds before now old n
 -- ---- how an answer is written
 
 -- the status and the text of an answer
-abbrev pub written : Result Response Unanswered → Option (StatusCode × Text)
+abbrev pub written : Result Response Unanswered → Option (Status × Text)
 written (Ok response) = Some (response.status, string_bytes response.text)
-written (Err unanswered.NoMemory) = Some (status.ServiceUnavailable, response_text no_memory_said)
-written (Err unanswered.Store) = Some (status.InternalServerError, response_text store_said)
+written (Err unanswered.NoMemory) = Some (no_memory_said.status, response_text no_memory_said)
+written (Err unanswered.Store) = Some (store_said.status, response_text store_said)
 written (Err unanswered.NoReply) = None
 
-abbrev pub Writes : Option (StatusCode × Text) → Option Text → Option Text → ℕ → ℕ → Served → Type 0
+abbrev pub Writes : Option (Status × Text) → Option Text → Option Text → ℕ → ℕ → Served → Type 0
 Writes told held holds before now (Answered code) = (text : Text) × (told ≡ Some (code, text)) × Appends held holds text
 Writes told held holds before now ReplyLost =
-    (code : StatusCode) × (text : Text) × (told ≡ Some (code, text)) × Lost held holds text before now
+    (code : Status) × (text : Text) × (told ≡ Some (code, text)) × Lost held holds text before now
 Writes told held holds before now NoRequest = ⊥
 Writes told held holds before now NoReply = (told ≡ None) × Keeps held holds

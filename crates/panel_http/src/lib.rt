@@ -6,8 +6,9 @@
 //! `specs/Serving.antt`.
 #![tactic(auto)]
 
+pub use counted::Counted;
+pub use http::StatusCode;
 pub use request_reading::Routes;
-pub use response_texts::StatusCode;
 pub use served::Served;
 pub use serving::serve_one;
 

@@ -1,6 +1,6 @@
 //! How a request was served.
 
-use response_texts::StatusCode;
+use http::StatusCode;
 
 /// How a request was served.
 #[derive(Clone, Copy, PartialEq, Eq)]

@@ -6,7 +6,8 @@ ghost use Rattle.panel_http.specs.Serving.{Writes, written};
 use crate::Served;
 use crate::unanswered::Unanswered;
 use counted::{Counted, write_text};
-use response_texts::{Response, StatusCode, no_memory_text, store_text};
+use http::StatusCode;
+use response_texts::{Response, no_memory_text, store_text};
 use std::io::Write;
 
 /// Writes the response that an answer has.
@@ -20,10 +21,10 @@ pub(crate) fn write_answer<W: Write>(
     match answer {
         Ok(response) => write_response(writer, response.status, response.text.as_str()),
         Err(Unanswered::NoMemory) => {
-            write_response(writer, StatusCode::ServiceUnavailable, no_memory_text())
+            write_response(writer, StatusCode::SERVICE_UNAVAILABLE, no_memory_text())
         }
         Err(Unanswered::Store) => {
-            write_response(writer, StatusCode::InternalServerError, store_text())
+            write_response(writer, StatusCode::INTERNAL_SERVER_ERROR, store_text())
         }
         Err(Unanswered::NoReply) => Served::NoReply,
     }

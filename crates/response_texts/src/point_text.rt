@@ -5,8 +5,8 @@ ghost use Rattle.response_texts.specs.Response.{Says};
 ghost use Rattle.response_texts.specs.Responses.{no_point_said, place_text, places_text, point_body};
 ghost use Rattle.response_texts.specs.Responses.{point_said};
 
-use crate::status_code::StatusCode;
 use crate::whole_response::{ContentType, Response, respond};
+use http::StatusCode;
 use points::{LOWEST_PRIORITY, Name, PriorityArray};
 use std::alloc::{AllocError, Global};
 
@@ -21,7 +21,7 @@ pub fn point_response(
     ensures { IfOk result (Says (point_said name.now places.now present priority)) }
 {
     let body = point_body(alloc, name, places, present, priority)?;
-    respond(alloc, StatusCode::Ok, ContentType::Json, body.as_str())
+    respond(alloc, StatusCode::OK, ContentType::Json, body.as_str())
 }
 
 /// The response where the building has no point of that name.
@@ -30,7 +30,7 @@ pub fn no_point_response(alloc: Global) -> Result<Response, AllocError>
 {
     respond(
         alloc,
-        StatusCode::NotFound,
+        StatusCode::NOT_FOUND,
         ContentType::Json,
         "{\"answer\":\"no_point\"}",
     )

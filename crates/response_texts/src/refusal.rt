@@ -4,8 +4,8 @@ ghost use Rattle.std.specs.Prelude.{◌≡◌, IfOk};
 ghost use Rattle.response_texts.specs.Response.{Says};
 ghost use Rattle.response_texts.specs.Responses.{refusal_said};
 
-use crate::status_code::StatusCode;
 use crate::whole_response::{ContentType, Response, respond};
+use http::StatusCode;
 use std::alloc::{AllocError, Global};
 
 /// Why a request is refused, before it is asked what it tells.
@@ -37,8 +37,8 @@ impl Refusal {
         ensures { result ≡ (refusal_said self).status }
     {
         match self {
-            Refusal::NoRoute => StatusCode::NotFound,
-            _ => StatusCode::BadRequest,
+            Refusal::NoRoute => StatusCode::NOT_FOUND,
+            _ => StatusCode::BAD_REQUEST,
         }
     }
 

@@ -4,11 +4,11 @@ ghost use Rattle.std.specs.Prelude.{◌≡◌, IfOk};
 ghost use Rattle.response_texts.specs.Response.{Says};
 ghost use Rattle.response_texts.specs.Responses.{answer_status, import_refused_said, reply_said, reply_status};
 
-use crate::status_code::StatusCode;
 use crate::whole_response::{ContentType, Response, respond};
 use deliveries::Reply;
 use delivery_lines::{RefusedImportText, ReplyText};
 use holidays::ImportFault;
+use http::StatusCode;
 use points::Answer;
 use std::alloc::{AllocError, Global};
 
@@ -27,7 +27,7 @@ pub fn import_refused_response(alloc: Global, fault: ImportFault) -> Result<Resp
     let body = format!(in alloc; "{}", RefusedImportText(fault))?;
     respond(
         alloc,
-        StatusCode::UnprocessableEntity,
+        StatusCode::UNPROCESSABLE_ENTITY,
         ContentType::Json,
         body.as_str(),
     )
@@ -40,14 +40,14 @@ fn reply_status(reply: Reply) -> StatusCode
     match reply {
         Reply::Answered { answer, .. } => answer_status(answer),
         Reply::SkipDone { .. } | Reply::Ticked { .. } | Reply::Old | Reply::Imported { .. } => {
-            StatusCode::Ok
+            StatusCode::OK
         }
-        Reply::Parked { .. } => StatusCode::Accepted,
-        Reply::BadNumber | Reply::BadMoment => StatusCode::BadRequest,
-        Reply::NoPanel => StatusCode::NotFound,
-        Reply::Differs { .. } | Reply::TooFar { .. } => StatusCode::Conflict,
-        Reply::Skipped { .. } | Reply::Forgotten { .. } => StatusCode::Gone,
-        Reply::ImportRefused { .. } => StatusCode::UnprocessableEntity,
+        Reply::Parked { .. } => StatusCode::ACCEPTED,
+        Reply::BadNumber | Reply::BadMoment => StatusCode::BAD_REQUEST,
+        Reply::NoPanel => StatusCode::NOT_FOUND,
+        Reply::Differs { .. } | Reply::TooFar { .. } => StatusCode::CONFLICT,
+        Reply::Skipped { .. } | Reply::Forgotten { .. } => StatusCode::GONE,
+        Reply::ImportRefused { .. } => StatusCode::UNPROCESSABLE_ENTITY,
     }
 }
 
@@ -56,7 +56,7 @@ fn answer_status(answer: Answer) -> StatusCode
     ensures { result ≡ answer_status answer }
 {
     match answer {
-        Answer::Done { .. } => StatusCode::Ok,
-        Answer::Refused(_) => StatusCode::UnprocessableEntity,
+        Answer::Done { .. } => StatusCode::OK,
+        Answer::Refused(_) => StatusCode::UNPROCESSABLE_ENTITY,
     }
 }

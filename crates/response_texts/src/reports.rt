@@ -4,15 +4,15 @@ ghost use Rattle.std.specs.Prelude.{IfOk};
 ghost use Rattle.response_texts.specs.Response.{Says};
 ghost use Rattle.response_texts.specs.Responses.{no_day_said, report_said};
 
-use crate::status_code::StatusCode;
 use crate::whole_response::{ContentType, Response, respond};
+use http::StatusCode;
 use std::alloc::{AllocError, Global};
 
 /// The response that is a report.
 pub fn report_response(alloc: Global, report: &str) -> Result<Response, AllocError>
     ensures { IfOk result (Says (report_said report.now)) }
 {
-    respond(alloc, StatusCode::Ok, ContentType::PlainText, report)
+    respond(alloc, StatusCode::OK, ContentType::PlainText, report)
 }
 
 /// The response where no day is asked.
@@ -21,7 +21,7 @@ pub fn no_day_response(alloc: Global) -> Result<Response, AllocError>
 {
     respond(
         alloc,
-        StatusCode::NotFound,
+        StatusCode::NOT_FOUND,
         ContentType::Json,
         "{\"answer\":\"no_day\"}",
     )

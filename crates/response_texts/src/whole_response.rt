@@ -3,7 +3,7 @@
 ghost use Rattle.std.specs.Prelude.{IfOk};
 ghost use Rattle.response_texts.specs.Response.{Says};
 
-use crate::status_code::StatusCode;
+use http::StatusCode;
 use std::alloc::{AllocError, Global};
 use std::fmt;
 

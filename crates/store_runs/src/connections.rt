@@ -2,11 +2,10 @@
 
 use crate::machine_clock::moment;
 use crate::timed_stream::TimedStream;
-use counted::Counted;
 use deliveries::Delivery;
 use desk::Desk;
 use desk_console::Status;
-use panel_http::{Routes, Served, StatusCode, serve_one};
+use panel_http::{Counted, Routes, Served, StatusCode, serve_one};
 use std::io::Read;
 use std::net::{Shutdown, TcpListener, TcpStream};
 use std::time::Instant;
@@ -53,7 +52,7 @@ fn serve_stream<S: Store + Drop>(
     let served = served(rt, routes, desk, stream, taken);
     if let Served::Answered(status) = served {
         end(rt, stream, taken, status);
-        return status == StatusCode::InternalServerError;
+        return status == StatusCode::INTERNAL_SERVER_ERROR;
     }
     false
 }
