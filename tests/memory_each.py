@@ -7,7 +7,7 @@ those with it, and the same delivery, made again with memory, gets its reply and
 
 Each test takes the path of the program and a folder of its own. A run over a database makes 10,000 requests and more, most
 of them for the pages that it keeps, so there those are tried that come after the database is open, and before that each
-that comes after three requests of other sizes than one that was tried. With DESK_SWEEP set each is tried. It needs `cc`.
+whose size and those of the two before it were not tried yet. With DESK_SWEEP set each is tried. It needs `cc`.
 """
 import datetime
 import os
@@ -28,7 +28,7 @@ DAY = datetime.date(2025, 6, 2)
 TICK = Tick(174890160000)
 IMPORT = Import((("HOLIDAYS", "2025-06-02"), ("HOLIDAYS", "2025-06-09")))
 # How many requests before it a request is known by.
-CONTEXT = 3
+CONTEXT = 2
 # A request to a server, and its response, take so many requests at most beside what is asked of the desk.
 OF_A_REQUEST = 100
 # Of a delivery that makes many requests each of so many is tried.

@@ -17,7 +17,7 @@ import subprocess
 import sys
 import tempfile
 
-from slow_desk import run_of, straightened
+from slow_desk import present, run_of, straightened
 from worked import BUILDING, HOLIDAY, OTHER, SKIPPED, TICKS, command
 
 ROOT = pathlib.Path(__file__).resolve().parent.parent
@@ -65,3 +65,85 @@ def told_by(crate, cases):
     if not blocks:
         raise AssertionError(f"nothing was tried: {(ran.stdout + ran.stderr)[-3000:]}")
     return dict(zip(blocks[::2], blocks[1::2]))
+
+
+# ---- what is wanted
+
+PLANNED = {"plan_command": ["applies next 4: 1 2 3"], "plan_skip": ["skip done next 5: 2 4"],
+           "segments": ["0=Some(1500) 2880000=Some(1700) 4320000=Some(1500) 4680000=Some(1400)"]}
+
+
+def wanted_of(call):
+    """What a call prints with memory, line for line."""
+    if call in PLANNED:
+        return PLANNED[call]
+    if call == "straighten":
+        return straightened(BUILDING, LIST).splitlines()
+    replies, state = run_of(BUILDING, LIST)
+    if call.startswith("run-"):
+        return replies
+    value, priority = present(BUILDING, state.places, "R101-SET")
+    return [f"{value} {priority} {some(state.places.get(('R101-SET', 15)))}"]
+
+
+def some(value):
+    return "None" if value is None else f"Some({value})"
+
+
+def is_run_right(wanted, lines):
+    """A run answers a beginning and tells the want of memory, and then the rest; or all. What the store holds is right."""
+    faults = [line for line in lines if line in NO_MEMORY]
+    return [line for line in lines if line not in NO_MEMORY] == [*wanted, "same"] and len(faults) <= 1, bool(faults)
+
+
+def is_right(call, lines):
+    """Whether a call printed what is wanted, and whether it missed memory."""
+    wanted = wanted_of(call)
+    if call.startswith("run-"):
+        return is_run_right(wanted, lines)
+    last = ["same"] if call.startswith("point-") else []
+    mark = ["again"] if call == "straighten" else []
+    missed = [[each, *mark, *wanted, *last] for each in NO_MEMORY]
+    return lines in ([*wanted, *mark, *wanted, *last], *missed), lines in missed
+
+
+# ---- what came of it
+
+
+def judged(call, told):
+    """Tries what a call printed with each request refused in turn: before it, at it, and after it. How often it missed memory."""
+    places, missed = [], 0
+    for name in sorted(name for name in told if name.startswith(f"{call}+")):
+        place, *lines = [line.rstrip() for line in told[name].splitlines()] or [""]
+        places.append(place)
+        if place != "before":
+            right, lacked = is_right(call, lines)
+            missed += lacked
+            if not right or (lacked and place == "after"):
+                raise AssertionError(f"{name}, {place}: {lines!r}, wanted {wanted_of(call)!r}")
+    expected = ["before"] * places.count("before") + ["at the call"] * places.count("at the call") + ["after"] * places.count("after")
+    if places != expected or "at the call" not in places or places[-1] != "after" or missed == 0:
+        raise AssertionError(f"{call}: {places!r}")
+    return missed
+
+
+def main(words):
+    failed = 0
+    requests = {call: (before, of_it, 1 if "--sweep" in words else each) for call, (before, of_it, each) in REQUESTS.items()}
+    with tempfile.TemporaryDirectory(prefix="desk-calls-") as room:
+        folder = pathlib.Path(room)
+        write_cases(folder / "cases", requests)
+        print("compiling the calls that are refused memory, some two minutes", flush=True)
+        told = told_by(copy_of_the_crates(folder / "copy"), folder / "cases")
+    for call in requests:
+        try:
+            print(f"ok {call}: {judged(call, told)} times without memory")
+        except AssertionError as error:
+            failed += 1
+            print(f"FAILED {str(error)[:3000]}")
+    print(f"{len(requests) - failed} passed, {failed} failed")
+    return 1 if failed else 0
+
+
+if __name__ == "__main__":
+    sys.exit(main(sys.argv))

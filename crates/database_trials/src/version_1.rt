@@ -84,12 +84,14 @@ fn script(lines: &str) -> Script<'_> {
 const MOST_CALLS: u64 = 1000;
 
 /// What the queries answer before the database of few commands is opened, and after.
-const BEFORE: &str = "1;1005 1002;3 4 5 1004 2;1 1 1 1 0;1 1 1 1 0;8 8 8 8 6;1 1 1 1 2000;1 1 1 1 2;1 1 1 1 4;8 8 8 8 -1;8;0;0;";
+const BEFORE: &str =
+    "1;1005 1002;3 4 5 1004 2;1 1 1 1 0;1 1 1 1 0;8 8 8 8 6;1 1 1 1 2000;1 1 1 1 2;1 1 1 1 4;8 8 8 8 -1;8;0;0;";
 
 const AFTER: &str = "2;1005 1002;5 1004 2;1 1 0;1 1 0;8 8 6;1 1 2000;1 1 2;1 1 4;8 8 -1;8;0;0;";
 
 /// What they answer after the lines.
-const AFTER_LINES: &str = "2;1006 1002;1004 1005 2;1 1 0;1 1 0;8 8 6;1 0 2000;1 1 2;1 0 4;8 8 -1;;0;0;";
+const AFTER_LINES: &str =
+    "2;1006 1002;1004 1005 2;1 1 0;1 1 0;8 8 6;1 0 2000;1 1 2;1 0 4;8 8 -1;;0;0;";
 
 const LINES: &str = r#"{"number":4,"panel":"P1","point":"LIGHT","priority":8,"value":1}
 {"number":5,"panel":"P1","point":"LIGHT","priority":8,"value":1}

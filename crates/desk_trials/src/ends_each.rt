@@ -36,12 +36,7 @@ fn try_reads<S: Store + Drop>(rt: &impl Abort, alloc: Global, desk: &mut Desk<S>
 }
 
 fn assert_untouched<S: Store + Drop>(rt: &impl Abort, alloc: Global, desk: &mut Desk<S>) {
-    let got = ask(
-        alloc,
-        desk,
-        "GET /points/R101-SET HTTP/1.1\r\n\r\n",
-        1_000,
-    );
+    let got = ask(alloc, desk, "GET /points/R101-SET HTTP/1.1\r\n\r\n", 1_000);
     assert_got(
         rt,
         &got,

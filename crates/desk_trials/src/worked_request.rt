@@ -103,7 +103,13 @@ fn ask_desk<S: Store + Drop>(alloc: Global, store: S, case: &Case) -> Result<Tol
 fn assert_first(rt: &impl Abort, got: &Got, case: &Case) {
     let is_wanted = got.served == case.served && got.text.as_slice() == case.text.as_bytes();
     let is_counted = got.has_failed && matches!(case.served, Served::Answered(_));
-    assert!(rt; is_wanted && !is_counted, "cut at {} and {}, with room for {}", case.first, case.end, case.room);
+    assert!(rt;
+        is_wanted && !is_counted,
+        "cut at {} and {}, with room for {}",
+        case.first,
+        case.end,
+        case.room
+    );
 }
 
 fn try_case<S: Store + Drop>(
