@@ -15,6 +15,7 @@ test: python
 
 sweep: desk
 	@python3 tests/try_hostile.py build/desk --sweep
+	@python3 tests/memory_each_call.py --sweep
 
 wrong-bodies: python
 	@python3 scripts/wrong_bodies

@@ -1,14 +1,14 @@
 """Refuses each request for memory of calls that the program doesn't make: the plans of a command and of a skip, the segments
 of a day, a straightening, and a run of a list and a point over both stores.
 
-`refused_calls/main.rattle` makes them. It is compiled once in a copy of the repository, by the kit's `rt try --fail-alloc`,
-which refuses one request of a number; so many other requests come before a call that it is each of the call's in turn.
+`refused_calls/main.rattle` makes one again and again. It is compiled once in a copy of the repository, by the kit's `rt try
+--fail-alloc`, which refuses one request of a number; with one more request before the calls it is the one before of a call.
 Every answer is the unrefused one or the want of memory, what a store holds is what it held before what was not answered,
-and the same call, made again, answers. What is wanted is told by the plain slow program, or was worked by hand.
+and the calls after it answer. What is wanted is told by the plain slow program, or was worked by hand.
 
 Usage: memory_each_call.py [--sweep]
 
-Without --sweep a run over a database is refused each tenth request alone. The last line printed is `N passed, M failed`.
+With --sweep each request of a call is refused, else some. The last line printed is `N passed, M failed`.
 """
 import pathlib
 import re
@@ -24,13 +24,13 @@ ROOT = pathlib.Path(__file__).resolve().parent.parent
 NAME = "refused_calls"
 LIBRARIES = ("building", "dates", "deliveries", "delivery_lines", "desk", "desk_straighten", "json", "listing", "mem_store", "points",
              "sched", "sqlite", "store", "store_sql", "window")
-# The number of the request that is refused.
-REFUSED = 20_000
-# The requests before a call and of it, at most, with some more at both ends: (before, of it, and each of which is tried).
-REQUESTS = {
-    "plan_command": (0, 100, 1), "plan_skip": (0, 100, 1), "segments": (0, 1_000, 1), "straighten": (0, 1_000, 1),
-    "run-memory": (0, 1_000, 1), "run-database": (0, 1_000, 10), "point-memory": (0, 1_000, 1), "point-database": (0, 1_000, 1),
-}
+# The number of the request that is refused, as the program has it.
+REFUSED = 12_000
+# At most so many requests a call makes, with what is looked at between two; and each of which is refused without --sweep.
+REQUESTS = {"plan_command": (2, 1), "plan_skip": (2, 1), "segments": (12, 2), "straighten": (120, 15), "run-memory": (800, 80),
+            "run-database": (10_000, 1_000), "point-memory": (1, 1), "point-database": (40, 5)}
+# What needs no memory.
+WITHOUT = {"point-memory"}
 LIST = (*SKIPPED, *TICKS, HOLIDAY, *(command("P1", number, "R101-SET", 8, 1500 + 100 * number) for number in (7, 6, 5)), OTHER)
 NO_MEMORY = {"no memory", "fault S1"}
 
@@ -47,14 +47,14 @@ def copy_of_the_crates(to):
     return crate
 
 
-def write_cases(folder, requests):
+def write_cases(folder, is_sweep):
     """A file for each call and each number of requests before it; its words stand beside it."""
     folder.mkdir()
-    for call, (before, of_it, each) in requests.items():
-        for number in range(before, before + of_it, each):
-            name = f"{call}+{number:06}"
+    for call, (most, each) in REQUESTS.items():
+        for earlier in range(0, most, 1 if is_sweep else each):
+            name = f"{call}+{earlier:06}"
             (folder / name).write_bytes(b"")
-            (folder / f"{name}.args").write_text(f"{call}\n{REFUSED - number}\n")
+            (folder / f"{name}.args").write_text(f"{call}\n{earlier}\n")
 
 
 def told_by(crate, cases):
@@ -81,7 +81,7 @@ def wanted_of(call):
         return straightened(BUILDING, LIST).splitlines()
     replies, state = run_of(BUILDING, LIST)
     if call.startswith("run-"):
-        return replies
+        return [*replies, "same"]
     value, priority = present(BUILDING, state.places, "R101-SET")
     return [f"{value} {priority} {some(state.places.get(('R101-SET', 15)))}"]
 
@@ -90,58 +90,57 @@ def some(value):
     return "None" if value is None else f"Some({value})"
 
 
-def is_run_right(wanted, lines):
-    """A run answers a beginning and tells the want of memory, and then the rest; or all. What the store holds is right."""
-    faults = [line for line in lines if line in NO_MEMORY]
-    return [line for line in lines if line not in NO_MEMORY] == [*wanted, "same"] and len(faults) <= 1, bool(faults)
-
-
-def is_right(call, lines):
-    """Whether a call printed what is wanted, and whether it missed memory."""
-    wanted = wanted_of(call)
-    if call.startswith("run-"):
-        return is_run_right(wanted, lines)
-    last = ["same"] if call.startswith("point-") else []
-    mark = ["again"] if call == "straighten" else []
-    missed = [[each, *mark, *wanted, *last] for each in NO_MEMORY]
-    return lines in ([*wanted, *mark, *wanted, *last], *missed), lines in missed
+def is_missed(call, lines):
+    """Whether the lines of one call tell the want of memory as they should: alone, or of a run in its place."""
+    if not call.startswith("run-"):
+        return lines in ([each] for each in NO_MEMORY)
+    return lines.count("fault S1") == 1 and [line for line in lines if line != "fault S1"] == wanted_of(call)
 
 
 # ---- what came of it
 
 
-def judged(call, told):
-    """Tries what a call printed with each request refused in turn: before it, at it, and after it. How often it missed memory."""
-    places, missed = [], 0
+def judged(call, text):
+    """What came of the refused request: the want of memory, or nothing that shows."""
+    wanted, lines = wanted_of(call), [line.rstrip() for line in text.splitlines()]
+    usual, rest = lines[:len(wanted)], lines[len(wanted):]
+    if usual == wanted and rest in ([], ["between"]):
+        return "no call missed it"
+    if usual == wanted and rest[0] == "once" and is_missed(call, rest[1:]):
+        return "the want of memory was told"
+    if usual == wanted and rest == ["not met"] and call in WITHOUT:
+        return "it needs no memory"
+    raise AssertionError(f"{lines!r}, wanted {wanted!r}")
+
+
+def try_call(call, told):
+    """Tries what a call printed with each request refused in turn."""
+    ends = {}
     for name in sorted(name for name in told if name.startswith(f"{call}+")):
-        place, *lines = [line.rstrip() for line in told[name].splitlines()] or [""]
-        places.append(place)
-        if place != "before":
-            right, lacked = is_right(call, lines)
-            missed += lacked
-            if not right or (lacked and place == "after"):
-                raise AssertionError(f"{name}, {place}: {lines!r}, wanted {wanted_of(call)!r}")
-    expected = ["before"] * places.count("before") + ["at the call"] * places.count("at the call") + ["after"] * places.count("after")
-    if places != expected or "at the call" not in places or places[-1] != "after" or missed == 0:
-        raise AssertionError(f"{call}: {places!r}")
-    return missed
+        try:
+            end = judged(call, told[name])
+        except AssertionError as error:
+            raise AssertionError(f"{name}: {error}") from error
+        ends[end] = ends.get(end, 0) + 1
+    if "the want of memory was told" not in ends and call not in WITHOUT:
+        raise AssertionError(f"{call}: {ends}")
+    return ", ".join(f"{end} {count} times" for end, count in sorted(ends.items()))
 
 
 def main(words):
     failed = 0
-    requests = {call: (before, of_it, 1 if "--sweep" in words else each) for call, (before, of_it, each) in REQUESTS.items()}
     with tempfile.TemporaryDirectory(prefix="desk-calls-") as room:
         folder = pathlib.Path(room)
-        write_cases(folder / "cases", requests)
+        write_cases(folder / "cases", "--sweep" in words)
         print("compiling the calls that are refused memory, some two minutes", flush=True)
         told = told_by(copy_of_the_crates(folder / "copy"), folder / "cases")
-    for call in requests:
+    for call in REQUESTS:
         try:
-            print(f"ok {call}: {judged(call, told)} times without memory")
+            print(f"ok {call}: {try_call(call, told)}")
         except AssertionError as error:
             failed += 1
             print(f"FAILED {str(error)[:3000]}")
-    print(f"{len(requests) - failed} passed, {failed} failed")
+    print(f"{len(REQUESTS) - failed} passed, {failed} failed")
     return 1 if failed else 0
 
 
