@@ -2,7 +2,7 @@
 
 PREFIX ?= /usr/local
 
-.PHONY: run desk test wrong-bodies bench page install clean python
+.PHONY: run desk test sweep wrong-bodies bench page install clean python
 
 run: python
 	@python3 scripts/run_desk
@@ -12,6 +12,10 @@ desk: python
 
 test: python
 	@python3 scripts/gate
+
+sweep: desk
+	@python3 tests/try_hostile.py build/desk --sweep
+	@python3 tests/memory_each_call.py --sweep
 
 wrong-bodies: python
 	@python3 scripts/wrong_bodies

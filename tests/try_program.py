@@ -28,7 +28,6 @@ import compare
 import edges
 import holiday_lists
 import local_times
-import refused_memory
 import straightened
 import tables
 
@@ -174,7 +173,7 @@ def all_tests(program):
     yield "the first run of docs/OPERATING.md", lambda room: try_first_run_of_the_document(program, room)
     yield "the straightened day of docs/OPERATING.md", lambda room: try_straightened_day_of_the_document(program, room)
     for what, tests in (("edge", edges.TESTS), ("holiday lists", holiday_lists.TESTS), ("local times", local_times.TESTS),
-                        ("straightened", straightened.TESTS), ("refused memory", refused_memory.TESTS)):
+                        ("straightened", straightened.TESTS)):
         for test in tests:
             yield f"{what}: {test.__name__.replace('_', ' ')}", lambda room, test=test: try_call(program, test, room)
 

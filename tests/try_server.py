@@ -18,6 +18,7 @@ import tempfile
 import time
 from concurrent.futures import ThreadPoolExecutor
 
+import databases
 import reports
 import served_lists
 import tables
@@ -57,12 +58,14 @@ def a_request_is_answered_however_it_is_cut(program, folder):
     expect(rows(folder, "SELECT * FROM place"), [("R101-SET", 8, 2150)])
 
 
-def a_request_that_ends_early_changes_nothing(program, folder):
-    """One that ends in its head is none, one that ends in its body is cut; and then the whole one is answered."""
+def cut_each(program, folder):
+    """The request ended after each byte: after none it is none, in its head H1 and in its body H5. Nothing is changed."""
     head = len(REQUEST) - len(COMMAND)
-    with serving(program, folder, len(REQUEST)) as server:
-        for end in range(1, len(REQUEST)):
-            expect((end, server.ask(REQUEST[:end])), (end, refused("H1" if end < head else "H5")))
+    with serving(program, folder, len(REQUEST) + 1) as server:
+        for end in range(len(REQUEST)):
+            wanted = refused("H1" if end < head else "H5") if end else b""
+            expect((end, server.ask(REQUEST[:end])), (end, wanted))
+        expect((databases.held(folder)["command"], databases.held(folder)["place"]), ([], []))
         expect(server.ask(REQUEST), RESPONSE)
         server.end()
     expect(rows(folder, "SELECT panel, number FROM command"), [("P1", 1)])
@@ -308,14 +311,8 @@ def the_last_number_is_like_any_other(program, folder):
     expect(rows(folder, "SELECT * FROM panel ORDER BY name"), [("P1", 1000000000001), ("P2", 1000000000001)])
 
 
-# The six tables of version 1, in which P1 switched LIGHT on at 8 under the numbers from 1 to 1,001.
-VERSION_1 = """
-CREATE TABLE desk (id INTEGER PRIMARY KEY CHECK (id = 1), version INTEGER NOT NULL, last INTEGER) STRICT;
-CREATE TABLE panel (name TEXT PRIMARY KEY NOT NULL, next INTEGER NOT NULL CHECK (next >= 1)) STRICT;
-CREATE TABLE command (panel TEXT NOT NULL, number INTEGER NOT NULL, point TEXT NOT NULL, priority INTEGER NOT NULL, value INTEGER, state INTEGER NOT NULL CHECK (state >= 0 AND state <= 2), a INTEGER, b INTEGER, PRIMARY KEY (panel, number)) STRICT;
-CREATE TABLE place (point TEXT NOT NULL, priority INTEGER NOT NULL CHECK (priority >= 1 AND priority <= 16), value INTEGER NOT NULL, PRIMARY KEY (point, priority)) STRICT;
-CREATE TABLE shown (schedule TEXT PRIMARY KEY NOT NULL, value INTEGER) STRICT;
-CREATE TABLE imported (calendar TEXT NOT NULL, entry TEXT NOT NULL, PRIMARY KEY (calendar, entry)) STRICT;
+# Tables of version 1, in which P1 switched LIGHT on at 8 under the numbers from 1 to 1,001.
+VERSION_1 = databases.SCHEMA + """
 INSERT INTO desk VALUES (1, 1, NULL);
 INSERT INTO place VALUES ('LIGHT', 8, 1);
 INSERT INTO panel VALUES ('P1', 1002);
@@ -447,7 +444,7 @@ def curl_gets_each_route(program, folder):
 
 TESTS = [
     a_request_is_answered_however_it_is_cut,
-    a_request_that_ends_early_changes_nothing,
+    cut_each,
     each_request_gets_its_answer,
     each_head_gets_its_answer,
     each_target_has_its_route,

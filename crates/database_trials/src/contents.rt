@@ -1,4 +1,6 @@
 //! What a store holds, as text: the answer of each of its reads, for the names of the worked building.
+ghost use Rattle.std.specs.Prelude.{◌≤◌};
+
 use points::Name;
 use std::fmt::{Debug, Write};
 use std::test::Fail;
@@ -21,11 +23,26 @@ fn push_rows<S: Store>(store: &mut S, panel: &Name, content: &mut String) -> Res
     Ok(())
 }
 
+fn push_run<S: Store>(
+    store: &mut S,
+    panel: &Name,
+    from: u64,
+    upto: u64,
+    content: &mut String,
+) -> Result<(), Fail>
+    requires { from ≤ upto }
+{
+    push_told("run", store.commands_run(panel, from, upto), content)
+}
+
 fn push_panel<S: Store>(store: &mut S, name: &str, content: &mut String) -> Result<(), Fail> {
     let panel = Name::read(name)?;
     push_told("panel", name, content)?;
     push_told("next", store.panel_next(&panel), content)?;
-    push_told("run", store.commands_run(&panel, 1, 4), content)?;
+    push_run(store, &panel, 1, 4, content)?;
+    push_run(store, &panel, 2, 2, content)?;
+    push_run(store, &panel, 5, 6, content)?;
+    push_run(store, &panel, 1, 70, content)?;
     push_rows(store, &panel, content)
 }
 
@@ -40,12 +57,13 @@ fn push_clock<S: Store>(store: &mut S, content: &mut String) -> Result<(), Fail>
     push_told("entries", store.entries(&Name::read("HOLIDAYS")?), content)
 }
 
-/// Appends what a store answers to each read.
+/// Appends what a store answers to each read, and how often its disk has failed.
 pub(crate) fn push_content<S: Store>(store: &mut S, content: &mut String) -> Result<(), Fail> {
     push_told("names", store.names(), content)?;
     push_panel(store, "P1", content)?;
     push_panel(store, "P2", content)?;
     push_point(store, "R101-SET", content)?;
     push_point(store, "LIGHT", content)?;
-    push_clock(store, content)
+    push_clock(store, content)?;
+    push_told("failures", store.failures(), content)
 }

@@ -1,5 +1,5 @@
-//! The desk over a database whose disk stops or fails at a call, one of version 1 that is opened on such a disk, and
-//! tables that are made twice. What the program shows of both stores is tried on it. There is no code here but tests, so
+//! The desk over a database whose disk stops or fails at a call (`stop_each`), one of version 1 that is opened on such a
+//! disk, and tables that are made twice. What the program shows of both stores is tried on it. There is no code here but tests, so
 //! that nothing is proved twice for them.
 #![tactic(auto)]
 
@@ -14,7 +14,7 @@ mod faulty_disk;
 #[cfg(test)]
 mod scripts;
 #[cfg(test)]
-mod stops;
+mod stop_each;
 #[cfg(test)]
 mod version_1;
 #[cfg(test)]

@@ -1,6 +1,7 @@
 //! Lines that are delivered to a desk over a store, and what is told of it as text.
 use crate::contents::push_content;
 use building::Building;
+use deliveries::{Delivery, Reply};
 use delivery_lines::LineFault;
 use desk::Desk;
 use desk_cli::answer_line;
@@ -20,7 +21,7 @@ pub(crate) struct Script<'a> {
     pub(crate) lines: &'a str,
 }
 
-/// What a desk tells, the reply or the fault of each line; and what its store holds before the lines and after them.
+/// What a desk tells, the reply or the fault of each line, and then of a run; and what its store holds before and after.
 #[derive(Drop)]
 pub(crate) struct Told {
     pub(crate) before: String,
@@ -73,7 +74,34 @@ fn push_answers<S: Store + Drop>(
     Ok(())
 }
 
-// Tells a desk the lines of a script, and gives its store back.
+// What a run of one delivery that changes nothing is told, without what is promised of it.
+fn ran<S: Store + Drop>(desk: &mut Desk<S>) -> (Vec<Reply>, Option<StoreFault>) {
+    desk.run(&[Delivery::Tick { at: -1 }])
+}
+
+/// What is told of such a run: how many replies there are, and the fault.
+pub(crate) const RUN: &str = "run 1 None\n";
+
+/// The same where the store is shut.
+pub(crate) const RUN_SHUT: &str = "run 0 Some(Shut)\n";
+
+fn push_run<S: Store + Drop>(desk: &mut Desk<S>, printed: &mut String) -> Result<(), Fail> {
+    let (replies, fault) = ran(desk);
+    writeln!(printed, "run {} {fault:?}", replies.len())?;
+    Ok(())
+}
+
+fn push_all<S: Store + Drop>(
+    alloc: Global,
+    desk: &mut Desk<S>,
+    lines: &str,
+    printed: &mut String,
+) -> Result<(), Fail> {
+    push_answers(alloc, desk, lines, printed)?;
+    push_run(desk, printed)
+}
+
+// Tells a desk the lines of a script, and then runs a delivery that changes nothing; and gives its store back.
 fn run_desk<S: Store + Drop>(
     alloc: Global,
     desk: Desk<S>,
@@ -81,7 +109,7 @@ fn run_desk<S: Store + Drop>(
     told: &mut Told,
 ) -> (Result<(), Fail>, S) {
     let mut desk = desk;
-    let done = push_answers(alloc, &mut desk, script.lines, &mut told.printed);
+    let done = push_all(alloc, &mut desk, script.lines, &mut told.printed);
     let mut store = desk.into_store();
     match done {
         Ok(()) => (push_content(&mut store, &mut told.after), store),

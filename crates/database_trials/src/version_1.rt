@@ -1,7 +1,7 @@
 //! A database of version 1, which other statements made, and a disk that meets trouble while it is opened.
 use crate::disks::{File, Image, Left, Place, run_on_disk, run_statements};
 use crate::faulty_disk::Trouble;
-use crate::scripts::{Script, Told, assert_holds, assert_same};
+use crate::scripts::{RUN, Script, Told, assert_holds, assert_same};
 use crate::worked_buildings::without_schedule;
 use std::alloc::{AllocError, Global};
 use std::process::Abort;
@@ -26,13 +26,23 @@ fn begun(alloc: Global) -> Result<String, AllocError> {
     Ok(statements)
 }
 
-/// The version; the next numbers by panel; how many rows of commands are kept; the least and the greatest number of P1.
-const QUERIES: [&str; 5] = [
-    "SELECT version FROM desk",
+/// All that the tables hold, a column after the other: the version and the next numbers by panel; of the rows of commands,
+/// in their order, the numbers, those that are of P1 and of LIGHT, the priorities, values and states, and what was answered;
+/// and the places. What is NULL is told as -1.
+const QUERIES: [&str; 13] = [
+    "SELECT version FROM desk WHERE last IS NULL",
     "SELECT next FROM panel ORDER BY name",
-    "SELECT COUNT(*) FROM command",
-    "SELECT MIN(number) FROM command WHERE panel = 'P1'",
-    "SELECT MAX(number) FROM command WHERE panel = 'P1'",
+    "SELECT number FROM command ORDER BY panel, number",
+    "SELECT panel = 'P1' FROM command ORDER BY panel, number",
+    "SELECT point = 'LIGHT' FROM command ORDER BY panel, number",
+    "SELECT priority FROM command ORDER BY panel, number",
+    "SELECT coalesce(value, -1) FROM command ORDER BY panel, number",
+    "SELECT state FROM command ORDER BY panel, number",
+    "SELECT coalesce(a, -1) FROM command ORDER BY panel, number",
+    "SELECT coalesce(b, -1) FROM command ORDER BY panel, number",
+    "SELECT priority FROM place WHERE point = 'LIGHT' AND value = 1",
+    "SELECT COUNT(*) FROM shown",
+    "SELECT COUNT(*) FROM imported",
 ];
 
 /// Commands of two panels, of which two are more than 1,000 below the next number of P1.
@@ -74,9 +84,14 @@ fn script(lines: &str) -> Script<'_> {
 const MOST_CALLS: u64 = 1000;
 
 /// What the queries answer before the database of few commands is opened, and after.
-const BEFORE: &str = "1;1005 1002;5;3;1004;";
+const BEFORE: &str =
+    "1;1005 1002;3 4 5 1004 2;1 1 1 1 0;1 1 1 1 0;8 8 8 8 6;1 1 1 1 2000;1 1 1 1 2;1 1 1 1 4;8 8 8 8 -1;8;0;0;";
 
-const AFTER: &str = "2;1005 1002;3;5;1004;";
+const AFTER: &str = "2;1005 1002;5 1004 2;1 1 0;1 1 0;8 8 6;1 1 2000;1 1 2;1 1 4;8 8 -1;8;0;0;";
+
+/// What they answer after the lines.
+const AFTER_LINES: &str =
+    "2;1006 1002;1004 1005 2;1 1 0;1 1 0;8 8 6;1 0 2000;1 1 2;1 0 4;8 8 -1;;0;0;";
 
 const LINES: &str = r#"{"number":4,"panel":"P1","point":"LIGHT","priority":8,"value":1}
 {"number":5,"panel":"P1","point":"LIGHT","priority":8,"value":1}
@@ -91,6 +106,7 @@ const REPLIES: &str = r#"{"answer":"forgotten","number":4}
 {"answer":"forgotten","number":1}
 {"answer":"done","number":1005,"present":0,"priority":8}
 {"answer":"forgotten","number":5}
+run 1 None
 "#;
 
 // The files hold the tables of version 1 or those of version 2, and are opened as if nothing had been.
@@ -109,7 +125,7 @@ fn assert_whole(
     let left = run_on_disk(alloc, image, Place::nowhere(), script(LINES), &mut told)?;
     assert_same(rt, told.printed.as_str(), REPLIES, place);
     let after = rows_in(alloc, left.synced())?;
-    assert_same(rt, after.as_str(), "2;1006 1002;3;1004;1005;", place);
+    assert_same(rt, after.as_str(), AFTER_LINES, place);
     Ok(())
 }
 
@@ -117,7 +133,7 @@ fn assert_whole(
 fn try_place(rt: &impl Abort, alloc: Global, start: Image<'_>, place: Place) -> Result<bool, Fail> {
     let mut told = Told::new(alloc);
     let left = run_on_disk(alloc, start, place, script(""), &mut told)?;
-    let is_opened = told.printed.is_empty();
+    let is_opened = told.printed.as_str() == RUN;
     let is_told = is_opened || left.has_failed;
     assert_holds(rt, is_told, (place, told.printed.as_str()));
     for image in left.images() {

@@ -8,18 +8,37 @@ use desk_console::{Input, Listed, Status};
 use std::env;
 use std::fs::{self, File};
 use std::io::{self, BufReader, BufWriter, Write};
+use std::os::fd::AsRawFd;
 use std::process::ExitCode;
 use store_runs::Serving;
 
 mod runs;
 
+/// The null device, opened for reading, where it gets the number of a standard descriptor that is closed. Where no
+/// descriptor is left to be had no file gets such a number either.
+fn hold_standard_descriptor(rt: &HostRuntime) -> io::Result<Option<File>> {
+    match fs::open(rt, "/dev/null") {
+        Ok(device) => {
+            if device.as_raw_fd() <= 2 {
+                Ok(Some(device))
+            } else {
+                Ok(None)
+            }
+        }
+        Err(error) => match error.kind() {
+            io::ErrorKind::NotFound | io::ErrorKind::PermissionDenied => Err(error),
+            _ => Ok(None),
+        },
+    }
+}
+
 /// Opens the null device, for reading, on each standard descriptor that is closed, so that no other file
 /// gets its number. A write to such a descriptor fails, as it should.
-fn take_standard_descriptors(rt: &HostRuntime) -> io::Result<[File; 3]> {
+fn take_standard_descriptors(rt: &HostRuntime) -> io::Result<[Option<File>; 3]> {
     Ok([
-        fs::open(rt, "/dev/null")?,
-        fs::open(rt, "/dev/null")?,
-        fs::open(rt, "/dev/null")?,
+        hold_standard_descriptor(rt)?,
+        hold_standard_descriptor(rt)?,
+        hold_standard_descriptor(rt)?,
     ])
 }
 

@@ -1,5 +1,5 @@
-//! The desk and requests to it, as calls: a run of deliveries, inputs that are no request, the loopback, and the
-//! worked request in any two pieces, cut and with a lost reply, over tables in memory; a replay whose reader or writer
+//! The desk and requests to it, as calls: a run of deliveries, the loopback, and the worked request in any two pieces,
+//! cut, with each of its reads failing (`ends_each`), and with a reply that is lost after each byte, over tables in memory; a replay whose reader or writer
 //! fails; and that a command of the usual form is read in one pass, which no contract says. What each request gets, and
 //! how the same goes over a database, is tried on the program. There is no code here but tests, so that no other crate
 //! is proved twice for them.
@@ -12,11 +12,11 @@ mod desks;
 #[cfg(test)]
 mod ends;
 #[cfg(test)]
+mod ends_each;
+#[cfg(test)]
 mod loopback;
 #[cfg(test)]
 mod members;
-#[cfg(test)]
-mod no_requests;
 #[cfg(test)]
 mod runs;
 #[cfg(test)]

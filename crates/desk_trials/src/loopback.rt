@@ -9,11 +9,16 @@ use std::net::{Ipv4Addr, SocketAddr, TcpListener, TcpStream};
 use std::test::Fail;
 use store::Store;
 
-// What is made of the request of a connection.
-fn serve_stream<S: Store + Drop>(alloc: Global, desk: &mut Desk<S>, stream: &TcpStream) -> Served {
+// What is made of the request of a connection, and whether an end of it failed.
+fn serve_stream<S: Store + Drop>(
+    alloc: Global,
+    desk: &mut Desk<S>,
+    stream: &TcpStream,
+) -> (Served, bool) {
     let mut reader = Counted::new(stream);
     let mut writer = Counted::new(stream);
-    served(alloc, desk, &mut reader, &mut writer)
+    let served = served(alloc, desk, &mut reader, &mut writer);
+    (served, reader.failures() > 0 || writer.failures() > 0)
 }
 
 // What the command gets over the loopback: a client connects and writes it, the desk accepts and answers, and the client
@@ -26,10 +31,14 @@ fn got_over_the_loopback<S: Store + Drop>(
     let mut client = TcpStream::connect(rt, listener.local_addr()?)?;
     client.write_all(command().as_bytes())?;
     let (stream, _peer) = listener.accept()?;
-    let served = serve_stream(rt.alloc(), desk, &stream);
+    let (served, has_failed) = serve_stream(rt.alloc(), desk, &stream);
     let mut text = vec![in rt.alloc(); 0u8; done().len()]?;
     client.read_exact(&mut text)?;
-    Ok(Got { served, text })
+    Ok(Got {
+        served,
+        text,
+        has_failed,
+    })
 }
 
 // What it gets of a new desk.

@@ -2,7 +2,7 @@
 //! goes on.
 use crate::disks::{File, Image, Left, Place, run_on_disk};
 use crate::faulty_disk::Trouble;
-use crate::scripts::{Script, Told, assert_holds, assert_same, run_in_memory};
+use crate::scripts::{RUN, RUN_SHUT, Script, Told, assert_holds, assert_same, run_in_memory};
 use crate::worked_buildings::worked_building;
 use crate::worked_script::{
     COUNT, deliveries, first_lines, first_replies, lines_after, replies_after,
@@ -72,16 +72,17 @@ fn answered_in(printed: &str) -> usize {
     count
 }
 
-// What is told of the list where the store is shut after so many answers.
+// What is told of the list, and then of a run of one delivery, where the store is shut after so many answers.
 fn stopped_text(alloc: Global, answered: usize) -> Result<String, Fail> {
     let mut text = first_replies(alloc, answered)?;
     for place in answered..COUNT {
         text.push_str(if place == answered { "S2\n" } else { "S3\n" })?;
     }
+    text.push_str(if answered == COUNT { RUN } else { RUN_SHUT })?;
     Ok(text)
 }
 
-// The delivery at which a disk meets trouble is answered S2, and each one after it S3.
+// The delivery at which a disk meets trouble is answered S2, and each one after it S3, also in a run, which has no reply.
 fn assert_told(
     rt: &impl Abort,
     alloc: Global,
@@ -115,7 +116,8 @@ fn assert_goes_on(
         let is_made = wanted.is_after(answered.saturating_add(1), told.before.as_str());
         assert_holds(rt, is_made, (place, told.before.as_str()));
     }
-    let replies = replies_after(alloc, answered, is_repeat)?;
+    let mut replies = replies_after(alloc, answered, is_repeat)?;
+    replies.push_str(RUN)?;
     assert_same(rt, told.printed.as_str(), replies.as_str(), place);
     let is_whole = wanted.is_after(COUNT, told.after.as_str());
     assert_holds(rt, is_whole, (place, told.after.as_str()));
