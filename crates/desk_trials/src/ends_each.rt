@@ -40,7 +40,7 @@ fn assert_untouched<S: Store + Drop>(rt: &impl Abort, alloc: Global, desk: &mut 
     assert_got(
         rt,
         &got,
-        Served::Answered(StatusCode::Ok),
+        Served::Answered(StatusCode::OK),
         point_before(),
         "the point",
     );
