@@ -4,8 +4,7 @@ ghost use Rattle.sqlite.specs.Held.{state};
 ghost use Rattle.sqlite.specs.State.{HasCleanDisk, IsUnchanged, Survives};
 ghost use Rattle.sql_create.specs.Creating.{IsAsBefore};
 ghost use Rattle.sql_rows.specs.Looking.{Rests};
-ghost use Rattle.store_sql.specs.Opening.{IsFaultOf, IsFirst, IsFound, IsJudged, IsKnown, IsMigrated, IsRaised, IsSettled, IsShaped, IsTaken, Stands, is_sql};
-ghost use Rattle.store_sql.specs.declared.refusal.Refusal.TheVariants.{NotOurs};
+ghost use Rattle.store_sql.specs.Opening.{IsFaultOf, IsFirst, IsFound, IsJudged, IsKnown, IsMigrated, IsRaised, IsSettled, IsShaped, IsTaken, is_sql};
 
 use crate::early::dropping;
 use crate::own_rows::are_own;
@@ -60,9 +59,6 @@ fn rows_are_own<S: Alter>(connection: &mut Connection<S>) -> Result<bool, Error>
 fn find_version<S: Alter>(connection: &mut Connection<S>) -> Result<i64, Refusal>
     ensures known { HasCleanDisk (state S.Store connection.new) → IsKnown (state S.Store connection.old)
         → IfErr result (λ fault. IsTrue (is_sql fault)) }
-    ensures faults { IfErr result (λ fault. IsTrue (is_sql fault) ⊎ (fault ≡ NotOurs)) }
-    ensures stood { HasCleanDisk (state S.Store connection.new)
-        → OnOk result (((state S.Store connection.old).in_transaction ≡ false) × Stands (state S.Store connection.old)) }
     ensures mode { OnOk result (connection.new.in_transaction ≡ false) }
     ensures found { HasCleanDisk (state S.Store connection.new)
         → IfOk result (λ version. IsFound version (state S.Store connection.old) (state S.Store connection.new)) }
@@ -106,9 +102,6 @@ pub fn take<S: Alter>(alloc: Global, connection: &mut Connection<S>) -> Result<(
     ensures mode { OnOk result (connection.new.in_transaction ≡ false) }
     ensures known { HasCleanDisk (state S.Store connection.new) → IsKnown (state S.Store connection.old)
         → IfErr result (IsFaultOf (state S.Store connection.old)) }
-    ensures unknown { HasCleanDisk (state S.Store connection.new) → (IsKnown (state S.Store connection.old) → ⊥)
-        → IfErr result (λ fault. IsTrue (is_sql fault) ⊎ (fault ≡ NotOurs)) }
-    ensures was_known { HasCleanDisk (state S.Store connection.new) → OnOk result (IsKnown (state S.Store connection.old)) }
     ensures taken { HasCleanDisk (state S.Store connection.new)
         → OnOk result (IsTaken (state S.Store connection.old) (state S.Store connection.new) ⊎ IsMigrated
         (state S.Store connection.old) (state S.Store connection.new)) }
