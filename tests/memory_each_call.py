@@ -27,7 +27,7 @@ LIBRARIES = ("building", "dates", "deliveries", "delivery_lines", "desk", "desk_
 # The number of the request that is refused, as the program has it.
 REFUSED = 12_000
 # At most so many requests a call makes, with what is looked at between two; and each of which is refused without --sweep.
-REQUESTS = {"plan_command": (2, 1), "plan_skip": (2, 1), "segments": (12, 3), "straighten": (100, 20), "run-memory": (440, 44),
+REQUESTS = {"plan_command": (2, 1), "plan_skip": (2, 1), "segments": (6, 2), "straighten": (100, 20), "run-memory": (440, 44),
             "run-database": (5_000, 625), "point-memory": (1, 1), "point-database": (24, 8)}
 # What needs no memory.
 WITHOUT = {"point-memory"}
