@@ -20,13 +20,7 @@ DAY = datetime.date(2025, 6, 2)
 CHECKED = b"ok: 2 points, 2 panels, 1 calendars, 1 schedules\n"
 NO_BUILDING, NO_HOLIDAYS = (f"desk: cannot read {name}\n".encode() for name in ("building.toml", "holidays.csv"))
 NO_STORE = b"desk: store fault S2\n"
-NO_ADDRESS = b"desk: cannot listen on 127.0.0.1:"
-STATUSES = {b"": 0, NO_BUILDING: 1, NO_HOLIDAYS: 1, NO_STORE: 3, NO_ADDRESS: 1}
-
-
-def fault_of(ended):
-    """What a run told, without the number of a port."""
-    return NO_ADDRESS if ended.told.startswith(NO_ADDRESS) else ended.told
+STATUSES = {b"": 0, NO_BUILDING: 1, NO_HOLIDAYS: 1, NO_STORE: 3}
 
 
 def expect_ends(begin, faults, may_be_lost=False):
@@ -36,11 +30,10 @@ def expect_ends(begin, faults, may_be_lost=False):
     for most in range(LEAST, MOST):
         run, program, folder = begin()
         ended = run.run(program, folder, shims.environment("disk_trouble", TROUBLE_DESCRIPTORS=most))
-        fault = fault_of(ended)
-        expect((most, ended.told, ended.status), (most, ended.told, STATUSES.get(fault)))
-        told.append(fault)
+        expect((most, ended.told, ended.status), (most, ended.told, STATUSES.get(ended.told)))
+        told.append(ended.told)
         answered.append(ended.printed == run.answer)
-        if ended.printed not in (run.answer, b"") or not (fault or may_be_lost or answered[-1]):
+        if ended.printed not in (run.answer, b"") or not (ended.told or may_be_lost or answered[-1]):
             raise AssertionError(f"with {most} descriptors {ended!r}, wanted {run.answer!r}")
     expect(told, sorted(told, key=[*faults, b""].index))
     expect((list(dict.fromkeys(told)), answered[-1]), ([*faults, b""], True))
@@ -88,7 +81,7 @@ def a_database_that_cannot_be_opened_is_told(program, folder):
     over_tables(trial, [NO_BUILDING, NO_STORE], ByWords(("report", "building.toml", databases.NAME, str(DAY)), told))
     point = point_text(BUILDING, state.places, BUILDING.points[0]).encode()
     server = ByRequest(get("/points/R101-SET"), response(200, point))
-    over_tables(trial, [NO_BUILDING, NO_STORE, NO_ADDRESS], server, may_be_lost=True)
+    over_tables(trial, [NO_BUILDING, NO_STORE], server, may_be_lost=True)
 
 
 def a_holiday_list_that_cannot_be_read_is_named(program, folder):

@@ -27,8 +27,8 @@ LIBRARIES = ("building", "dates", "deliveries", "delivery_lines", "desk", "desk_
 # The number of the request that is refused, as the program has it.
 REFUSED = 12_000
 # At most so many requests a call makes, with what is looked at between two; and each of which is refused without --sweep.
-REQUESTS = {"plan_command": (2, 1), "plan_skip": (2, 1), "segments": (12, 2), "straighten": (120, 15), "run-memory": (800, 80),
-            "run-database": (10_000, 1_000), "point-memory": (1, 1), "point-database": (40, 5)}
+REQUESTS = {"plan_command": (2, 1), "plan_skip": (2, 1), "segments": (6, 2), "straighten": (100, 20), "run-memory": (440, 44),
+            "run-database": (5_000, 625), "point-memory": (1, 1), "point-database": (24, 8)}
 # What needs no memory.
 WITHOUT = {"point-memory"}
 LIST = (*SKIPPED, *TICKS, HOLIDAY, *(command("P1", number, "R101-SET", 8, 1500 + 100 * number) for number in (7, 6, 5)), OTHER)

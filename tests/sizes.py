@@ -239,13 +239,13 @@ def within(most, program, folder):
 
 
 def largest_pages_fit_the_unit(program, folder):
-    """A database of the largest pages is served under the unit's limit, past the copying of its log."""
+    """A database of the largest pages is served in a quarter of the unit's memory, past the copying of its log."""
     asked = [light(number) for number in range(5, 5 + COMMITS) if number not in (6, 7)]
     whole = [*EACH_KIND, *asked]
     trial = Trial(program, folder, BUILDING, EACH_KIND, asked[0], by_request=True, page_size=LARGEST_PAGE)
     trial.begin()
     replies = run_of(BUILDING, whole)[0][len(EACH_KIND):]
-    with serving(within(memory_of_the_unit(), program, folder), folder, len(asked)) as server:
+    with serving(within(memory_of_the_unit() // 4, program, folder), folder, len(asked)) as server:
         for delivery, reply in zip(asked, replies):
             expect((delivery, server.ask(request_of(members_of(delivery)))), (delivery, answered(reply)))
         server.end()

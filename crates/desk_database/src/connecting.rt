@@ -1,5 +1,5 @@
 //! A connection to the database in a file and its log.
-ghost use Rattle.std.specs.Prelude.{◌≡◌, [], IsTrue, IfOk, IfErr};
+ghost use Rattle.std.specs.Prelude.{◌≡◌, ◌/◌, [], IsTrue, IfOk, IfErr};
 ghost use Rattle.sqlite_wal.specs.PageSize.{bytes_of};
 ghost use Rattle.sqlite_store.specs.FileStore.{view};
 ghost use Rattle.sqlite_store.specs.Unopened.{files_of, image, state_of, wanted_by, AreUsable, Creates};
@@ -9,7 +9,6 @@ ghost use Rattle.sqlite.specs.State.{HasCleanDisk};
 ghost use Rattle.sqlite.specs.Files.{file_state, faults_left, IsCleanLeft, IsFullLeft, IsOpened};
 ghost use Rattle.sqlite.specs.Opening.{blurred, is_open_error, probed, reported, FailsFor, FailsToMake, IsMade};
 ghost use Rattle.desk_database.specs.Begun.{FailsToConnect, FindsOrBegins, IsBegun, LeavesFound, LeavesMade};
-ghost use Rattle.desk_database.specs.declared.connecting.TheConstants.{PAGES_IN_LOG, PAGES_IN_MEMORY};
 
 use sqlite::{Connection, Error, ErrorCode, FileStore, Files, Leftover, Options};
 use sqlite_disk::Disk;
@@ -21,22 +20,18 @@ use std::alloc::{AllocFailed, Global};
 /// The bytes of a page of a new database, a quarter of SQLite's own: a command writes five pages whole.
 const PAGE_BYTES: usize = 1024;
 
-/// How many pages are kept in memory, of those read and of those written, before they are let go or go to the log: 8 MB.
-const PAGES_IN_MEMORY: usize = 8000;
-
-/// How many pages the log has before it is copied into the database file: 4 MB, as with SQLite's own pages.
-const PAGES_IN_LOG: usize = 4000;
-
-/// How a database with pages of this size is kept. The seed is a random number.
-pub fn options(seed: u64) -> Options
+/// How a database is kept of which so many pages are kept in memory, of those read and of those written, before they are
+/// let go or go to the log; half as many has the log before it is copied into the database file. The seed is a random
+/// number.
+pub fn options(seed: u64, pages: usize) -> Options
     ensures seed { result.seed ≡ seed }
-    ensures memory { (result.cache_pages ≡ PAGES_IN_MEMORY) × (result.spill_pages ≡ PAGES_IN_MEMORY) }
-    ensures log { result.checkpoint_frames ≡ PAGES_IN_LOG }
+    ensures memory { (result.cache_pages ≡ pages) × (result.spill_pages ≡ pages) }
+    ensures log { result.checkpoint_frames ≡ pages / 2 }
 {
     Options {
-        cache_pages: PAGES_IN_MEMORY,
-        spill_pages: PAGES_IN_MEMORY,
-        checkpoint_frames: PAGES_IN_LOG,
+        cache_pages: pages,
+        spill_pages: pages,
+        checkpoint_frames: pages / 2,
         seed,
     }
 }

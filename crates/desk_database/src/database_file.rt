@@ -12,8 +12,9 @@ use sqlite::{
 use sqlite_disk::Disk;
 use sqlite_std_file::OpenError;
 use std::alloc::Global;
+use std::fs;
 use std::hash::{BuildHasher, RandomState};
-use std::io::ErrorKind;
+use std::io::{ErrorKind, Read};
 use store::OpenFault;
 use store_sql::SqlStore;
 
@@ -34,6 +35,40 @@ fn files_fault(error: &OpenError) -> OpenFault {
         OpenError::OutOfMemory => OpenFault::NoMemory,
         OpenError::Io(error) if error.kind() == ErrorKind::OutOfMemory => OpenFault::NoMemory,
         _ => OpenFault::Failed,
+    }
+}
+
+/// How many pages of a new database are kept in memory: 8 MB.
+const PAGES: usize = 8_000;
+
+/// The length of a database file's header up to the size of its pages.
+const HEADER: usize = 18;
+
+/// How many pages of a size, as the header tells it, are 8 MB: room for them is made when a database is opened. A file that
+/// tells none is a new one.
+fn pages_of(told: u16) -> usize {
+    match told {
+        512 => 16_000,
+        2_048 => 4_000,
+        4_096 => 2_000,
+        8_192 => 1_000,
+        16_384 => 500,
+        32_768 => 250,
+        // 65,536, which two bytes can't tell
+        1 => 125,
+        _ => PAGES,
+    }
+}
+
+/// How many pages are kept in memory of the database in a file.
+fn pages_at(rt: &HostRuntime, path: &str) -> usize {
+    let mut header = [0u8; HEADER];
+    match fs::open(rt, path) {
+        Ok(mut file) => match file.read_exact(&mut header) {
+            Ok(()) => pages_of(u16::from_be_bytes([header[16], header[17]])),
+            Err(_) => PAGES,
+        },
+        Err(_) => PAGES,
     }
 }
 
@@ -89,5 +124,6 @@ pub fn open_store(rt: &HostRuntime, path: &str) -> Result<SqlStore<FileStore<Fil
     let Ok(state) = RandomState::new(rt) else {
         return Err(OpenFault::Failed);
     };
-    store_in(rt.alloc(), files, options(state.hash_one(&0u8)))
+    let options = options(state.hash_one(&0u8), pages_at(rt, path));
+    store_in(rt.alloc(), files, options)
 }
