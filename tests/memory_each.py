@@ -14,6 +14,7 @@ import os
 
 import databases
 import shims
+from check_cases import description
 from compare import toml_of
 from runs import ByRequest, ByWords, Ended, Trial
 from serving import expect, get, response
@@ -122,6 +123,12 @@ def check_answers_or_tells_the_want_of_memory(program, folder):
     if can_refuse():
         files_for(folder, ())
         try_words(program, folder, ("check", "building.toml"), CHECKED)
+
+
+def describe_prints_all_or_nothing(program, folder):
+    if can_refuse():
+        files_for(folder, ())
+        try_words(program, folder, ("describe", "building.toml"), description((folder / "building.toml").read_bytes()))
 
 
 def replay_prints_all_or_a_beginning(program, folder):
@@ -249,6 +256,7 @@ def a_point_over_http_is_told_or_not(program, folder):
 
 TESTS = (
     check_answers_or_tells_the_want_of_memory,
+    describe_prints_all_or_nothing,
     replay_prints_all_or_a_beginning,
     straighten_prints_all_or_a_beginning,
     a_tick_makes_a_database,
