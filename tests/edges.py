@@ -271,7 +271,10 @@ def full_pipe():
 def has_open(desk, path):
     """Whether the process has the file open and waits."""
     waits = pathlib.Path(f"/proc/{desk.pid}/stat").read_text().rpartition(") ")[2].startswith("S")
-    opened = [os.readlink(link) for link in pathlib.Path(f"/proc/{desk.pid}/fd").iterdir()]
+    opened = set()
+    for link in pathlib.Path(f"/proc/{desk.pid}/fd").iterdir():
+        with contextlib.suppress(FileNotFoundError):  # closed since
+            opened.add(os.readlink(link))
     return waits and str(path.resolve()) in opened
 
 
