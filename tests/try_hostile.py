@@ -36,7 +36,7 @@ def tried(program, test):
     with tempfile.TemporaryDirectory(prefix="desk-hostile-", dir=IN_MEMORY) as room:
         try:
             test(program, pathlib.Path(room))
-        except (AssertionError, OSError, sqlite3.Error, subprocess.SubprocessError) as error:
+        except (AssertionError, OSError, ValueError, sqlite3.Error, subprocess.SubprocessError) as error:
             return f"{type(error).__name__}: {error}"
     return ""
 
