@@ -1,14 +1,17 @@
-# The desk: make run replays the example, make desk proves and builds the program, make test is the gate, make page shows the page.
+# The desk: make run replays the example, make desk proves and builds the program, make panel that of a panel's end, make test is the gate, make page shows the page.
 
 PREFIX ?= /usr/local
 
-.PHONY: run desk test sweep wrong-bodies bench page install clean python
+.PHONY: run desk panel test sweep wrong-bodies bench page install clean python
 
 run: python
 	@python3 scripts/run_desk
 
 desk: python
 	@python3 scripts/build_desk
+
+panel: python
+	@python3 scripts/build_desk panel
 
 test: python
 	@python3 scripts/gate
@@ -29,8 +32,9 @@ bench: desk
 page: desk
 	@python3 scripts/show_page
 
-install: desk
+install: desk panel
 	install -D -m 755 build/desk $(DESTDIR)$(PREFIX)/bin/desk
+	install -D -m 755 build/panel $(DESTDIR)$(PREFIX)/bin/panel
 	install -D -m 644 -t $(DESTDIR)$(PREFIX)/share/desk/page deploy/page/*
 
 clean:

@@ -24,13 +24,13 @@ COMMANDS, COUNTED = 10_000, 2_000
 RUNS = 5
 
 
-def write_building(path):
+def write_building(path, panels=PANELS):
     with open(path, "w") as out:
         out.write('zone = "UTC0"\n')
         for point in range(1, POINTS + 1):
             out.write(f'[[point]]\nname = "ROOM-{point}"\nkind = "analog"\nlow = 500\nhigh = 3500\ndefault = 1800\n')
         names = ", ".join(f'"ROOM-{point}"' for point in range(1, POINTS + 1))
-        for panel in range(1, PANELS + 1):
+        for panel in range(1, panels + 1):
             out.write(f'[[panel]]\nname = "PANEL-{panel}"\npoints = [{names}]\npriorities = [8, 10]\n')
 
 

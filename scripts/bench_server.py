@@ -1,7 +1,7 @@
 """Measures `desk serve` over the loopback: requests a second, one connection after another, and how long each takes.
 
 The requests are made by `scripts/http_load.cpp`, which wants g++: commands in order, a mix of commands, repeats and
-points, and points alone, each over a new database. Where `strace` is installed, the share of the time that the server
+points, and points alone, each over a new database; then commands and points by 64 clients at once. Where `strace` is installed, the share of the time that the server
 waits for the disk is told too. The commands in order are taken as well by `scripts/plain_desk.cpp` where that can be
 built: the two servers take turns, on the disk as it is, and with `strace` on a disk of memory each of whose syncs waits
 so long that the plain server makes some 2,830 commands a second, as it did on the machine of the first measurements.
@@ -26,10 +26,11 @@ RUNS, PAIRS, PAIRS_IN_MEMORY = 3, 20, 12
 # What the plain server made a second on the disk that is the reference, and how near a wait must come to it.
 REFERENCE, NEAR = 2_830, 0.08
 MEMORY = pathlib.Path("/dev/shm")
+CLIENTS = 64
 KINDS = {"commands": "commands in order", "mixed": "commands, repeats and points", "points": "GETs of a point"}
 
 
-def served(kind, count, before=(), plain=None, folder=FOLDER):
+def served(kind, count, before=(), plain=None, folder=FOLDER, clients=1, panels=bench_database.PANELS):
     """What the load tells of so many requests to a server of a new database: the desk's, or that of the plain program."""
     database = folder / "server.db"
     bench_database.fresh(database)
@@ -38,11 +39,11 @@ def served(kind, count, before=(), plain=None, folder=FOLDER):
     if plain:
         words = [*bench_database.words_of(plain, database, count), str(port)]
     else:
-        words = [str(ROOT / "build" / "desk"), "serve", str(FOLDER / "database.toml"), str(database), f"127.0.0.1:{port}"]
+        words = [str(ROOT / "build" / "desk"), "serve", str(FOLDER / f"panels-{panels}.toml"), str(database), f"127.0.0.1:{port}"]
         words += ["--requests", str(count)]
     server = subprocess.Popen([*before, *words], stdout=subprocess.PIPE)
     server.stdout.readline()
-    load = [str(FOLDER / "http_load"), str(port), kind, str(count), str(bench_database.PANELS), str(bench_database.POINTS)]
+    load = [str(FOLDER / "http_load"), str(port), kind, str(count), str(panels), str(bench_database.POINTS), str(clients)]
     told = subprocess.run(load, capture_output=True, text=True)
     if told.returncode != 0 or server.wait() != 0:
         server.kill()
@@ -96,16 +97,22 @@ def compare_on_the_reference_disk(plain):
 
 def main():
     FOLDER.mkdir(parents=True, exist_ok=True)
-    words = ["g++", "-O2", "-std=c++17", "-o", str(FOLDER / "http_load"), str(ROOT / "scripts" / "http_load.cpp")]
+    words = ["g++", "-O2", "-std=c++17", "-pthread", "-o", str(FOLDER / "http_load"), str(ROOT / "scripts" / "http_load.cpp")]
     if not shutil.which("g++") or subprocess.run(words).returncode != 0:
         sys.exit("the load was not built: it wants g++")
     bench_database.write_building(FOLDER / "database.toml")
+    for panels in (bench_database.PANELS, CLIENTS):
+        bench_database.write_building(FOLDER / f"panels-{panels}.toml", panels)
     for kind, name in KINDS.items():
         a_second, median, hundredth = max(served(kind, REQUESTS) for _ in range(RUNS))
         line = f"{name} over HTTP: {a_second:,.0f} a second, {median:.0f} microseconds at the median, {hundredth:.0f} at the 99th hundredth"
         if shutil.which("strace") and kind != "points":
             line += f"; {waited(kind):.0%} of the time is waiting for the disk"
         print(line, flush=True)
+    for kind in ("commands", "points"):
+        pairs = [[served(kind, REQUESTS, clients=clients, panels=CLIENTS)[0] for clients in (CLIENTS, 1)] for _ in range(RUNS)]
+        print(f"{KINDS[kind]} by {CLIENTS} clients at once: {max(pair[0] for pair in pairs):,.0f} a second, where by one "
+              f"{max(pair[1] for pair in pairs):,.0f}", flush=True)
     plain = bench_database.built_plain()
     if plain:
         compare(plain)

@@ -1,6 +1,7 @@
-// Asks a server over the loopback, one connection after another, and tells how fast it answered.
+// Asks a server over the loopback, and tells how fast it answered.
 //
-// http_load PORT KIND COUNT PANELS POINTS: KIND is `commands` (in each panel's number order), `points` (how a point is) or
+// http_load PORT KIND COUNT PANELS POINTS [CLIENTS]: so many clients, or one, each ask one connection after another, and each
+// panel's commands are those of one client. KIND is `commands` (in each panel's number order), `points` (how a point is) or
 // `mixed` (two commands, one of them again, a point). It prints the requests a second, and the median and the 99th
 // hundredth of the times that a request took, in microseconds.
 #include <algorithm>
@@ -13,6 +14,7 @@
 #include <netinet/tcp.h>
 #include <string>
 #include <sys/socket.h>
+#include <thread>
 #include <unistd.h>
 #include <vector>
 
@@ -68,27 +70,57 @@ void ask(const sockaddr_in &address, const std::string &request) {
     close(client);
 }
 
+// What a run asks: the server, and which requests.
+struct Load {
+    sockaddr_in address;
+    std::string kind;
+    int requests, panels, points, clients;
+
+    // The client of a request: that of its panel.
+    int client_of(int index) const { return (kind == "commands" ? index % panels : index) % clients; }
+};
+
+// Makes the requests of a client in order, and tells how long each took, in microseconds.
+void ask_all(const Load &load, int client, std::vector<double> &times) {
+    for (int index = 0; index < load.requests; ++index) {
+        if (load.client_of(index) == client) {
+            auto from = Clock::now();
+            ask(load.address, request_of(load.kind, index, load.panels, load.points));
+            times.push_back(std::chrono::duration<double, std::micro>(Clock::now() - from).count());
+        }
+    }
+}
+
 }  // namespace
 
 int main(int count, char **words) {
-    if (count != 6) {
-        std::fputs("http_load PORT KIND COUNT PANELS POINTS\n", stderr);
+    if (count != 6 && count != 7) {
+        std::fputs("http_load PORT KIND COUNT PANELS POINTS [CLIENTS]\n", stderr);
         return 2;
     }
-    sockaddr_in address{};
-    address.sin_family = AF_INET;
-    address.sin_port = htons(static_cast<uint16_t>(std::atoi(words[1])));
-    address.sin_addr.s_addr = htonl(INADDR_LOOPBACK);
-    std::string kind = words[2];
-    int requests = std::atoi(words[3]), panels = std::atoi(words[4]), points = std::atoi(words[5]);
-    std::vector<double> times;
+    Load load{};
+    load.address.sin_family = AF_INET;
+    load.address.sin_port = htons(static_cast<uint16_t>(std::atoi(words[1])));
+    load.address.sin_addr.s_addr = htonl(INADDR_LOOPBACK);
+    load.kind = words[2];
+    load.requests = std::atoi(words[3]);
+    load.panels = std::atoi(words[4]);
+    load.points = std::atoi(words[5]);
+    load.clients = count == 7 ? std::atoi(words[6]) : 1;
+    std::vector<std::vector<double>> told(load.clients);
+    std::vector<std::thread> clients;
     auto begun = Clock::now();
-    for (int index = 0; index < requests; ++index) {
-        auto from = Clock::now();
-        ask(address, request_of(kind, index, panels, points));
-        times.push_back(std::chrono::duration<double, std::micro>(Clock::now() - from).count());
+    for (int client = 0; client < load.clients; ++client) {
+        clients.emplace_back([&, client] { ask_all(load, client, told[client]); });
+    }
+    for (auto &client : clients) {
+        client.join();
     }
     double seconds = std::chrono::duration<double>(Clock::now() - begun).count();
+    std::vector<double> times;
+    for (const auto &each : told) {
+        times.insert(times.end(), each.begin(), each.end());
+    }
     std::sort(times.begin(), times.end());
-    std::printf("%.0f %.0f %.0f\n", requests / seconds, times[times.size() / 2], times[times.size() * 99 / 100]);
+    std::printf("%.0f %.0f %.0f\n", load.requests / seconds, times[times.size() / 2], times[times.size() * 99 / 100]);
 }

@@ -1,4 +1,4 @@
-"""The program as `build/desk`: whether it is that of these sources, what it takes to make it, and how it is put there."""
+"""A program in `build`: whether it is that of these sources, what it takes to make it, and how it is put there."""
 import hashlib
 import os
 import pathlib
@@ -10,9 +10,11 @@ import tempfile
 import progress
 
 ROOT = pathlib.Path(__file__).resolve().parent.parent
-NAME = "desk_program"
+# Each program by its word, and the crate that it is.
+PROGRAMS = {"desk": "desk_program", "panel": "panel_program"}
+# The crate of the program that is meant, the program, and beside it the sum of the sources that it was made of.
+NAME = PROGRAMS["desk"]
 BUILT = ROOT / "build" / "desk"
-# The sum of the sources that BUILT was made of stands beside it.
 SUM = ROOT / "build" / "desk.sources"
 PARTS = ("src", "specs", "proofs")
 # The prover walks a gigabyte or two of memory. Told so, its allocator asks for large pages, which saves a tenth of its time.
@@ -21,10 +23,16 @@ TOOLCHAIN = "rattle-kit-13f logic dac8208d650f15bf"
 LEAST_PYTHON = (3, 11)
 
 
-def below(top=NAME):
+def choose(word):
+    """Has all that follows mean the program of that word."""
+    global NAME, BUILT, SUM
+    NAME, BUILT, SUM = PROGRAMS[word], ROOT / "build" / word, ROOT / "build" / f"{word}.sources"
+
+
+def below(top=None):
     """A crate and all that it stands on, the program's without another one, each with those that it stands on."""
     crates = progress.crates_of((ROOT / "crates.txt").read_text())
-    wanted = progress.closure(crates, top)
+    wanted = progress.closure(crates, top or NAME)
     return {name: crates[name] for name in crates if name in wanted}
 
 
@@ -42,7 +50,7 @@ def sources_sum():
 
 
 def is_current():
-    """Whether build/desk was proved and built from these sources."""
+    """Whether the program was proved and built from these sources."""
     return os.access(BUILT, os.X_OK) and SUM.is_file() and SUM.read_text().strip() == sources_sum()
 
 
@@ -50,13 +58,13 @@ def keep(made, sum):
     """Puts a program that was proved and built from the sources of that sum where the others find it."""
     BUILT.parent.mkdir(exist_ok=True)
     SUM.unlink(missing_ok=True)
-    room = BUILT.with_name("desk.new")
+    room = BUILT.with_name(BUILT.name + ".new")
     shutil.copy2(made, room)
     os.replace(room, BUILT)
     SUM.write_text(sum + "\n")
 
 
-def cut_copy(to, top=NAME):
+def cut_copy(to, top=None):
     """Copies what a crate is proved from: no trials, tests of them or wrong bodies."""
     wanted = below(top)
     (to / ".git").mkdir(parents=True)

@@ -24,8 +24,8 @@ import served_lists
 import tables
 from serving import IN_MEMORY, SECONDS, answered, expect, get, post, refused, response, rows, serving
 
-# What a connection may take, and how much later a busy machine may tell.
-LIMIT, GRACE = 5, 3
+# How many seconds a client may wait for the others.
+PATIENCE = 1
 # The sizes of the pieces of a request that comes in many.
 SIZES = (1, 2, 7)
 BROKEN = 2_000
@@ -349,7 +349,6 @@ def a_tick_of_the_clock_comes_before_each_request(program, folder):
 def no_client_holds_the_desk(program, folder):
     """One client stalls in the head, one in the body, one doesn't take its reply, and one sends a byte now and then."""
     with serving(program, folder, 5) as server, contextlib.ExitStack() as open_ones:
-        begun = time.monotonic()
         stalled = [open_ones.enter_context(server.connect()) for _ in range(4)]
         stalled[0].sendall(REQUEST[:20])
         stalled[1].sendall(REQUEST[:-1])
@@ -358,9 +357,10 @@ def no_client_holds_the_desk(program, folder):
         for byte in REQUEST[:8]:
             slow.sendall(bytes([byte]))
             time.sleep(0.2)
+        begun = time.monotonic()
         expect(server.ask(REQUEST), RESPONSE)
         spent = time.monotonic() - begun
-        if spent > 4 * LIMIT + GRACE:
+        if spent > PATIENCE:
             raise AssertionError(f"the next client waited {spent:.1f} seconds")
         server.end()
 

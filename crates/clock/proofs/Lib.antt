@@ -1,3 +1,3 @@
 pub mod AddedLemmas
 pub mod ClockedLemmas
-pub mod KnownLemmas
+pub mod KnowingLemmas

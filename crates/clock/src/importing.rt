@@ -1,92 +1,21 @@
 //! Imports.
-ghost use Rattle.std.specs.Prelude.{◌≡◌, ◌++◌, IfOk, List, None, OnOk, Some, option_map, slice_get};
+ghost use Rattle.std.specs.Prelude.{◌≡◌, List, None};
 ghost use Rattle.std.specs.Result.{result_err};
 ghost use Rattle.deliveries.specs.declared.delivery.Delivery.{Delivery as a_delivery};
 ghost use Rattle.deliveries.specs.declared.delivery.Delivery.TheVariants as delivery_of;
 ghost use Rattle.deliveries.specs.Delivered.{Delivers, Holds};
-ghost use Rattle.deliveries.specs.Machine.{added, added_by, added_to, local_of};
+ghost use Rattle.deliveries.specs.Machine.{local_of};
 ghost use Rattle.deliveries.specs.Reply.{refused_record};
-ghost use Rattle.settling.specs.Calendars.{Tells, with_items};
-ghost use Rattle.store.specs.Standing.{ChangesOnce, Goes, IsOpen, Reads};
-ghost use Rattle.store.specs.Tables.{Text};
+ghost use Rattle.store.specs.Standing.{ChangesOnce, Goes, IsOpen};
 
+use crate::adding::added_items;
 use crate::changing::settled_change;
-use crate::known::is_known;
-use building::{Building, NamedCalendar};
-use dates::Entry;
+use building::Building;
 use deliveries::{Reply, refused_record};
 use local_times::{LocalTime, local_time};
 use sched::CalendarEntry;
 use std::alloc::Global;
-use store::{ImportedEntry, Store, StoreFault};
-
-fn calendar_at(building: &Building, place: usize) -> Option<&NamedCalendar>
-    ensures { option_map (λ calendar. calendar.now) result ≡ slice_get building.now.calendars place }
-{
-    building.calendars().get(place)
-}
-
-// Adds the item of an entry for a calendar that does not know it.
-fn add_to<S: Store>(
-    store: &mut S,
-    items: &mut Vec<ImportedEntry>,
-    calendar: &NamedCalendar,
-    entry: &Entry,
-) -> Result<(), StoreFault>
-    ensures reads { Reads (result_err result) (S.standing store.old) (S.standing store.new) }
-    ensures adds { (S.standing store.new).is_honest → (imported : Text → List Text)
-        → Tells (S.standing store.old).content.tables.imported imported
-        → OnOk result (items.new.items ≡ items.old.items ++ added_to (with_items imported items.old.items) entry.now (Some calendar.now)) }
-{
-    if is_known(store, calendar, items.as_slice(), entry)? {
-        return Ok(());
-    }
-    items.push(ImportedEntry {
-        calendar: calendar.name,
-        entry: *entry,
-    })?;
-    Ok(())
-}
-
-/// Adds the item of a row to those of the rows before it, where its calendar knows the entry neither from the file, nor
-/// from what was imported, nor from these items. A row of no calendar adds nothing. The store is only read.
-pub fn add_row<S: Store>(
-    store: &mut S,
-    building: &Building,
-    items: &mut Vec<ImportedEntry>,
-    row: &CalendarEntry,
-) -> Result<(), StoreFault>
-    requires open { IsOpen (S.standing store.old) }
-    ensures reads { Reads (result_err result) (S.standing store.old) (S.standing store.new) }
-    ensures adds { (S.standing store.new).is_honest → (imported : Text → List Text)
-        → Tells (S.standing store.old).content.tables.imported imported
-        → OnOk result (items.new.items ≡ items.old.items ++ added_by building.now (with_items imported items.old.items) row.now) }
-{
-    match calendar_at(building, row.calendar.place) {
-        Some(calendar) => add_to(store, items, calendar, &row.entry),
-        None => Ok(()),
-    }
-}
-
-// The items that rows add, each beside those before it.
-fn added_items<S: Store>(
-    alloc: Global,
-    store: &mut S,
-    building: &Building,
-    rows: &[CalendarEntry],
-) -> Result<Vec<ImportedEntry>, StoreFault>
-    requires open { IsOpen (S.standing store.old) }
-    ensures reads { Reads (result_err result) (S.standing store.old) (S.standing store.new) }
-    ensures added { (S.standing store.new).is_honest → (imported : Text → List Text)
-        → Tells (S.standing store.old).content.tables.imported imported
-        → IfOk result (λ items. items.items ≡ added building.now imported rows.now) }
-{
-    let mut items = Vec::new(alloc);
-    for row in rows {
-        add_row(store, building, &mut items, row)?;
-    }
-    Ok(items)
-}
+use store::{Store, StoreFault};
 
 // The local time at the last tick, if there was one.
 fn local_of(building: &Building, last: Option<i64>) -> Option<LocalTime>

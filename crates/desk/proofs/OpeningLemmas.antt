@@ -1,23 +1,28 @@
 -- Opening a desk over a store.
-use Rattle.std.proofs.Common.{◌≡◌, ℕ, suc, ◌+◌, Bool, true, false, ◌&&◌, List, [], ◌∷◌, length, Option, Some, None, is_some, nat_lt, cond, Bor}
-use Rattle.std.proofs.Common.{ℤ, arith, find, position, option_copied, refl, sym, ap, ◌∙◌, inl, inr}
+use Rattle.std.proofs.Common.{◌≡◌, ℕ, suc, ◌+◌, ◌<◌, take, get_or, Bool, true, false, ◌&&◌, List, [], ◌∷◌, length, Option, Some, None, is_some, Result, Ok, Err, OnOk, nat_lt, cond, Bor}
+use Rattle.std.specs.Result.{result_err}
+use Rattle.std.proofs.Common.{ℤ, arith, find, position, option_copied, refl, sym, ap, ◌∙◌, subst, zero, inl, inr}
 use Rattle.std.specs.Bool.{IsTrue}
 use Rattle.std.specs.List.{Contains, list_all, list_any, position_or_len}
-use Rattle.std.proofs.lemmas.Bool.{cases_Bool, false≢true}
+use Rattle.std.proofs.lemmas.Bool.{cases_Bool, false≢true, or_from, or_parts}
 use Rattle.std.proofs.lemmas.Bool.Decides.{nat_tests}
+use Rattle.std.proofs.lemmas.List.Folds.{list_any_more}
 use Rattle.std.proofs.lemmas.List.Elements.{All-contains, All-contains_itself, All-weaker}
 use Rattle.std.proofs.lemmas.List.Sums.{AllPass-from_list_all, list_all-from_AllPass}
 use Rattle.store.specs.declared.fault.StoreFault.{StoreFault}
 use Rattle.store.specs.declared.fault.StoreFault.TheVariants.{Failed, Shut, BadRow}
 use Rattle.store.specs.declared.names.Names.{Names}
 use Rattle.store.specs.Listed.{AreNames, AreTexts, HasCalendar, HasPanel, HasPoint, HasSchedule}
+use Rattle.store.specs.Asked.{Asked, Judges}
+use Rattle.store.specs.Asked.Asked.{AnyName, EntriesOf, LastTick, NextOf}
 use Rattle.store.specs.Standing.{Content, Reads, Standing, sound}
 use Rattle.store.specs.Tables.{Tables, Text, no_tables}
 use Rattle.store.proofs.ReadLemmas.{Goes-told, Reads-then}
 use Rattle.building.specs.Building.{Building}
+use Rattle.building.specs.declared.named_calendar.NamedCalendar.{NamedCalendar}
 use Rattle.deliveries.specs.Delivered.{Holds}
 use Rattle.deliveries.proofs.EmptyLemmas.{tables-none}
-use Rattle.desk.specs.Opening.{AreKnown, Opens, Suits, are_known, has_calendar, has_panel, has_point, has_schedule, is_ticked}
+use Rattle.desk.specs.Opening.{AreKnown, CanRest, HaveStood, Opens, Suits, are_known, has_calendar, has_panel, has_point, has_schedule, is_ticked}
 
 pub is_some-find : {A : Type 0} (test : A → Bool) (xs : List A) → is_some (find test xs) ≡ list_any test xs
 is_some-find test [] = refl
@@ -106,6 +111,7 @@ Opens-failed b fault old new reads = record {
   kept = reads.kept;
   left = reads.left;
   known = λ honest none. absurd (some_none fault none);
+  rests = λ honest none. absurd (some_none fault none);
   bad_row = λ honest told. inr (reads.bad_row honest told);
 }
 
@@ -123,6 +129,7 @@ Opens-unsuited b old new reads unsuited = record {
   kept = λ honest told. reads.kept honest (λ e. cc);
   left = reads.left;
   known = λ honest none. absurd (some_none BadRow none);
+  rests = λ honest none. absurd (some_none BadRow none);
   bad_row = λ honest told. inl (unsuited honest);
 }
 
@@ -133,6 +140,35 @@ pub Opens-unknown : (b : Building) (old new : Standing) (names : Names) → Read
 Opens-unknown b old new names reads are unknown =
     Opens-unsuited b old new reads (λ honest suits. false≢true
     (sym unknown ∙ names-known b old.content.tables names (are honest) suits.names))
+
+-- one row more that can stand
+pub more_stood : {A : Type 0} (test : A → Bool) (xs : List A) (i : ℕ) (x : A) → i < length xs → x ≡ get_or xs i x
+    → list_any test (take i xs) ≡ false → test x ≡ false → list_any test (take (i + 1) xs) ≡ false
+more_stood test xs i x below is before here =
+    list_any_more test xs i x below ∙ or_from (list_any test (take i xs)) (test (get_or xs i x)) before (ap test (sym is) ∙ here)
+
+pub on_ok : {A E P : Type 0} (r : Result A E) → OnOk r P → result_err r ≡ None → P
+on_ok (Ok value) holds none = holds
+on_ok (Err e) holds none = absurd (let n : ⊥ = cc in n)
+
+-- the next numbers are read behind the entries
+pub nexts-stood : {A E : Type 0} (r : Result A E) (calendars : List NamedCalendar) (panels : List Text) (first second : Standing)
+    → second.cannot_stand ≡ first.cannot_stand
+    → list_any (λ calendar. first.cannot_stand (EntriesOf calendar.name)) calendars ≡ false
+    → OnOk r (list_any (λ panel. second.cannot_stand (NextOf panel)) panels ≡ false) → OnOk r (HaveStood calendars panels first)
+nexts-stood (Ok value) calendars panels first second same entries nexts =
+    record { entries = entries; nexts = subst (λ f. list_any (λ panel. f (NextOf panel)) panels ≡ false) same nexts }
+nexts-stood (Err e) calendars panels first second same entries nexts = tt
+
+pub not_true : (b : Bool) → (IsTrue b → ⊥) → b ≡ false
+not_true false none = refl
+not_true true none = absurd (none refl)
+
+none_any : {A : Type 0} (test : A → Bool) (xs : List A) → list_any test xs ≡ false → (x : A) → Contains xs x → test x ≡ false
+none_any test [] none x here = absurd (let below = here.1 in omega (arith, below))
+none_any test (y ∷ ys) none x (zero, below, is) = ap test (sym is) ∙ (or_parts (test y) (list_any test ys) none).0
+none_any test (y ∷ ys) none x (suc k, below, is) =
+    none_any test ys (or_parts (test y) (list_any test ys) none).1 x (k, omega (arith, below), is)
 
 -- The names are the building's, and the last tick was read.
 module _ (b : Building) (first second third : Standing) (last : Option ℤ) (before : Reads None first second)
@@ -150,8 +186,11 @@ module _ (b : Building) (first second third : Standing) (last : Option ℤ) (bef
   -- what is read behind it
   pub Opens-read : (fault : Option StoreFault) (fourth : Standing) (names : Names)
       → (second.is_honest → AreNames first.content.tables names) → are_known b names ≡ true
-      → is_ticked b last ≡ true → Reads fault third fourth → Opens b fault first fourth
-  Opens-read fault fourth names are known ticked after =
+      → is_ticked b last ≡ true → Reads fault third fourth
+      → (second.is_honest → IsTrue (first.cannot_stand AnyName) → ⊥)
+      → (third.is_honest → Judges (IsTrue (second.cannot_stand LastTick)) None)
+      → (fourth.is_honest → fault ≡ None → HaveStood b.calendars names.panels.items third) → Opens b fault first fourth
+  Opens-read fault fourth names are known ticked after named judged stood =
       let whole = Reads-then fault first third fourth (Reads-then None first second third before reads) after in
       record {
         goes = whole.goes;
@@ -162,6 +201,21 @@ module _ (b : Building) (first second third : Standing) (last : Option ℤ) (bef
             record {
               names = known-names b first.content.tables names (are (reads.goes.honest honest_third)) known;
               last = sym (ap (is_ticked b) (last-first honest_third)) ∙ ticked;
+            };
+        rests = λ honest none.
+            let honest_third = after.goes.honest honest in
+            let honest_second = reads.goes.honest honest_third in
+            let same_second : second.cannot_stand ≡ first.cannot_stand = before.rows honest_second (λ e. cc) in
+            let same_third : third.cannot_stand ≡ first.cannot_stand = reads.rows honest_third (λ e. cc) ∙ same_second in
+            let rows = stood honest none in
+            record {
+              names = not_true (first.cannot_stand AnyName) (named honest_second);
+              last = ap (λ (f : Asked → Bool). f LastTick) (sym same_second)
+                  ∙ not_true (second.cannot_stand LastTick) ((judged honest_third).stood refl);
+              entries = subst (λ f. list_any (λ calendar. f (EntriesOf calendar.name)) b.calendars ≡ false) same_third rows.entries;
+              nexts = λ panel has. none_any (λ name. first.cannot_stand (NextOf name)) names.panels.items
+                  (subst (λ f. list_any (λ name. f (NextOf name)) names.panels.items ≡ false) same_third rows.nexts)
+                  panel (((are honest_second).panels.each panel).1 has);
             };
         bad_row = λ honest told. inr (whole.bad_row honest told);
       }

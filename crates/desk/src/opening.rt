@@ -1,9 +1,10 @@
 //! What is looked at before a desk is opened over a store.
-ghost use Rattle.std.specs.Prelude.{◌≡◌};
-ghost use Rattle.std.specs.List.{list_all};
+ghost use Rattle.std.specs.Prelude.{◌≡◌, OnOk, false};
+ghost use Rattle.std.specs.List.{list_all, list_any};
 ghost use Rattle.std.specs.Result.{result_err};
+ghost use Rattle.store.specs.Asked.Asked.{EntriesOf, NextOf};
 ghost use Rattle.store.specs.Standing.{IsOpen, Reads};
-ghost use Rattle.desk.specs.Opening.{Opens, are_known, has_calendar, has_panel, has_point, has_schedule, is_ticked};
+ghost use Rattle.desk.specs.Opening.{HaveStood, Opens, are_known, has_calendar, has_panel, has_point, has_schedule, is_ticked};
 
 use building::{Building, NamedCalendar};
 use local_times::local_time;
@@ -71,7 +72,9 @@ fn are_known(building: &Building, names: &Names) -> bool
 // Reads the entries of each calendar.
 fn read_entries<S: Store>(store: &mut S, calendars: &[NamedCalendar]) -> Result<(), StoreFault>
     requires { IsOpen (S.standing store.old) }
-    ensures { Reads (result_err result) (S.standing store.old) (S.standing store.new) }
+    ensures reads { Reads (result_err result) (S.standing store.old) (S.standing store.new) }
+    ensures stood { (S.standing store.new).is_honest → OnOk result
+        (list_any (λ calendar. (S.standing store.old).cannot_stand (EntriesOf calendar.name)) calendars.now ≡ false) }
 {
     for calendar in calendars {
         let _entries = store.entries(&calendar.name)?;
@@ -82,7 +85,9 @@ fn read_entries<S: Store>(store: &mut S, calendars: &[NamedCalendar]) -> Result<
 // Reads the next number of each panel.
 fn read_nexts<S: Store>(store: &mut S, panels: &[Name]) -> Result<(), StoreFault>
     requires { IsOpen (S.standing store.old) }
-    ensures { Reads (result_err result) (S.standing store.old) (S.standing store.new) }
+    ensures reads { Reads (result_err result) (S.standing store.old) (S.standing store.new) }
+    ensures stood { (S.standing store.new).is_honest
+        → OnOk result (list_any (λ panel. (S.standing store.old).cannot_stand (NextOf panel)) panels.now ≡ false) }
 {
     for panel in panels {
         let _next = store.panel_next(panel)?;
@@ -107,7 +112,9 @@ fn read_rows<S: Store>(
     panels: &[Name],
 ) -> Result<(), StoreFault>
     requires { IsOpen (S.standing store.old) }
-    ensures { Reads (result_err result) (S.standing store.old) (S.standing store.new) }
+    ensures reads { Reads (result_err result) (S.standing store.old) (S.standing store.new) }
+    ensures stood { (S.standing store.new).is_honest
+        → OnOk result (HaveStood building.now.calendars panels.now (S.standing store.old)) }
 {
     read_entries(store, building.calendars())?;
     read_nexts(store, panels)

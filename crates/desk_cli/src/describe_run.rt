@@ -13,7 +13,7 @@ use std::alloc::Global;
 use std::io::{Read, Write};
 
 /// Reads the building of a file, and prints it as one JSON object, a line: `desk describe`. The text of the zone is the
-/// file's own. A fault is told on `fault` as one line, and then nothing is printed.
+/// file's own. A fault is told on `fault` as one line.
 pub fn describe<B: Read + Drop, W: Write, F: Write>(
     alloc: Global,
     file: Input<'_, B>,

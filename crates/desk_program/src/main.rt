@@ -56,33 +56,32 @@ fn open_list(rt: &HostRuntime, path: &str) -> io::Result<BufReader<File>> {
     BufReader::new(rt.alloc(), fs::open(rt, path)?)
 }
 
+/// The building file of a path.
+fn building_at<'a>(rt: &HostRuntime, path: &'a str) -> Input<'a, File> {
+    Input {
+        path,
+        reader: fs::open(rt, path),
+    }
+}
+
 fn run_check(rt: &HostRuntime, file: &str) -> io::Result<Status> {
     let alloc = rt.alloc();
     let mut out = BufWriter::new(alloc, io::writer(rt))?;
-    let building = Input {
-        path: file,
-        reader: fs::open(rt, file),
-    };
+    let building = building_at(rt, file);
     Ok(check(alloc, building, &mut out, &mut rt.stderr()))
 }
 
 fn run_describe(rt: &HostRuntime, file: &str) -> io::Result<Status> {
     let alloc = rt.alloc();
     let mut out = BufWriter::new(alloc, io::writer(rt))?;
-    let building = Input {
-        path: file,
-        reader: fs::open(rt, file),
-    };
+    let building = building_at(rt, file);
     Ok(describe(alloc, building, &mut out, &mut rt.stderr()))
 }
 
 fn run_replay(rt: &HostRuntime, file: &str, deliveries: &str) -> io::Result<Status> {
     let alloc = rt.alloc();
     let mut out = BufWriter::new(alloc, io::writer(rt))?;
-    let building = Input {
-        path: file,
-        reader: fs::open(rt, file),
-    };
+    let building = building_at(rt, file);
     let list = Listed {
         path: deliveries,
         open: || open_list(rt, deliveries),
@@ -93,10 +92,7 @@ fn run_replay(rt: &HostRuntime, file: &str, deliveries: &str) -> io::Result<Stat
 fn run_straighten(rt: &HostRuntime, file: &str, deliveries: &str) -> io::Result<Status> {
     let alloc = rt.alloc();
     let mut out = BufWriter::new(alloc, io::writer(rt))?;
-    let building = Input {
-        path: file,
-        reader: fs::open(rt, file),
-    };
+    let building = building_at(rt, file);
     let list = Listed {
         path: deliveries,
         open: || open_list(rt, deliveries),

@@ -7,7 +7,7 @@ ghost use Rattle.store.specs.Tables.{Text};
 ghost use Rattle.deliveries_straight.specs.Cut.{added_rows};
 
 use building::Building;
-use clock::add_row;
+use clock::{Known, add_row};
 use sched::CalendarEntry;
 use std::alloc::Global;
 use store::{Store, StoreFault};
@@ -25,11 +25,12 @@ pub fn rows_that_add<S: Store>(
         → Tells (S.standing store.old).content.tables.imported imported
         → IfOk result (λ kept. kept.items ≡ added_rows building.now imported rows.now) }
 {
+    let mut known = Known::new(alloc);
     let mut items = Vec::new(alloc);
     let mut kept = Vec::new(alloc);
     for row in rows {
         let before = items.len();
-        add_row(store, building, &mut items, row)?;
+        add_row(alloc, store, building, &mut known, &mut items, row)?;
         if before < items.len() {
             kept.push(*row)?;
         }

@@ -25,6 +25,28 @@ impl Read for Pieces<'_> {
     }
 }
 
+/// An input that has nothing yet before each piece of a size, and then ends.
+#[derive(Drop)]
+pub struct Halting<'a> {
+    pub text: &'a [u8],
+    pub size: usize,
+    pub is_there: bool,
+}
+
+impl Read for Halting<'_> {
+    fn read(&mut self, buffer: &mut [u8]) -> io::Result<usize> {
+        self.is_there = !self.is_there;
+        if self.is_there {
+            return Err(io::Error::from(io::ErrorKind::WouldBlock));
+        }
+        let count = self.text.len().min(self.size);
+        let mut piece = &self.text[..count];
+        let taken = piece.read(buffer)?;
+        self.text = &self.text[taken..];
+        Ok(taken)
+    }
+}
+
 /// An output with room for so many bytes, which fails when it is full.
 #[derive(Drop)]
 pub struct Page {

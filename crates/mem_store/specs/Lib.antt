@@ -1,3 +1,1 @@
-pub mod Held
 pub mod Memory
-pub mod Slots

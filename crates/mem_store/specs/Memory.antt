@@ -4,8 +4,8 @@ use Rattle.std.specs.List.{All}
 use Rattle.dates.specs.Entry.{spelling}
 use Rattle.store.specs.declared.change.Change.{Change}
 use Rattle.mem_store.specs.declared.mem_store.MemStore.{MemStore}
-use Rattle.mem_store.specs.declared.spelled_entry.SpelledEntry.{SpelledEntry}
-use Rattle.mem_store.specs.Held.{array_at, calendar_slot, imported_of, next_of, places_of, row_of, shown_of, shown_slot, slot_of, table_at}
+use Rattle.memory_tables.specs.declared.spelled_entry.SpelledEntry.{SpelledEntry}
+use Rattle.memory_tables.specs.Held.{array_at, calendar_slot, imported_of, next_of, places_of, row_of, shown_of, shown_slot, slot_of, table_at}
 use Rattle.store.specs.Standing.{Standing, sound}
 use Rattle.store.specs.Tables.{Tables}
 
@@ -27,6 +27,7 @@ standing_of store = record {
   failures = 0;
   is_honest = Unit {0};
   may_leave = λ content. content ≡ sound (tables_of store);
+  cannot_stand = λ asked. false;
 }
 
 -- there is an entry for each item of a change

@@ -5,12 +5,8 @@ ghost use Rattle.mem_store.specs.Memory.{HasRoom, standing_of, tables_of};
 ghost use Rattle.store.specs.Standing.{sound};
 ghost use Rattle.store.specs.Tables.{no_tables};
 
-use crate::arrays::Arrays;
-use crate::calendars::Calendars;
-use crate::panels::Panels;
-use crate::shown_values::ShownValues;
-use crate::spelled_entry::{SpelledEntry, spell};
 use dates::Entry;
+use memory_tables::{Arrays, Calendars, Panels, ShownValues, SpelledEntry, spell};
 use points::{CommandRow, Name, NumberedRow, PriorityArray};
 use std::alloc::{AllocError, Global};
 use store::{Change, Names, Store, StoreFault};

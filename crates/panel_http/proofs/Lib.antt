@@ -1,1 +1,3 @@
+pub mod GatheringLemmas
+pub mod MoreLemmas
 pub mod ServingLemmas

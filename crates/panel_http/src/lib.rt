@@ -4,15 +4,20 @@
 //! looks at what it asks for, and writes one response (`response_texts`). What is answered to a request, and which tables
 //! are left, is `specs/Answers.antt`, over the definitions of `deliveries`; what the bytes of an input get, whatever fails,
 //! `specs/Serving.antt`.
+//!
+//! Where an input gives its bytes now and then, `gather` puts them behind what has come until that is a whole request,
+//! and `serve_come` serves it.
 #![tactic(auto)]
 
 pub use counted::Counted;
+pub use gathering::{Gathered, gather, take_some};
 pub use http::StatusCode;
 pub use request_reading::Routes;
 pub use served::Served;
-pub use serving::serve_one;
+pub use serving::{serve_come, serve_one};
 
 mod answering;
+mod gathering;
 mod looking;
 mod served;
 mod serving;

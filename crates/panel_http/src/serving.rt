@@ -1,9 +1,10 @@
 //! A request, served.
 
-ghost use Rattle.std.specs.Prelude.{◌≡◌, ℕ, List, Some};
+ghost use Rattle.std.specs.Prelude.{◌≡◌, ◌⊎◌, ◌++◌, ℕ, List, [], Some};
 ghost use Rattle.deliveries.specs.declared.delivery.Delivery.{Delivery as a_delivery};
 ghost use Rattle.deliveries.specs.Delivered.{Holds};
 ghost use Rattle.panel_http.specs.Serving.{Serves};
+ghost use Rattle.request_reading.specs.Whole.{IsWhole};
 
 use crate::Served;
 use crate::answering::answer;
@@ -40,4 +41,24 @@ pub fn serve_one<R: Read, W: Write, S: Store + Drop>(
         Err(Unread::NoMemory) => write_answer(writer, Err(Unanswered::NoMemory)),
         Err(Unread::NoInput | Unread::Lost) => Served::NoRequest,
     }
+}
+
+/// Serves an input of which these bytes have come: a whole request, or all that there is.
+pub fn serve_come<W: Write, S: Store + Drop>(
+    alloc: Global,
+    routes: &Routes,
+    come: &[u8],
+    writer: &mut Counted<W>,
+    desk: &mut Desk<S>,
+) -> Served
+    ensures serves { (more : List ℕ) (earlier : List a_delivery) → IsWhole desk.old.building come.now ⊎ (more ≡ [])
+        → (S.standing desk.new.store).is_honest → Holds desk.old.building earlier (S.standing desk.old.store)
+        → (failures : ℕ) × Serves desk.old.building earlier (come.now ++ more) 0 failures
+        (W.contents writer.old.inner) (W.contents writer.new.inner) writer.old.failures writer.new.failures
+        (S.standing desk.old.store) (S.standing desk.new.store) result }
+    ensures honest { (S.standing desk.new.store).is_honest → (S.standing desk.old.store).is_honest }
+    ensures building { desk.new.building ≡ desk.old.building }
+{
+    let mut reader = Counted::new(come);
+    serve_one(alloc, routes, &mut reader, writer, desk)
 }

@@ -1,1 +1,4 @@
+pub mod CharacterEndings
+pub mod HeadEndings
 pub mod HeadLemmas
+pub mod SectionEndings

@@ -1,2 +1,3 @@
 pub mod MethodLemmas
 pub mod RequestLemmas
+pub mod WholeLemmas

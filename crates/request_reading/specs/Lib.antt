@@ -1,3 +1,4 @@
 pub mod AskedRoute
 pub mod BodyTold
 pub mod Requests
+pub mod Whole

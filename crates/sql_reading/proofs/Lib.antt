@@ -7,4 +7,3 @@ pub mod NumberLemmas
 pub mod TextLemmas
 pub mod EntryLemmas
 pub mod NameLemmas
-pub mod PlaceLemmas

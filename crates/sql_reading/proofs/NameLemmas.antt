@@ -1,57 +1,64 @@
 -- What the answers of the queries on names tell, and which names stand.
-use Rattle.std.proofs.Common.{◌≡◌, ◌≤◌, ◌<◌, ◌&&◌, ◌==◌, ◌⊎◌, ◌+◌, ℕ, ℤ, List, [], ◌∷◌, inl, inr, Option, Some, None, is_some, Bool, true, false, refl, sym, ap, ◌∙◌, subst, arith, true≢false, nat_cmp}
+use Rattle.std.proofs.Common.{◌≡◌, ◌≤◌, ◌⊎◌, ℕ, ℤ, List, [], ◌∷◌, inl, inr, Option, Some, None, IsSome, is_some, Result, Ok, Err, IfOk, Bool, true, false, not, filter, length, map, refl, sym, ap, ◌∙◌, subst, arith, true≢false, nat_cmp}
 use Rattle.std.specs.Cmp.{nat_cmp_total}
 use Rattle.std.specs.FinMap.{empty, get, get-empty, nat_cmp-IsAntisymmetric, same_map}
+use Rattle.std.specs.List.{list_any}
 use Rattle.std.specs.Ordering.{is_lt}
-use Rattle.std.specs.Str.{bytes_eq}
-use Rattle.std.proofs.lemmas.Bool.{and_parts, both_ways, cases_order}
+use Rattle.std.proofs.lemmas.Bool.{and_from, and_parts, both_ways, cases_order, or_from, or_left, or_right}
+use Rattle.std.proofs.lemmas.List.Sorted.{length_permutation}
+use Rattle.points.specs.Name.{IsName}
 use Rattle.points.specs.PriorityArray.{HasSixteenPlaces, Places}
-use Rattle.sqlite_rules.proofs.ListLemmas.{contains_had}
+use Rattle.sqlite.specs.Effect.{Database}
+use Rattle.sqlite_rules.specs.Lists.{Has}
+use Rattle.sqlite_rules.proofs.ListLemmas.{has_filtered}
 use Rattle.sqlite_value.specs.declared.value.Value.TheVariants.{Text as TextCell}
 use Rattle.sqlite_value.specs.Order.{Row, column, value_cmp}
 use Rattle.sqlite_value.proofs.OrderLemmas.{value_cmp-Text}
-use Rattle.sql_rows.specs.Looking.{FindsLeast, is_after}
-use Rattle.store.specs.Change.{with_imported, with_next, with_place, with_row, with_shown}
+use Rattle.sql_rows.specs.Broken.{cannot_stand_in, is_nameless, is_unnumbered}
+use Rattle.sql_rows.specs.Looking.{Finds, FindsLeast, is_from_text}
+use Rattle.sql_rows.specs.Ours.{IsOurs, kept_in}
+use Rattle.store.specs.Asked.Asked.{AnyName}
 use Rattle.store.specs.Listed.{AreNames, AreTexts, HasCalendar, HasPanel, HasPoint, HasSchedule}
 use Rattle.store.specs.declared.names.Names.{Names}
 use Rattle.store.specs.Tables.{Tables, Text}
 use Rattle.dates.specs.declared.entry.Entry.{Entry}
 use Rattle.dates.specs.Entry.{spelling}
-use Rattle.points.specs.declared.numbered_row.NumberedRow.{NumberedRow}
-use Rattle.sql_rows.specs.Cells.{is_count, is_text, name_in}
-use Rattle.sql_rows.specs.Rows.{command_said, imported_said, next_said, of_command, of_entry, of_panel, of_place, of_schedule, place_said, shown_said}
-use Rattle.sql_rows.specs.Stored.{Kept, is_sound_in, tables_in}
-use Rattle.sql_rows.proofs.ReadCellLemmas.{command-agrees, entry-agrees, name-cell, panel-agrees, place-agrees, schedule-agrees}
-use Rattle.sql_rows.proofs.StoredRowLemmas.{Agrees, no-row}
-use Rattle.sql_rows.proofs.StoredLemmas.{bad_command, bad_imported, bad_next, bad_place, bad_shown, no_command, no_next, no_place, no_shown, outside_places}
-use Rattle.sql_rows.proofs.TableLemmas.{entry-at, next-at, place-at, row-at, shown-at}
+use Rattle.sql_rows.specs.Cells.{is_below, is_count, is_text, name_in}
+use Rattle.sql_rows.specs.Rows.{of_command, of_lower_command, of_panel, of_place, of_schedule}
+use Rattle.sql_rows.specs.Stored.{Kept, tables_in}
+use Rattle.sql_rows.specs.declared.read_fault.ReadFault.{ReadFault}
+use Rattle.sql_rows.proofs.BrokenLemmas.{has_any, has_none}
+use Rattle.sql_rows.proofs.NamedLemmas.{AreTexted, command_texted, imported_texted, panel_texted, place_texted, shown_texted}
+use Rattle.sql_rows.proofs.ReadCellLemmas.{name-cell, text-same}
+use Rattle.sql_rows.proofs.StoredLemmas.{no_command, no_next, no_place, no_shown}
 use Rattle.sql_reading.specs.declared.names.NameList.{NameList}
 use Rattle.sql_reading.specs.declared.names.NameList.TheVariants.{Calendars, Panels, Points, Schedules}
-use Rattle.sql_reading.specs.Naming.{HasName, HasNoName, IsLesser, StandsIn, Tells}
-use Rattle.sql_reading.specs.Stepping.{IsNextRow}
-use Rattle.sql_reading.specs.Texts.{IsBefore, IsImported, IsNextEntry, IsNextText, IsTextAt}
-use Rattle.sql_reading.proofs.EntryLemmas.{imported_row, no_empty_entry, some_passes}
-use Rattle.sql_reading.proofs.NumberLemmas.{none_picked, not_both, nothing_passes, passes_nothing, text_here}
-use Rattle.sql_reading.proofs.TextLemmas.{after_before, before_after, before_then, empty_or_after, not_lt, three_ways}
+use Rattle.sql_reading.specs.Naming.{AreAll, AreNumbered, HasName, HasNoName, IsGood, IsKept, IsLesser, IsListed, IsNumbered, StandsIn, Tells}
+use Rattle.sql_reading.specs.Stepping.{IsNextNumber}
+use Rattle.sql_reading.specs.Texts.{IsBefore, IsNextEntry, IsNextText, IsTextAt}
+use Rattle.sql_reading.proofs.EntryLemmas.{imported_has, imported_row, some_passes}
+use Rattle.sql_reading.proofs.FoundLemmas.{found_none}
+use Rattle.sql_reading.proofs.NumberLemmas.{no_row, nothing_passes, passes_nothing, text_here}
+use Rattle.sql_reading.proofs.TextLemmas.{before_then, from_ge, ge_from, none_before_empty, not_lt, three_ways}
 
 -- ---- what an answer tells
 
-module _ (after : Text) (table answer : List Row) (found : FindsLeast (λ row. is_after after (column row 1)) 1 table answer) where
-  pub name_none : answer ≡ [] → IsNextText (HasName table) after None
+module _ (from : Text) (table answer : List Row) (found : FindsLeast (λ row. is_from_text from (column row 1)) 1 table answer) where
+  pub name_none : answer ≡ [] → IsNextText (HasName table) from None
   name_none none text has past =
-      passes_nothing (λ row. is_after after (column row 1)) table has.0 (found.none none) has.1
-      (ap (is_after after) has.2 ∙ before_after after text past)
+      passes_nothing (λ row. is_from_text from (column row 1)) table has.0 (found.none none) has.1
+      (ap (is_from_text from) has.2 ∙ from_ge text from past)
 
   pub name_some : (shown : Row) (more : List Row) (name : Text) → answer ≡ shown ∷ more → name_in (column shown 0) ≡ Some name
-      → IsTextAt (HasName table) after name
+      → IsTextAt (HasName table) from name
   name_some shown more name is reads =
       let it = found.some shown more is in
       let cell : column shown 0 ≡ column it.0 1 = ap (λ r. column r 0) it.3 in
       let text : column it.0 1 ≡ TextCell name = name-cell (column it.0 1) name (ap name_in (sym cell) ∙ reads) in
       record {
-        past = after_before after name (ap (is_after after) (sym text) ∙ it.2);
+        past = ge_from name from (ap (is_from_text from) (sym text) ∙ it.2);
         least = λ other has past before.
-            let lowest = it.5 has.0 has.1 (ap (is_after after) has.2 ∙ before_after after other past) in
+            let lowest = it.5 has.0 has.1 (ap (is_from_text from) has.2 ∙ from_ge other from past) in
             not_lt other name (ap is_lt (sym (value_cmp-Text other name))
             ∙ subst (λ v. is_lt (value_cmp v (TextCell name)) ≡ false) has.2
             (subst (λ v. is_lt (value_cmp (column has.0 1) v) ≡ false) text lowest)) before;
@@ -63,34 +70,74 @@ module _ (after : Text) (table answer : List Row) (found : FindsLeast (λ row. i
       let cell : column shown 0 ≡ column it.0 1 = ap (λ r. column r 0) it.3 in
       (it.0, it.1, ap name_in (sym cell) ∙ reads)
 
-pub bad_numbered : (kept : Kept) → HasNoName kept.panel → is_sound_in kept ≡ false
-bad_numbered kept has = bad_next kept has.0 (contains_had kept.panel has.0 has.1) (rw has.2 refl)
+-- ---- a row without a name
 
-pub bad_commanding : (kept : Kept) → HasNoName kept.command → is_sound_in kept ≡ false
-bad_commanding kept has = bad_command kept has.0 (contains_had kept.command has.0 has.1) (rw has.2 refl)
+any_nameless : (rows : List Row) → HasNoName rows → list_any is_nameless rows ≡ true
+any_nameless rows has = has_any is_nameless rows has.0 has.1 (ap (λ o. not (is_some o)) has.2)
 
-pub bad_point : (kept : Kept) → HasNoName kept.place → is_sound_in kept ≡ false
-bad_point kept has = bad_place kept has.0 (contains_had kept.place has.0 has.1) (rw has.2 refl)
+pub bad_numbered : (kept : Kept) → HasNoName kept.panel → cannot_stand_in kept AnyName ≡ true
+bad_numbered kept has = or_left (list_any is_nameless kept.panel) _ (any_nameless kept.panel has)
 
-pub bad_schedule : (kept : Kept) → HasNoName kept.shown → is_sound_in kept ≡ false
-bad_schedule kept has = bad_shown kept has.0 (contains_had kept.shown has.0 has.1) (rw has.2 refl)
+pub bad_commanding : (kept : Kept) → HasNoName kept.command → cannot_stand_in kept AnyName ≡ true
+bad_commanding kept has =
+    or_right (list_any is_nameless kept.panel) _ (or_left (list_any is_nameless kept.command) _ (any_nameless kept.command has))
 
-pub bad_calendar : (kept : Kept) → HasNoName kept.imported → is_sound_in kept ≡ false
-bad_calendar kept has = bad_imported kept has.0 (contains_had kept.imported has.0 has.1) (rw has.2 refl)
+pub bad_point : (kept : Kept) → HasNoName kept.place → cannot_stand_in kept AnyName ≡ true
+bad_point kept has =
+    or_right (list_any is_nameless kept.panel) _ (or_right (list_any is_nameless kept.command) _
+    (or_left (list_any is_nameless kept.place) _ (any_nameless kept.place has)))
+
+pub bad_schedule : (kept : Kept) → HasNoName kept.shown → cannot_stand_in kept AnyName ≡ true
+bad_schedule kept has =
+    or_right (list_any is_nameless kept.panel) _ (or_right (list_any is_nameless kept.command) _
+    (or_right (list_any is_nameless kept.place) _ (or_left (list_any is_nameless kept.shown) _ (any_nameless kept.shown has))))
+
+pub bad_calendar : (kept : Kept) → HasNoName kept.imported → cannot_stand_in kept AnyName ≡ true
+bad_calendar kept has =
+    or_right (list_any is_nameless kept.panel) _ (or_right (list_any is_nameless kept.command) _
+    (or_right (list_any is_nameless kept.place) _ (or_right (list_any is_nameless kept.shown) _
+    (or_left (list_any is_nameless kept.imported) _ (any_nameless kept.imported has)))))
+
+-- ---- a panel's rows with a number below 1
+
+module _ (panel : Text) (kept : Kept) (answer : List Row)
+    (found : Finds (of_lower_command panel 1) (λ row. column row 2 ∷ []) kept.command answer) where
+  pub numbers_none : answer ≡ [] → AreNumbered kept panel
+  numbers_none none row here name = of (is_unnumbered row) refl
+    where
+      of : (b : Bool) → is_unnumbered row ≡ b → b ≡ false
+      of false is = refl
+      of true is = absurd (passes_nothing (of_lower_command panel 1) kept.command row (found_none _ _ kept.command answer found none) here
+          (and_from _ _ (ap (is_text panel) name ∙ text-same panel panel refl) is))
+
+  pub numbers_some : (length answer ≡ 0 → ⊥) → cannot_stand_in kept AnyName ≡ true
+  numbers_some some = of (filter (of_lower_command panel 1) kept.command) refl
+    where
+      below : (row : Row) → Has kept.command row → is_unnumbered row ≡ true → cannot_stand_in kept AnyName ≡ true
+      below row here is =
+          or_right (list_any is_nameless kept.panel) _ (or_right (list_any is_nameless kept.command) _
+          (or_right (list_any is_nameless kept.place) _ (or_right (list_any is_nameless kept.shown) _
+          (or_right (list_any is_nameless kept.imported) _ (has_any is_unnumbered kept.command row here is)))))
+
+      of : (rows : List Row) → filter (of_lower_command panel 1) kept.command ≡ rows → cannot_stand_in kept AnyName ≡ true
+      of [] is = absurd (some (length_permutation _ _ found.shown ∙ ap (λ l. length (map (λ (r : Row). column r 2 ∷ []) l)) is))
+      of (row ∷ more) is =
+          let had = has_filtered (of_lower_command panel 1) kept.command row (subst (λ l. Has l row) (sym is) (inl refl)) in
+          below row had.0 (and_parts (is_text panel (column row 1)) (is_below 1 (column row 2)) had.1).1
 
 -- ---- the next of fewer names, and of two lists
 
-pub next_fewer : (Many Few : Text → Type 0) (after : Text) (o : Option Text) → ((text : Text) → Few text → Many text)
-    → IsNextText Many after o → IsNextText Few after o
-next_fewer Many Few after None fewer none = λ text is past. none text (fewer text is) past
-next_fewer Many Few after (Some text) fewer at =
+pub next_fewer : (Many Few : Text → Type 0) (from : Text) (o : Option Text) → ((text : Text) → Few text → Many text)
+    → IsNextText Many from o → IsNextText Few from o
+next_fewer Many Few from None fewer none = λ text is past. none text (fewer text is) past
+next_fewer Many Few from (Some text) fewer at =
     record { past = at.past; least = λ other is past before. at.least other (fewer other is) past before }
 
-module _ (One Other : Text → Type 0) (after : Text) where
+module _ (One Other : Text → Type 0) (from : Text) where
   abbrev Either : Text → Type 0
   Either name = One name ⊎ Other name
 
-  pub lesser_other : (a b : Text) → IsTextAt One after a → IsTextAt Other after b → IsBefore b a → IsTextAt Either after b
+  pub lesser_other : (a b : Text) → IsTextAt One from a → IsTextAt Other from b → IsBefore b a → IsTextAt Either from b
   lesser_other a b one other less = record {
     past = other.past;
     least = λ t is past before. elim is [
@@ -99,7 +146,7 @@ module _ (One Other : Text → Type 0) (after : Text) where
     ];
   }
 
-  pub lesser_one : (a b : Text) → IsTextAt One after a → IsTextAt Other after b → (IsBefore b a → ⊥) → IsTextAt Either after a
+  pub lesser_one : (a b : Text) → IsTextAt One from a → IsTextAt Other from b → (IsBefore b a → ⊥) → IsTextAt Either from a
   lesser_one a b one other more = record {
     past = one.past;
     least = λ t is past before. elim is [
@@ -114,7 +161,7 @@ module _ (One Other : Text → Type 0) (after : Text) where
     ];
   }
 
-  pub only_other : (o : Option Text) → IsNextText One after None → IsNextText Other after o → IsNextText Either after o
+  pub only_other : (o : Option Text) → IsNextText One from None → IsNextText Other from o → IsNextText Either from o
   only_other None none other = λ t is past. elim is [
     | inl first ↦ none t first past
     | inr second ↦ other t second past
@@ -127,7 +174,7 @@ module _ (One Other : Text → Type 0) (after : Text) where
     ];
   }
 
-  pub only_one : (o : Option Text) → IsNextText One after o → IsNextText Other after None → IsNextText Either after o
+  pub only_one : (o : Option Text) → IsNextText One from o → IsNextText Other from None → IsNextText Either from o
   only_one None one none = λ t is past. elim is [
     | inl first ↦ one t first past
     | inr second ↦ none t second past
@@ -140,13 +187,13 @@ module _ (One Other : Text → Type 0) (after : Text) where
     ];
   }
 
-  pub next_either : (first second result : Option Text) → IsLesser first second result → IsNextText One after first
-      → IsNextText Other after second → IsNextText Either after result
-  next_either None second result is one other = subst (IsNextText Either after) (sym is) (only_other second one other)
-  next_either (Some a) None result is one other = subst (IsNextText Either after) (sym is) (only_one (Some a) one other)
+  pub next_either : (first second result : Option Text) → IsLesser first second result → IsNextText One from first
+      → IsNextText Other from second → IsNextText Either from result
+  next_either None second result is one other = subst (IsNextText Either from) (sym is) (only_other second one other)
+  next_either (Some a) None result is one other = subst (IsNextText Either from) (sym is) (only_one (Some a) one other)
   next_either (Some a) (Some b) result is one other = elim is [
-    | inl second ↦ subst (IsNextText Either after) (sym second.0) (lesser_other a b one other second.1)
-    | inr first ↦ subst (IsNextText Either after) (sym first.0) (lesser_one a b one other first.1)
+    | inl second ↦ subst (IsNextText Either from) (sym second.0) (lesser_other a b one other second.1)
+    | inr first ↦ subst (IsNextText Either from) (sym first.0) (lesser_one a b one other first.1)
   ]
 
 -- ---- a name that stands is a row's
@@ -198,140 +245,177 @@ schedule_tells tables name told is = record {
   gone = λ none has. both_ways (is_some told) none (ap is_some is ∙ has);
 }
 
-pub calendar_tells : (kept : Kept) (name : Text) (o : Option Entry) → IsNextEntry (tables_in kept) name [] o
+pub calendar_tells : (kept : Kept) (name : Text) (o : Option Entry) → IsNextEntry kept name [] o
     → Tells (HasCalendar (tables_in kept) name) (is_some o)
 calendar_tells kept name None none = record {
   held = λ some. absurd (true≢false (sym some));
-  gone =
-      λ _ has. no_empty_entry kept name (subst (IsImported (tables_in kept) name)
-      (empty_or_after has.0 (λ past. none has.0 has.1 past)) has.1);
+  gone = λ _ has. none has.0 (imported_has kept name has.0 has.1) (λ before. none_before_empty has.0 before);
 }
 calendar_tells kept name (Some entry) at = record {
   held = λ _. (spelling entry, at.here);
   gone = λ none. absurd (true≢false none);
 }
 
-pub panel_numbered : (tables : Tables) (name : Text) → (tables.next name ≡ 1 → ⊥) → Tells (HasPanel tables name) true
-panel_numbered tables name other = record { held = λ _. inl other; gone = λ none. absurd (true≢false none) }
+pub panel_next : (tables : Tables) (name : Text) → (tables.next name ≡ 1 → ⊥) → Tells (HasPanel tables name) true
+panel_next tables name other = record { held = λ _. inl other; gone = λ none. absurd (true≢false none) }
 
-pub panel_tells : (tables : Tables) (name : Text) (o : Option NumberedRow) → tables.next name ≡ 1 → IsNextRow (tables.row name) 0 o
-    → Tells (HasPanel tables name) (is_some o)
-panel_tells tables name None one none = record {
-  held = λ some. absurd (true≢false (sym some));
-  gone = λ _ has. elim has [
+-- a panel whose next number is 1 stands by a row
+pub panel_tells : (tables : Tables) (name : Text) (b : Bool) → tables.next name ≡ 1
+    → Tells ((number : ℕ) × IsSome (tables.row name number)) b → Tells (HasPanel tables name) b
+panel_tells tables name b one tells = record {
+  held = λ is. inr (tells.held is);
+  gone = λ is has. elim has [
     | inl other ↦ other one
-    | inr row ↦ both_ways (is_some (tables.row name row.0)) (ap is_some (none row.0 (omega arith))) row.1
+    | inr row ↦ tells.gone is row
   ];
 }
-panel_tells tables name (Some found) one at = record {
-  held = λ _. inr (found.number, ap is_some at.here);
+
+pub panel_told : (tables : Tables) (name : Text) (r : Result Bool ReadFault) → tables.next name ≡ 1
+    → IfOk r (Tells ((number : ℕ) × IsSome (tables.row name number))) → IfOk r (Tells (HasPanel tables name))
+panel_told tables name (Ok b) one tells = panel_tells tables name b one tells
+panel_told tables name (Err e) one tells = tt
+
+pub panel_numbered : (kept : Kept) (name : Text) (r : Result Bool ReadFault) → AreNumbered kept name
+    → IfOk r (Tells (HasPanel (tables_in kept) name)) → IfOk r (IsNumbered kept name)
+panel_numbered kept name (Ok b) numbered tells = record { tells = tells; numbered = numbered }
+panel_numbered kept name (Err e) numbered tells = tt
+
+-- whether a panel has a row
+pub row_none : (kept : Kept) (panel : Text) → IsNextNumber kept panel 1 None
+    → Tells ((number : ℕ) × IsSome ((tables_in kept).row panel number)) false
+row_none kept panel none = record {
+  held = λ is. absurd (true≢false (sym is));
+  gone = λ _ row. true≢false (sym row.1 ∙ ap is_some (no_row kept panel row.0 (λ is. none row.0 is.least is)));
+}
+
+pub row_some : (kept : Kept) (panel : Text) (number : ℕ) → is_some ((tables_in kept).row panel number) ≡ true
+    → Tells ((number : ℕ) × IsSome ((tables_in kept).row panel number)) true
+row_some kept panel number some = record { held = λ _. (number, some); gone = λ none. absurd (true≢false none) }
+
+-- an array with a value, and one without
+pub value_held : (places : Places) (priority : ℕ) → is_some (get places priority) ≡ true → Tells (places ≡ empty → ⊥) true
+value_held places priority some = record {
+  held = λ _ none. both_ways (is_some (get places priority)) (ap is_some (ap (λ p. get p priority) none ∙ get-empty nat_cmp priority)) some;
   gone = λ none. absurd (true≢false none);
 }
 
-pub point_held : (tables : Tables) (name : Text) (q : ℕ) → is_some (get (tables.places name) q) ≡ true → Tells (HasPoint tables name) true
-point_held tables name q some = record {
-  held = λ _ none. both_ways (is_some (get (tables.places name) q)) (ap is_some (ap (λ p. get p q) none ∙ get-empty nat_cmp q)) some;
-  gone = λ none. absurd (true≢false none);
-}
-
-pub point_gone : (kept : Kept) (name : Text) → ((q : ℕ) → 1 ≤ q → q < 17 → get ((tables_in kept).places name) q ≡ None)
-    → Tells (HasPoint (tables_in kept) name) false
-point_gone kept name none = record {
+pub value_gone : (places : Places) → HasSixteenPlaces places → ((q : ℕ) → 1 ≤ q → q ≤ 16 → get places q ≡ None)
+    → Tells (places ≡ empty → ⊥) false
+value_gone places sixteen none = record {
   held = λ some. absurd (true≢false (sym some));
-  gone = λ _ has. has (no_places kept name all);
+  gone = λ _ has. has (same_map nat_cmp_total nat_cmp-IsAntisymmetric places empty (λ q. all q ∙ sym (get-empty nat_cmp q)));
 }
   where
-    sixteen : HasSixteenPlaces ((tables_in kept).places name)
-    sixteen = outside_places name kept
-
-    all : (q : ℕ) → get ((tables_in kept).places name) q ≡ None
+    all : (q : ℕ) → get places q ≡ None
     all q = elim (cases_order q 0) [
-      | inl first ↦ ap (get ((tables_in kept).places name)) first ∙ sixteen.above
+      | inl first ↦ ap (get places) first ∙ sixteen.above
       | inr rest ↦ elim (cases_order q 17) [
         | inl same ↦ sixteen.below q (omega (arith, same))
         | inr apart ↦ elim apart [
-          | inl less ↦ none q (omega (arith, rest)) less
+          | inl less ↦ none q (omega (arith, rest)) (omega (arith, less))
           | inr more ↦ sixteen.below q (omega (arith, more))
         ]
       ]
     ]
 
--- ---- nothing stands under an empty name
+-- ---- what is kept under a name that stands
 
-unsaid : {Item : Type 0} (said : Row → Option Item) (of_key : Row → Bool) (has_key : Item → Bool) → Agrees said of_key has_key
-    → ((row : Row) → of_key row ≡ true → said row ≡ None)
-    → Agrees said (λ row. false) has_key
-unsaid {Item} said of_key has_key agrees none row item says = sym (sym (agrees row item says) ∙ of (of_key row) refl)
-  where
-    of : (b : Bool) → of_key row ≡ b → b ≡ false
-    of false is = refl
-    of true is = absurd (not_both (said row) item says (none row is))
+pub stands_kept : (list : NameList) (kept : Kept) (name : Text) → StandsIn list (tables_in kept) name → IsKept list kept name
+unfolding StandsIn IsKept
+stands_kept Panels kept name is = panel_named kept name is
+stands_kept Points kept name is = point_named kept name is
+stands_kept Schedules kept name is = schedule_named kept name is
+stands_kept Calendars kept name is = calendar_named kept name is
 
-nameless : (row : Row) → is_text [] (column row 1) ≡ true → name_in (column row 1) ≡ None
-nameless row is = ap name_in (text_here [] (column row 1) is)
+pub panels_listed : (kept : Kept) (name : Text) (stands : Bool) → IsName name → IsNumbered kept name stands → IsListed Panels kept name stands
+unfolding StandsIn IsGood
+panels_listed kept name stands named is = record { tells = is.tells; good = (named, is.numbered) }
 
-empty_next : (kept : Kept) → (tables_in kept).next [] ≡ 1
-empty_next kept =
-    no-row next_said with_next (λ name. 1) (λ t. t []) (λ row. false) (λ y. bytes_eq [] y.panel)
-    (unsaid next_said (of_panel []) (λ y. bytes_eq [] y.panel) (panel-agrees []) (λ row is. rw (nameless row is) refl))
-    (λ y t other. next-at [] y t false other)
-    kept.panel (none_picked kept.panel)
+pub points_listed : (kept : Kept) (name : Text) (stands : Bool) → IsName name → Tells (HasPoint (tables_in kept) name) stands
+    → IsListed Points kept name stands
+unfolding StandsIn IsGood
+points_listed kept name stands named is = record { tells = is; good = named }
 
-empty_row : (kept : Kept) (number : ℕ) → (tables_in kept).row [] number ≡ None
-empty_row kept number =
-    no-row command_said with_row (λ name n. None) (λ t. t [] number) (λ row. false) (λ y. bytes_eq [] y.panel && number == y.number)
-    (unsaid command_said (of_command [] number) (λ y. bytes_eq [] y.panel && number == y.number) (command-agrees [] number)
-    (λ row is. rw (nameless row (and_parts (is_text [] (column row 1)) (is_count number (column row 2)) is).0) refl))
-    (λ y t other. row-at [] number y t false other)
-    kept.command (none_picked kept.command)
+pub schedules_listed : (kept : Kept) (name : Text) (stands : Bool) → IsName name → Tells (HasSchedule (tables_in kept) name) stands
+    → IsListed Schedules kept name stands
+unfolding StandsIn IsGood
+schedules_listed kept name stands named is = record { tells = is; good = named }
 
-empty_place : (kept : Kept) (q : ℕ) → get ((tables_in kept).places []) q ≡ None
-empty_place kept q =
-    no-row place_said with_place (λ name. empty) (λ t. get (t []) q) (λ row. false) (λ y. bytes_eq [] y.point && q == y.priority)
-    (unsaid place_said (of_place [] q) (λ y. bytes_eq [] y.point && q == y.priority) (place-agrees [] q)
-    (λ row is. rw (nameless row (and_parts (is_text [] (column row 1)) (is_count q (column row 2)) is).0) refl))
-    (λ y t other. place-at [] q y t false other)
-    kept.place (none_picked kept.place)
-    ∙ get-empty nat_cmp q
+pub calendars_listed : (kept : Kept) (name : Text) (stands : Bool) → IsName name → Tells (HasCalendar (tables_in kept) name) stands
+    → IsListed Calendars kept name stands
+unfolding StandsIn IsGood
+calendars_listed kept name stands named is = record { tells = is; good = named }
 
-empty_shown : (kept : Kept) → (tables_in kept).shown [] ≡ None
-empty_shown kept =
-    no-row shown_said with_shown (λ name. None) (λ t. t []) (λ row. false) (λ y. bytes_eq [] y.schedule)
-    (unsaid shown_said (of_schedule []) (λ y. bytes_eq [] y.schedule) (schedule-agrees []) (λ row is. rw (nameless row is) refl))
-    (λ y t other. shown-at [] y t false other)
-    kept.shown (none_picked kept.shown)
+pub panels_told : (kept : Kept) (name : Text) (r : Result Bool ReadFault) → IsName name → IfOk r (IsNumbered kept name)
+    → IfOk r (IsListed Panels kept name)
+panels_told kept name (Ok b) named is = panels_listed kept name b named is
+panels_told kept name (Err e) named is = tt
 
-empty_imported : (kept : Kept) (text : Text) → (tables_in kept).imported [] text ≡ false
-empty_imported kept text =
-    no-row imported_said with_imported (λ name t. false) (λ t. t [] text) (λ row. false)
-    (λ y. bytes_eq [] y.calendar && bytes_eq text (spelling y.entry))
-    (unsaid imported_said (of_entry [] text) (λ y. bytes_eq [] y.calendar && bytes_eq text (spelling y.entry)) (entry-agrees [] text)
-    (λ row is. rw (nameless row (and_parts (is_text [] (column row 1)) (is_text text (column row 2)) is).0) refl))
-    (λ y t other. entry-at [] text y t false other)
-    kept.imported (none_picked kept.imported)
+pub points_told : (kept : Kept) (name : Text) (r : Result Bool ReadFault) → IsName name → IfOk r (Tells (HasPoint (tables_in kept) name))
+    → IfOk r (IsListed Points kept name)
+points_told kept name (Ok b) named is = points_listed kept name b named is
+points_told kept name (Err e) named is = tt
 
-pub empty_stands : (list : NameList) (kept : Kept) → StandsIn list (tables_in kept) [] → ⊥
-unfolding StandsIn
-empty_stands Panels kept (inl other) = other (empty_next kept)
-empty_stands Panels kept (inr row) = both_ways (is_some ((tables_in kept).row [] row.0)) (ap is_some (empty_row kept row.0)) row.1
-empty_stands Points kept has = has (no_places kept [] (empty_place kept))
-empty_stands Schedules kept has = both_ways (is_some ((tables_in kept).shown [])) (ap is_some (empty_shown kept)) has
-empty_stands Calendars kept has = true≢false (sym has.1 ∙ empty_imported kept has.0)
+pub schedules_told : (kept : Kept) (name : Text) (r : Result Bool ReadFault) → IsName name
+    → IfOk r (Tells (HasSchedule (tables_in kept) name)) → IfOk r (IsListed Schedules kept name)
+schedules_told kept name (Ok b) named is = schedules_listed kept name b named is
+schedules_told kept name (Err e) named is = tt
 
-pub no_value : (o : Option ℤ) → is_some o ≡ false → o ≡ None
-no_value None is = refl
-no_value (Some v) is = absurd (true≢false is)
+pub calendars_told : (kept : Kept) (name : Text) (r : Result Bool ReadFault) → IsName name
+    → IfOk r (Tells (HasCalendar (tables_in kept) name)) → IfOk r (IsListed Calendars kept name)
+calendars_told kept name (Ok b) named is = calendars_listed kept name b named is
+calendars_told kept name (Err e) named is = tt
 
--- a place more without a value
-pub point_more : (places : Places) (priority : ℕ) → ((q : ℕ) → 1 ≤ q → q < priority → get places q ≡ None) → get places priority ≡ None
-    → (q : ℕ) → 1 ≤ q → q < priority + 1 → get places q ≡ None
-point_more places priority none here q low high = elim (cases_order q priority) [
-  | inl same ↦ ap (get places) same ∙ here
-  | inr apart ↦ elim apart [
-    | inl less ↦ none q low less
-    | inr more ↦ absurd (omega (arith, high, more))
-  ]
-]
+pub kept_panels : (kept : Kept) → IsKept Panels kept ≡ (λ name. HasName kept.panel name ⊎ HasName kept.command name)
+unfolding IsKept
+kept_panels kept = refl
+
+pub kept_points : (kept : Kept) → IsKept Points kept ≡ HasName kept.place
+unfolding IsKept
+kept_points kept = refl
+
+pub kept_schedules : (kept : Kept) → IsKept Schedules kept ≡ HasName kept.shown
+unfolding IsKept
+kept_schedules kept = refl
+
+pub kept_calendars : (kept : Kept) → IsKept Calendars kept ≡ HasName kept.imported
+unfolding IsKept
+kept_calendars kept = refl
+
+-- ---- nothing is nameless where what is kept under each name is good
+
+named_row : (rows : List Row) → AreTexted rows → ((name : Text) → HasName rows name → IsName name) → list_any is_nameless rows ≡ false
+named_row rows texted good = has_none is_nameless rows (λ row here.
+    let text = texted row here in
+    let named : IsName text.0 = good text.0 (row, here, text.1) in
+    ap (λ v. not (is_some (name_in v))) text.1 ∙ rw named refl)
+
+pub none_nameless : (db : Database) → IsOurs db
+    → ((list : NameList) (name : Text) → IsKept list (kept_in db.trees) name → IsGood list (kept_in db.trees) name)
+    → cannot_stand_in (kept_in db.trees) AnyName ≡ false
+unfolding IsKept IsGood
+none_nameless db ours good =
+    or_from (list_any is_nameless (kept_in db.trees).panel) _
+    (named_row (kept_in db.trees).panel (panel_texted db ours) (λ name has. (good Panels name (inl has)).0))
+    (or_from (list_any is_nameless (kept_in db.trees).command) _
+    (named_row (kept_in db.trees).command (command_texted db ours) (λ name has. (good Panels name (inr has)).0))
+    (or_from (list_any is_nameless (kept_in db.trees).place) _
+    (named_row (kept_in db.trees).place (place_texted db ours) (λ name has. good Points name has))
+    (or_from (list_any is_nameless (kept_in db.trees).shown) _
+    (named_row (kept_in db.trees).shown (shown_texted db ours) (λ name has. good Schedules name has))
+    (or_from (list_any is_nameless (kept_in db.trees).imported) _
+    (named_row (kept_in db.trees).imported (imported_texted db ours) (λ name has. good Calendars name has))
+    (has_none is_unnumbered (kept_in db.trees).command (λ row here.
+    let text = command_texted db ours row here in (good Panels text.0 (inr (row, here, text.1))).1 row here text.1))))))
+
+-- the four lists are good
+pub four_good : (kept : Kept) (panels points schedules calendars : List Text) → AreAll Panels kept panels → AreAll Points kept points
+    → AreAll Schedules kept schedules → AreAll Calendars kept calendars
+    → (list : NameList) (name : Text) → IsKept list kept name → IsGood list kept name
+four_good kept panels points schedules calendars p q s c Panels = p.good
+four_good kept panels points schedules calendars p q s c Points = q.good
+four_good kept panels points schedules calendars p q s c Schedules = s.good
+four_good kept panels points schedules calendars p q s c Calendars = c.good
 
 pub all_stand : (tables : Tables) (names : Names) → AreTexts (StandsIn Panels tables) names.panels.items
     → AreTexts (StandsIn Points tables) names.points.items
@@ -340,19 +424,3 @@ pub all_stand : (tables : Tables) (names : Names) → AreTexts (StandsIn Panels 
 unfolding StandsIn
 all_stand tables names panels points schedules calendars =
     record { panels = panels; points = points; schedules = schedules; calendars = calendars }
-
-pub stands_panels : (tables : Tables) → StandsIn Panels tables ≡ HasPanel tables
-unfolding StandsIn
-stands_panels tables = refl
-
-pub stands_points : (tables : Tables) → StandsIn Points tables ≡ HasPoint tables
-unfolding StandsIn
-stands_points tables = refl
-
-pub stands_schedules : (tables : Tables) → StandsIn Schedules tables ≡ HasSchedule tables
-unfolding StandsIn
-stands_schedules tables = refl
-
-pub stands_calendars : (tables : Tables) → StandsIn Calendars tables ≡ HasCalendar tables
-unfolding StandsIn
-stands_calendars tables = refl

@@ -1,31 +1,103 @@
 -- A priority array that is made of the rows of a point, one after the other.
-use Rattle.std.proofs.Common.{◌≡◌, ◌<◌, ◌≤◌, ◌+◌, ◌==◌, ◌++◌, ◌&&◌, ◌||◌, inl, inr, ℕ, ℤ, pos, negsuc, Bool, true, false, not, is_some, nat_le, nat_lt, cond, List, [], ◌∷◌, filter, map, take, drop, get_or, length, take-append-drop, Contains, Option, Some, None, refl, sym, ap, ◌∙◌, subst, arith, IsTrue, true≢false}
+use Rattle.std.proofs.Common.{◌≡◌, ◌<◌, ◌≤◌, ◌+◌, ◌==◌, ◌++◌, ◌&&◌, ◌||◌, inl, inr, ℕ, ℤ, pos, negsuc, Bool, true, false, not, is_some, nat_le, nat_lt, cond, List, [], ◌∷◌, filter, map, take, drop, get_or, length, take-append-drop, filter_map, suc, ◌⊎◌, Option, Some, None, refl, sym, ap, ◌∙◌, subst, arith, IsTrue, true≢false}
 use Rattle.std.specs.FinMap.{empty, get, get-empty, nat_cmp-IsAntisymmetric, same_map}
 use Rattle.std.specs.Cmp.{nat_cmp_total}
 use Rattle.std.specs.List.Sorted.{IsPermutation}
 use Rattle.std.specs.Ordering.{nat_cmp}
-use Rattle.std.proofs.lemmas.Bool.{cases_Bool, eq-eqb, eqb-true, ltb-false, ltb-true}
+use Rattle.std.proofs.lemmas.Bool.{and_from, and_parts, cases_Bool, eq-eqb, eqb-true, ltb-false, ltb-true}
 use Rattle.std.proofs.lemmas.List.{take_more}
 use Rattle.std.proofs.lemmas.List.Elements.{filter-append}
 use Rattle.std.proofs.lemmas.List.Sorted.{IsPermutation-map}
 use Rattle.points.specs.Name.{IsName}
 use Rattle.points.specs.PriorityArray.{Places}
 use Rattle.sqlite_rules.specs.Lists.{Has}
-use Rattle.sqlite_rules.proofs.ListLemmas.{all_from, all_has, contains_had, has_at, has_filtered}
-use Rattle.sqlite_rules.proofs.ProbeLemmas.{has_mapped}
+use Rattle.sqlite_rules.proofs.ListLemmas.{all_from, all_has, has_at, has_filtered, has_kept}
+use Rattle.sqlite_rules.proofs.ProbeLemmas.{has_mapped, mapped_has}
 use Rattle.sqlite_trees.proofs.ListLemmas.{IsPermutation-filter, all-permutation, filter-map, map-map}
 use Rattle.sqlite_value.specs.declared.value.Value.{Value}
 use Rattle.sqlite_value.specs.declared.value.Value.TheVariants.{Blob, Int, Null, Real, Text}
 use Rattle.sqlite_value.specs.Order.{Row, column}
 use Rattle.sql_rows.specs.Looking.{Finds}
+use Rattle.std.specs.List.{cons_option, list_all, list_any}
+use Rattle.std.specs.Str.{bytes_eq}
+use Rattle.std.proofs.lemmas.List.Sorted.{IsPermutation-sym}
+use Rattle.store.specs.Asked.Asked.{ArrayOf}
+use Rattle.store.specs.declared.change.PlaceValue.{PlaceValue}
 use Rattle.sql_reading.specs.Asking.{AreSeveral}
 use Rattle.sql_reading.specs.Placing.{AreTold, IsPlaced, cannot_place, is_taken_in, rows_at}
-use Rattle.sql_reading.proofs.ToldLemmas.{count_given, name_here, place_none, place_one, place_several}
+use Rattle.sql_reading.proofs.FoundLemmas.{found_none, found_one, found_two}
+use Rattle.sql_reading.proofs.ToldLemmas.{count_given, name_here, place_none, place_one}
+use Rattle.sql_rows.specs.Broken.{cannot_stand_in}
 use Rattle.sql_rows.specs.Cells.{count_in, is_count, is_text, number_in}
-use Rattle.sql_rows.specs.Rows.{of_place}
-use Rattle.sql_rows.specs.Stored.{Kept, is_sound_in, tables_in}
-use Rattle.sql_rows.proofs.StoredLemmas.{bad_place, outside_places}
+use Rattle.sql_rows.specs.Rows.{of_place, place_said, same_place}
+use Rattle.sql_rows.specs.Stored.{Kept, are_apart, tables_in}
+use Rattle.sql_rows.proofs.BrokenLemmas.{broken_here, list_all_from}
+use Rattle.sql_rows.proofs.ReadCellLemmas.{place-agrees, text-same}
+use Rattle.sql_rows.proofs.StoredLemmas.{alike-number, alike-text, outside_places}
+use Rattle.sql_rows.proofs.StoredRowLemmas.{said-filter, two-rows}
 use Rattle.sql_rows.proofs.TableLemmas.{get-put_at}
+
+-- ---- lists
+
+has_pushed : (rows : List Row) (last row : Row) → Has (rows ++ last ∷ []) row → Has rows row ⊎ (row ≡ last)
+has_pushed [] last row (inl same) = inr same
+has_pushed [] last row (inr none) = absurd none
+has_pushed (r ∷ rows) last row (inl same) = inl (inl same)
+has_pushed (r ∷ rows) last row (inr here) = elim (has_pushed rows last row here) [ inl old ↦ inl (inr old) | inr same ↦ inr same ]
+
+-- of rows of which each that passes a test passes another, no more pass it
+fewer : (test here other : Row → Bool) → ((row : Row) → here row ≡ true → test row ≡ true → other row ≡ true) → (rows : List Row)
+    → length (filter test (filter here rows)) ≤ length (filter other rows)
+fewer test here other passes [] = omega arith
+fewer test here other passes (row ∷ rows) =
+    let rest = fewer test here other passes rows in
+    elim (cases_Bool (here row)) [
+      | inl is ↦ elim (cases_Bool (test row)) [
+        | inl both ↦ rw (is, both, passes row is both) (omega (arith, rest))
+        | inr off ↦ rw (is, off) (at_least rest)
+      ]
+      | inr off ↦ rw off (at_least rest)
+    ]
+  where
+    at_least : length (filter test (filter here rows)) ≤ length (filter other rows)
+        → length (filter test (filter here rows)) ≤ length (cond (other row) (row ∷ filter other rows) (filter other rows))
+    at_least rest = elim (cases_Bool (other row)) [ inl is ↦ rw is (omega (arith, rest)) | inr off ↦ rw off rest ]
+
+module _ {Item : Type 0} (same : Item → Item → Bool) where
+  more_at : (x y : Item) (items : List Item) → length (filter (same y) items) ≤ length (filter (same y) (x ∷ items))
+  more_at x y items = elim (cases_Bool (same y x)) [ inl is ↦ rw is (omega arith) | inr off ↦ rw off (omega arith) ]
+
+  like_here : (x y : Item) (items : List Item) (b : Bool) → same x y ≡ b → length (filter (same x) (y ∷ items)) ≡ 0
+      → (length (filter (same x) items) ≡ 0 → list_any (same x) items ≡ false) → (b || list_any (same x) items) ≡ false
+  like_here x y items true is none rest =
+      absurd (let some : length (filter (same x) (y ∷ items)) ≡ suc (length (filter (same x) items)) = rw is refl in
+      omega (arith, some, none))
+  like_here x y items false is none rest =
+      rest (let all : length (filter (same x) (y ∷ items)) ≡ length (filter (same x) items) = rw is refl in sym all ∙ none)
+
+  none_like : (x : Item) (items : List Item) → length (filter (same x) items) ≡ 0 → list_any (same x) items ≡ false
+  none_like x [] none = refl
+  none_like x (y ∷ items) none = like_here x y items (same x y) refl none (none_like x items)
+
+  -- items of which none is like another are apart
+  pub apart_from : ((x : Item) → same x x ≡ true) → (items : List Item) → ((x : Item) → length (filter (same x) items) ≤ 1)
+      → are_apart same items ≡ true
+  apart_from itself [] one = refl
+  apart_from itself (x ∷ items) one =
+      let here : length (filter (same x) (x ∷ items)) ≡ suc (length (filter (same x) items)) = rw (itself x) refl in
+      let most = one x in
+      let none : length (filter (same x) items) ≡ 0 = omega (arith, here, most) in
+      and_from (not (list_any (same x) items)) (are_apart same items) (ap not (none_like x items none))
+      (apart_from itself items (λ y. let more = more_at x y items in let most = one y in omega (arith, more, most)))
+
+one_said : {Item : Type 0} (o : Option Item) (items : List Item) (rows : List Row) → length items ≤ length rows
+    → length (cons_option o items) ≤ suc (length rows)
+one_said None items rows rest = omega (arith, rest)
+one_said (Some item) items rows rest = omega (arith, rest)
+
+no_more_said : {Item : Type 0} (said : Row → Option Item) (rows : List Row) → length (filter_map said rows) ≤ length rows
+no_more_said said [] = omega arith
+no_more_said said (row ∷ rows) = one_said (said row) (filter_map said rows) rows (no_more_said said rows)
 
 -- ---- one row more
 
@@ -40,6 +112,7 @@ told_none array is = rw is (record {
   none = λ q none. refl;
   some = λ q x has. absurd (none≢some x (sym (nothing q) ∙ has));
   within = λ q x has. absurd (none≢some x (sym (nothing q) ∙ has));
+  each = λ row here. absurd here;
 })
 
 kept_count : (b : Bool) (n priority : ℕ) → cond b (Some n) None ≡ Some priority → n ≡ priority
@@ -102,8 +175,20 @@ module _ (rows : List Row) (i : ℕ) (row : Row) (old new : Places) (below : i <
     | inr fails ↦ told.within q x (sym (value_now q false fails) ∙ has)
   ]
 
+  each_now : (r : Row) → Has (take (i + 1) rows) r
+      → ((priority : ℕ) × (count_in 1 16 (column r 0) ≡ Some priority)) × ((x : ℤ) × (number_in (column r 1) ≡ Some x))
+  each_now r there =
+      let all : take (i + 1) rows ≡ take i rows ++ row ∷ [] = take_more rows i row below ∙ ap (λ x. take i rows ++ x ∷ []) (sym here) in
+      elim (has_pushed (take i rows) row r (subst (λ l. Has l r) all there)) [
+        | inl old ↦ told.each r old
+        | inr same ↦ (
+          (placed.priority, ap (λ x. count_in 1 16 (column x 0)) same ∙ placed.at),
+          (placed.value, ap (λ x. number_in (column x 1)) same ∙ placed.tells),
+        )
+      ]
+
   pub told_more : AreTold (take (i + 1) rows) new
-  told_more = record { none = none_now; some = some_now; within = within_now }
+  told_more = record { none = none_now; some = some_now; within = within_now; each = each_now }
 
 -- ---- what the rows of a point tell
 
@@ -180,7 +265,7 @@ module _ (point : List ℕ) (kept : Kept) (answer : List Row) (named : IsName po
 
   -- ---- a row that cannot be placed
 
-  origin : (row : Row) → Has answer row → (r : Row) × Contains kept.place r × (is_text point (column r 1) ≡ true) × (row ≡ both r)
+  origin : (row : Row) → Has answer row → (r : Row) × Has kept.place r × (is_text point (column r 1) ≡ true) × (row ≡ both r)
   origin row had =
       let picked = filter (λ (r : Row). is_text point (column r 1)) kept.place in
       let there : Has (map both picked) row =
@@ -188,21 +273,39 @@ module _ (point : List ℕ) (kept : Kept) (answer : List Row) (named : IsName po
       (all_from (Has (map both picked)) (map both picked) (λ e h. h))) had in
       let from = has_mapped both picked row there in
       let is = has_filtered (λ (r : Row). is_text point (column r 1)) kept.place from.0 from.1 in
-      (from.0, contains_had kept.place from.0 is.0, is.1, from.2)
+      (from.0, is.0, is.1, from.2)
 
-  no_priority : (row : Row) → Has answer row → count_in 1 16 (column row 0) ≡ None → is_sound_in kept ≡ false
+  no_priority : (row : Row) → Has answer row → count_in 1 16 (column row 0) ≡ None → cannot_stand_in kept (ArrayOf point) ≡ true
   no_priority row had unread =
       let it = origin row had in
       let reads : count_in 1 16 (column it.0 2) ≡ None = ap (λ r. count_in 1 16 (column r 0)) (sym it.3) ∙ unread in
-      bad_place kept it.0 it.1 (rw (name_here point (column it.0 1) named it.2, reads) refl)
+      broken_here place_said (λ r. is_text point (column r 1)) same_place kept.place it.0 it.1 it.2
+      (rw (name_here point (column it.0 1) named it.2, reads) refl)
 
   no_value : (row : Row) (priority : ℕ) → Has answer row → count_in 1 16 (column row 0) ≡ Some priority → number_in (column row 1) ≡ None
-      → is_sound_in kept ≡ false
+      → cannot_stand_in kept (ArrayOf point) ≡ true
   no_value row priority had at unread =
       let it = origin row had in
       let counted : count_in 1 16 (column it.0 2) ≡ Some priority = ap (λ r. count_in 1 16 (column r 0)) (sym it.3) ∙ at in
       let reads : number_in (column it.0 3) ≡ None = ap (λ r. number_in (column r 1)) (sym it.3) ∙ unread in
-      bad_place kept it.0 it.1 (rw (name_here point (column it.0 1) named it.2, counted, reads) refl)
+      broken_here place_said (λ r. is_text point (column r 1)) same_place kept.place it.0 it.1 it.2
+      (rw (name_here point (column it.0 1) named it.2, counted, reads) refl)
+
+  -- the rows of a place are among those of its point
+  place_again : (priority : ℕ) (rows : List Row)
+      → filter (of_place point priority) (filter (λ r. is_text point (column r 1)) rows) ≡ filter (of_place point priority) rows
+  place_again priority [] = refl
+  place_again priority (row ∷ rows) = elim (cases_Bool (is_text point (column row 1))) [
+    | inl is ↦ rw (is, is) (ap (λ l. cond (is_count priority (column row 2)) (row ∷ l) l) (place_again priority rows))
+    | inr is ↦ rw is (place_again priority rows)
+  ]
+
+  same_key : (priority : ℕ) (x y : PlaceValue) → (bytes_eq point x.point && priority == x.priority) ≡ true
+      → (bytes_eq point y.point && priority == y.priority) ≡ true → same_place x y ≡ true
+  same_key priority x y first second =
+      let one = and_parts (bytes_eq point x.point) (priority == x.priority) first in
+      let other = and_parts (bytes_eq point y.point) (priority == y.priority) second in
+      and_from _ _ (alike-text point x.point y.point one.0 other.0) (alike-number priority x.priority y.priority one.1 other.1)
 
   -- the rows of a priority that two rows tell
   several : (i : ℕ) (row : Row) (old : Places) → i < length answer → row ≡ get_or answer i row → AreTold (take i answer) old
@@ -222,17 +325,20 @@ module _ (point : List ℕ) (kept : Kept) (answer : List Row) (named : IsName po
       record { first = second first.0; second = second row; more = map second rest; is = ap (map second) whole }
 
   twice : (i : ℕ) (row : Row) (old : Places) → i < length answer → row ≡ get_or answer i row → AreTold (take i answer) old
-      → (priority : ℕ) → count_in 1 16 (column row 0) ≡ Some priority → is_some (get old priority) ≡ true → is_sound_in kept ≡ false
+      → (priority : ℕ) → count_in 1 16 (column row 0) ≡ Some priority → is_some (get old priority) ≡ true
+      → cannot_stand_in kept (ArrayOf point) ≡ true
   twice i row old below here told priority at taken =
       let has = taken_of old priority taken in
       let lies = told.within priority has.0 has.1 in
-      place_several point priority kept (map second (rows_at priority answer)) (named, count_given 1 16 priority lies.0 lies.1)
-      (found_at priority)
-      (several i row old below here told priority at has.0 has.1)
+      let two = several i row old below here told priority at has.0 has.1 in
+      let it = found_two _ _ kept.place (map second (rows_at priority answer)) two.first two.second two.more (found_at priority) two.is in
+      ap not (two-rows place_said same_place (of_place point priority) (λ y. bytes_eq point y.point && priority == y.priority)
+      (place-agrees point priority) (same_key priority) (filter (λ r. is_text point (column r 1)) kept.place) it.0 it.1 it.2
+      (place_again priority kept.place ∙ it.3))
 
   of_parts : (i : ℕ) (row : Row) (old : Places) → i < length answer → row ≡ get_or answer i row → AreTold (take i answer) old
       → (o : Option ℕ) (v : Option ℤ) → count_in 1 16 (column row 0) ≡ o → number_in (column row 1) ≡ v
-      → (is_taken_in old o || not (is_some v)) ≡ true → is_sound_in kept ≡ false
+      → (is_taken_in old o || not (is_some v)) ≡ true → cannot_stand_in kept (ArrayOf point) ≡ true
   of_parts i row old below here told None v at tells is = no_priority row (has_at answer i row below here) at
   of_parts i row old below here told (Some priority) None at tells is = no_value row priority (has_at answer i row below here) at tells
   of_parts i row old below here told (Some priority) (Some x) at tells is = elim (cases_Bool (is_some (get old priority))) [
@@ -241,6 +347,53 @@ module _ (point : List ℕ) (kept : Kept) (answer : List Row) (named : IsName po
   ]
 
   pub cannot : (i : ℕ) (row : Row) (old : Places) → i < length answer → row ≡ get_or answer i row → AreTold (take i answer) old
-      → IsTrue (cannot_place row old) → is_sound_in kept ≡ false
+      → IsTrue (cannot_place row old) → cannot_stand_in kept (ArrayOf point) ≡ true
   cannot i row old below here told is =
       of_parts i row old below here told (count_in 1 16 (column row 0)) (number_in (column row 1)) refl refl is
+
+  -- ---- rows that were all placed
+
+  -- a priority has no row, or one
+  at_most_one : (array : Places) → AreTold answer array → (q : ℕ) (o : Option ℤ) → get array q ≡ o
+      → length (filter (of_place point q) kept.place) ≤ 1
+  at_most_one array told q None is =
+      let none = found_none _ _ kept.place (map second (rows_at q answer)) (found_at q) (ap (map second) (told.none q is)) in
+      omega (arith, ap length none)
+  at_most_one array told q (Some x) is =
+      let it = told.some q x is in
+      let one = found_one _ _ kept.place (map second (rows_at q answer)) (second it.0) (found_at q) (ap (map second) it.1) in
+      omega (arith, ap length one.1)
+
+  each_said : (array : Places) → AreTold answer array → (row : Row) → Has kept.place row → is_text point (column row 1) ≡ true
+      → is_some (place_said row) ≡ true
+  each_said array told row here of =
+      let there : Has answer (both row) =
+      all_has (Has answer) (map both (filter (λ (r : Row). is_text point (column r 1)) kept.place)) (both row)
+      (all-permutation (Has answer) answer (map both (filter (λ (r : Row). is_text point (column r 1)) kept.place))
+      (IsPermutation-sym _ _ found.shown) (all_from (Has answer) answer (λ e h. h)))
+      (mapped_has both (filter (λ (r : Row). is_text point (column r 1)) kept.place) row
+      (has_kept (λ (r : Row). is_text point (column r 1)) kept.place row here of)) in
+      let placed = told.each (both row) there in
+      rw (name_here point (column row 1) named of, placed.0.1, placed.1.1) refl
+
+  one_of : (array : Places) → AreTold answer array → (x : PlaceValue)
+      → length (filter (same_place x) (filter_map place_said (filter (λ (r : Row). is_text point (column r 1)) kept.place))) ≤ 1
+  one_of array told x =
+      let picked = filter (λ (r : Row). is_text point (column r 1)) kept.place in
+      let items : filter_map place_said (filter (of_place x.point x.priority) picked)
+      ≡ filter (same_place x) (filter_map place_said picked) =
+      said-filter place_said (of_place x.point x.priority) (same_place x) (place-agrees x.point x.priority) picked in
+      let said = no_more_said place_said (filter (of_place x.point x.priority) picked) in
+      let rows = fewer (of_place x.point x.priority) (λ (r : Row). is_text point (column r 1)) (of_place point x.priority)
+      (λ row of is. and_from _ _ of (and_parts (is_text x.point (column row 1)) (is_count x.priority (column row 2)) is).1) kept.place in
+      let most = at_most_one array told x.priority (get array x.priority) refl in
+      omega (arith, ap length items, said, rows, most)
+
+  pub told_stands : (array : Places) → AreTold answer array → cannot_stand_in kept (ArrayOf point) ≡ false
+  told_stands array told =
+      let picked = filter (λ (r : Row). is_text point (column r 1)) kept.place in
+      ap not (and_from (list_all (λ r. is_some (place_said r)) picked) (are_apart same_place (filter_map place_said picked))
+      (list_all_from (λ r. is_some (place_said r)) picked (λ row here.
+      let had = has_filtered (λ (r : Row). is_text point (column r 1)) kept.place row here in each_said array told row had.0 had.1))
+      (apart_from same_place (λ x. and_from _ _ (text-same x.point x.point refl) (eq-eqb x.priority x.priority refl)) (filter_map place_said picked)
+      (λ x. one_of array told x)))

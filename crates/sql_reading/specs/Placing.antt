@@ -3,6 +3,7 @@ use Rattle.std.specs.Prelude.{◌≡◌, ◌≤◌, ℕ, ℤ, List, [], ◌∷�
 use Rattle.std.specs.List.{filter}
 use Rattle.std.specs.FinMap.{get}
 use Rattle.points.specs.PriorityArray.{Places, put}
+use Rattle.sqlite_rules.specs.Lists.{Has}
 use Rattle.sqlite_value.specs.Order.{Row, column}
 use Rattle.sql_rows.specs.Cells.{count_in, is_count, number_in}
 
@@ -35,3 +36,5 @@ pub record AreTold (rows : List Row) (array : Places) : Type 0 where
   pub none : (q : ℕ) → get array q ≡ None → rows_at q rows ≡ []
   pub some : (q : ℕ) (x : ℤ) → get array q ≡ Some x → (row : Row) × (rows_at q rows ≡ row ∷ []) × (number_in (column row 1) ≡ Some x)
   pub within : (q : ℕ) (x : ℤ) → get array q ≡ Some x → (1 ≤ q) × (q ≤ 16)
+  pub each : (row : Row) → Has rows row
+      → ((priority : ℕ) × (count_in 1 16 (column row 0) ≡ Some priority)) × ((x : ℤ) × (number_in (column row 1) ≡ Some x))

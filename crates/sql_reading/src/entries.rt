@@ -1,20 +1,22 @@
 //! A calendar's entries, in the byte order of their texts.
-ghost use Rattle.std.specs.Prelude.{◌≡◌, ◌&&◌, false, Err, IfErr, IfOk, IsTrue, Some, string_bytes};
+ghost use Rattle.std.specs.Prelude.{◌≡◌, ◌&&◌, false, true, Err, IfErr, IfOk, IsTrue, Some, string_bytes};
 ghost use Rattle.std.specs.Result.{result_err};
 ghost use Rattle.sqlite.specs.Held.{state};
 ghost use Rattle.sqlite.specs.State.{HasCleanDisk, Survives};
 ghost use Rattle.sqlite_value.specs.Order.{column};
-ghost use Rattle.sql_rows.specs.Looking.{FindsLeast, is_after};
+ghost use Rattle.sql_rows.specs.Broken.{cannot_stand_in};
+ghost use Rattle.store.specs.Asked.Asked.{EntriesOf};
+ghost use Rattle.sql_rows.specs.Looking.{FindsLeast, is_from_text};
 ghost use Rattle.sql_rows.specs.Ours.{IsOurs, kept_in};
 ghost use Rattle.sql_reading.specs.Asking.{Asks, is_sql};
 ghost use Rattle.dates.specs.Entry.{spelling};
 ghost use Rattle.store.specs.Listed.{AreEntries};
 ghost use Rattle.sql_rows.specs.Cells.{is_text};
 ghost use Rattle.sql_rows.specs.declared.read_fault.ReadFault.TheVariants.{BadRow};
-ghost use Rattle.sql_rows.specs.Stored.{Kept, is_sound_in, tables_in};
+ghost use Rattle.sql_rows.specs.Stored.{Kept, tables_in};
 ghost use Rattle.sql_reading.specs.Texts.{IsNextEntry};
 
-use crate::memory::{no_memory, push};
+use crate::memory::{no_memory, push, text_after};
 use dates::Entry;
 use points::Name;
 use sql_rows::{ReadFault, calendars, entry_at};
@@ -22,13 +24,13 @@ use sqlite::{Alter, Connection, Row};
 use std::alloc::Global;
 
 // What the answer of the query on the least entry tells.
-fn told_entry(calendar: &Name, after: &str, rows: Vec<Row>) -> Result<Option<Entry>, ReadFault>
+fn told_entry(calendar: &Name, from: &str, rows: Vec<Row>) -> Result<Option<Entry>, ReadFault>
     ensures value { (kept : Kept)
-        → FindsLeast (λ row. is_text calendar.now (column row 1) && is_after after.now (column row 2)) 2 kept.imported rows.items
-        → IfOk result (IsNextEntry (tables_in kept) calendar.now after.now) }
+        → FindsLeast (λ row. is_text calendar.now (column row 1) && is_from_text from.now (column row 2)) 2 kept.imported rows.items
+        → IfOk result (IsNextEntry kept calendar.now from.now) }
     ensures bad { (kept : Kept)
-        → FindsLeast (λ row. is_text calendar.now (column row 1) && is_after after.now (column row 2)) 2 kept.imported rows.items
-        → IfErr result (λ _. is_sound_in kept ≡ false) }
+        → FindsLeast (λ row. is_text calendar.now (column row 1) && is_from_text from.now (column row 2)) 2 kept.imported rows.items
+        → IfErr result (λ _. cannot_stand_in kept (EntriesOf calendar.now) ≡ true) }
     ensures fault { IfErr result (λ fault. fault ≡ BadRow) }
 {
     // What is asked for is a name, as a row's own has to be.
@@ -39,25 +41,25 @@ fn told_entry(calendar: &Name, after: &str, rows: Vec<Row>) -> Result<Option<Ent
     }
 }
 
-/// The entry of a calendar whose text is the next after another, if there is one.
+/// The entry of a calendar whose text is the next from another on, if there is one.
 #[tactic(auto, using(crate::proofs::StepLemmas::sees_same))]
 pub fn next_entry<S: Alter>(
     connection: &mut Connection<S>,
     calendar: &Name,
-    after: &str,
+    from: &str,
 ) -> Result<Option<Entry>, ReadFault>
     ensures mode { connection.old.in_transaction ≡ false → connection.new.in_transaction ≡ false }
     ensures asks { HasCleanDisk (state S.Store connection.new) → IsOurs (state S.Store connection.old).now
         → Asks (result_err result) (state S.Store connection.old) (state S.Store connection.new) }
     ensures value { HasCleanDisk (state S.Store connection.new) → IsOurs (state S.Store connection.old).now
-        → IfOk result (IsNextEntry (tables_in (kept_in (state S.Store connection.old).now.trees)) calendar.now after.now) }
+        → IfOk result (IsNextEntry (kept_in (state S.Store connection.old).now.trees) calendar.now from.now) }
     ensures bad { HasCleanDisk (state S.Store connection.new) → IsOurs (state S.Store connection.old).now → result ≡ Err BadRow
-        → is_sound_in (kept_in (state S.Store connection.old).now.trees) ≡ false }
+        → cannot_stand_in (kept_in (state S.Store connection.old).now.trees) (EntriesOf calendar.now) ≡ true }
     ensures survives { Survives (state S.Store connection.old) (state S.Store connection.new)
         (λ _. IsOurs (state S.Store connection.old).now → ⊥) }
 {
-    let rows = calendars::next_entry(connection, calendar, after)?;
-    told_entry(calendar, after, rows)
+    let rows = calendars::next_entry(connection, calendar, from)?;
+    told_entry(calendar, from, rows)
 }
 
 // The text of an entry.
@@ -83,16 +85,20 @@ pub fn entries_of<S: Alter>(
     ensures value { HasCleanDisk (state S.Store connection.new) → IsOurs (state S.Store connection.old).now
         → IfOk result (λ it. AreEntries (tables_in (kept_in (state S.Store connection.old).now.trees)) calendar.now it.items) }
     ensures bad { HasCleanDisk (state S.Store connection.new) → IsOurs (state S.Store connection.old).now → result ≡ Err BadRow
-        → is_sound_in (kept_in (state S.Store connection.old).now.trees) ≡ false }
+        → cannot_stand_in (kept_in (state S.Store connection.old).now.trees) (EntriesOf calendar.now) ≡ true }
+    ensures stood { HasCleanDisk (state S.Store connection.new) → IsOurs (state S.Store connection.old).now
+        → IfOk result (λ _. cannot_stand_in (kept_in (state S.Store connection.old).now.trees) (EntriesOf calendar.now) ≡ false) }
     ensures survives { Survives (state S.Store connection.old) (state S.Store connection.new)
         (λ _. IsOurs (state S.Store connection.old).now → ⊥) }
 {
+    // What is asked for is a name, as a row's own has to be.
+    let _name = calendar.as_str();
     let mut entries = Vec::new(alloc);
-    let mut after = String::new(alloc);
+    let mut from = String::new(alloc);
     for _ in 0..u64::MAX {
-        match next_entry(connection, calendar, &after)? {
+        match next_entry(connection, calendar, &from)? {
             Some(entry) => {
-                after = text_of(alloc, &entry)?;
+                from = text_after(alloc, &text_of(alloc, &entry)?)?;
                 push(&mut entries, entry)?;
             }
             None => return Ok(entries),

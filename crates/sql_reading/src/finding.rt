@@ -1,22 +1,22 @@
 //! What is kept under a key.
 ghost use Rattle.std.specs.Prelude.{◌≡◌, ◌≤◌, false, true, Err, IfErr, IfOk, [], ◌∷◌};
-ghost use Rattle.std.specs.FinMap.{get};
 ghost use Rattle.std.specs.Result.{result_err};
 ghost use Rattle.sqlite.specs.Held.{state};
 ghost use Rattle.sqlite.specs.State.{HasCleanDisk, Survives};
 ghost use Rattle.sqlite_value.specs.Order.{column};
+ghost use Rattle.sql_rows.specs.Broken.{cannot_stand_in};
+ghost use Rattle.store.specs.Asked.Asked.{LastTick, NextOf, RowOf, ShownBy};
 ghost use Rattle.sql_rows.specs.Looking.{Finds};
 ghost use Rattle.sql_rows.specs.Ours.{IsOurs, kept_in};
 ghost use Rattle.sql_reading.specs.Asking.{Asks};
 ghost use Rattle.sql_rows.specs.declared.read_fault.ReadFault.TheVariants.{BadRow};
-ghost use Rattle.sql_rows.specs.Rows.{of_command, of_panel, of_place, of_schedule};
-ghost use Rattle.sql_rows.specs.Stored.{Kept, is_sound_in, tables_in};
+ghost use Rattle.sql_rows.specs.Rows.{of_command, of_panel, of_schedule};
+ghost use Rattle.sql_rows.specs.Stored.{Kept, tables_in};
 
 use crate::only::only;
 use points::{CommandRow, Name};
 use sql_rows::{
-    ReadFault, command_at, commands, count_at, desk_row, number_at, optional_at, panels, places,
-    schedules,
+    ReadFault, command_at, commands, count_at, desk_row, optional_at, panels, schedules,
 };
 use sqlite::{Alter, Connection, Row};
 
@@ -31,7 +31,9 @@ fn told_next(panel: &Name, rows: Vec<Row>) -> Result<u64, ReadFault>
     ensures value { (kept : Kept) → Finds (of_panel panel.now) (λ row. column row 2 ∷ []) kept.panel rows.items
         → IfOk result (λ it. it ≡ (tables_in kept).next panel.now) }
     ensures bad { (kept : Kept) → Finds (of_panel panel.now) (λ row. column row 2 ∷ []) kept.panel rows.items
-        → IfErr result (λ _. is_sound_in kept ≡ false) }
+        → IfErr result (λ _. cannot_stand_in kept (NextOf panel.now) ≡ true) }
+    ensures stood { (kept : Kept) → Finds (of_panel panel.now) (λ row. column row 2 ∷ []) kept.panel rows.items
+        → IfOk result (λ _. cannot_stand_in kept (NextOf panel.now) ≡ false) }
     ensures fault { IfErr result (λ fault. fault ≡ BadRow) }
 {
     // What is asked for is a name, as a row's own has to be.
@@ -51,7 +53,9 @@ pub fn next_of<S: Alter>(connection: &mut Connection<S>, panel: &Name) -> Result
     ensures value { HasCleanDisk (state S.Store connection.new) → IsOurs (state S.Store connection.old).now
         → IfOk result (λ it. it ≡ (tables_in (kept_in (state S.Store connection.old).now.trees)).next panel.now) }
     ensures bad { HasCleanDisk (state S.Store connection.new) → IsOurs (state S.Store connection.old).now → result ≡ Err BadRow
-        → is_sound_in (kept_in (state S.Store connection.old).now.trees) ≡ false }
+        → cannot_stand_in (kept_in (state S.Store connection.old).now.trees) (NextOf panel.now) ≡ true }
+    ensures stood { HasCleanDisk (state S.Store connection.new) → IsOurs (state S.Store connection.old).now
+        → IfOk result (λ _. cannot_stand_in (kept_in (state S.Store connection.old).now.trees) (NextOf panel.now) ≡ false) }
     ensures survives { Survives (state S.Store connection.old) (state S.Store connection.new)
         (λ _. IsOurs (state S.Store connection.old).now → ⊥) }
 {
@@ -72,7 +76,12 @@ fn told_command(panel: &Name, number: u64, rows: Vec<Row>) -> Result<Option<Comm
         → Finds (of_command panel.now number)
         (λ row. column row 3 ∷ column row 4 ∷ column row 5 ∷ column row 6 ∷ column row 7 ∷ column row 8 ∷ []) kept.command
         rows.items
-        → IfErr result (λ _. is_sound_in kept ≡ false) }
+        → IfErr result (λ _. cannot_stand_in kept (RowOf panel.now number) ≡ true) }
+    ensures stood { (kept : Kept)
+        → Finds (of_command panel.now number)
+        (λ row. column row 3 ∷ column row 4 ∷ column row 5 ∷ column row 6 ∷ column row 7 ∷ column row 8 ∷ []) kept.command
+        rows.items
+        → IfOk result (λ _. cannot_stand_in kept (RowOf panel.now number) ≡ false) }
     ensures fault { IfErr result (λ fault. fault ≡ BadRow) }
 {
     // What is asked for is a name, as a row's own has to be.
@@ -98,7 +107,9 @@ pub fn command_under<S: Alter>(
     ensures value { HasCleanDisk (state S.Store connection.new) → IsOurs (state S.Store connection.old).now
         → IfOk result (λ it. it ≡ (tables_in (kept_in (state S.Store connection.old).now.trees)).row panel.now number) }
     ensures bad { HasCleanDisk (state S.Store connection.new) → IsOurs (state S.Store connection.old).now → result ≡ Err BadRow
-        → is_sound_in (kept_in (state S.Store connection.old).now.trees) ≡ false }
+        → cannot_stand_in (kept_in (state S.Store connection.old).now.trees) (RowOf panel.now number) ≡ true }
+    ensures stood { HasCleanDisk (state S.Store connection.new) → IsOurs (state S.Store connection.old).now
+        → IfOk result (λ _. cannot_stand_in (kept_in (state S.Store connection.old).now.trees) (RowOf panel.now number) ≡ false) }
     ensures survives { Survives (state S.Store connection.old) (state S.Store connection.new)
         (λ _. IsOurs (state S.Store connection.old).now → ⊥) }
 {
@@ -106,53 +117,14 @@ pub fn command_under<S: Alter>(
     told_command(panel, number, rows)
 }
 
-// What the answer of the query on a place tells.
-fn told_place(point: &Name, priority: u64, rows: Vec<Row>) -> Result<Option<i64>, ReadFault>
-    requires at_least_1 { 1 ≤ priority }
-    requires at_most_16 { priority ≤ 16 }
-    ensures value { (kept : Kept) → Finds (of_place point.now priority) (λ row. column row 3 ∷ []) kept.place rows.items
-        → IfOk result (λ it. it ≡ get ((tables_in kept).places point.now) priority) }
-    ensures bad { (kept : Kept) → Finds (of_place point.now priority) (λ row. column row 3 ∷ []) kept.place rows.items
-        → IfErr result (λ _. is_sound_in kept ≡ false) }
-    ensures fault { IfErr result (λ fault. fault ≡ BadRow) }
-{
-    // What is asked for is a name, as a row's own has to be.
-    let _name = point.as_str();
-    match only(rows)? {
-        None => Ok(None),
-        Some(row) => Ok(Some(number_at(&row, 0)?)),
-    }
-}
-
-/// The value in the place of a priority from 1 to 16, if it is not NULL.
-#[tactic(auto, using(crate::proofs::ReadLemmas::sees_unchanged))]
-pub fn value_at<S: Alter>(
-    connection: &mut Connection<S>,
-    point: &Name,
-    priority: u64,
-) -> Result<Option<i64>, ReadFault>
-    requires at_least_1 { 1 ≤ priority }
-    requires at_most_16 { priority ≤ 16 }
-    ensures mode { connection.old.in_transaction ≡ false → connection.new.in_transaction ≡ false }
-    ensures asks { HasCleanDisk (state S.Store connection.new) → IsOurs (state S.Store connection.old).now
-        → Asks (result_err result) (state S.Store connection.old) (state S.Store connection.new) }
-    ensures value { HasCleanDisk (state S.Store connection.new) → IsOurs (state S.Store connection.old).now
-        → IfOk result (λ it. it ≡ get ((tables_in (kept_in (state S.Store connection.old).now.trees)).places point.now) priority) }
-    ensures bad { HasCleanDisk (state S.Store connection.new) → IsOurs (state S.Store connection.old).now → result ≡ Err BadRow
-        → is_sound_in (kept_in (state S.Store connection.old).now.trees) ≡ false }
-    ensures survives { Survives (state S.Store connection.old) (state S.Store connection.new)
-        (λ _. IsOurs (state S.Store connection.old).now → ⊥) }
-{
-    let rows = places::find(connection, point, priority)?;
-    told_place(point, priority, rows)
-}
-
 // What the answer of the query on a schedule tells.
 fn told_shown(schedule: &Name, rows: Vec<Row>) -> Result<Option<Option<i64>>, ReadFault>
     ensures value { (kept : Kept) → Finds (of_schedule schedule.now) (λ row. column row 2 ∷ []) kept.shown rows.items
         → IfOk result (λ it. it ≡ (tables_in kept).shown schedule.now) }
     ensures bad { (kept : Kept) → Finds (of_schedule schedule.now) (λ row. column row 2 ∷ []) kept.shown rows.items
-        → IfErr result (λ _. is_sound_in kept ≡ false) }
+        → IfErr result (λ _. cannot_stand_in kept (ShownBy schedule.now) ≡ true) }
+    ensures stood { (kept : Kept) → Finds (of_schedule schedule.now) (λ row. column row 2 ∷ []) kept.shown rows.items
+        → IfOk result (λ _. cannot_stand_in kept (ShownBy schedule.now) ≡ false) }
     ensures fault { IfErr result (λ fault. fault ≡ BadRow) }
 {
     // What is asked for is a name, as a row's own has to be.
@@ -175,7 +147,9 @@ pub fn shown_by<S: Alter>(
     ensures value { HasCleanDisk (state S.Store connection.new) → IsOurs (state S.Store connection.old).now
         → IfOk result (λ it. it ≡ (tables_in (kept_in (state S.Store connection.old).now.trees)).shown schedule.now) }
     ensures bad { HasCleanDisk (state S.Store connection.new) → IsOurs (state S.Store connection.old).now → result ≡ Err BadRow
-        → is_sound_in (kept_in (state S.Store connection.old).now.trees) ≡ false }
+        → cannot_stand_in (kept_in (state S.Store connection.old).now.trees) (ShownBy schedule.now) ≡ true }
+    ensures stood { HasCleanDisk (state S.Store connection.new) → IsOurs (state S.Store connection.old).now
+        → IfOk result (λ _. cannot_stand_in (kept_in (state S.Store connection.old).now.trees) (ShownBy schedule.now) ≡ false) }
     ensures survives { Survives (state S.Store connection.old) (state S.Store connection.new)
         (λ _. IsOurs (state S.Store connection.old).now → ⊥) }
 {
@@ -188,7 +162,9 @@ fn told_last(rows: Vec<Row>) -> Result<Option<i64>, ReadFault>
     ensures value { (kept : Kept) → Finds (λ row. true) (λ row. column row 2 ∷ column row 3 ∷ []) kept.desk rows.items
         → IfOk result (λ it. it ≡ (tables_in kept).last_tick) }
     ensures bad { (kept : Kept) → Finds (λ row. true) (λ row. column row 2 ∷ column row 3 ∷ []) kept.desk rows.items
-        → IfErr result (λ _. is_sound_in kept ≡ false) }
+        → IfErr result (λ _. cannot_stand_in kept LastTick ≡ true) }
+    ensures stood { (kept : Kept) → Finds (λ row. true) (λ row. column row 2 ∷ column row 3 ∷ []) kept.desk rows.items
+        → IfOk result (λ _. cannot_stand_in kept LastTick ≡ false) }
     ensures fault { IfErr result (λ fault. fault ≡ BadRow) }
 {
     match only(rows)? {
@@ -206,7 +182,9 @@ pub fn last_tick<S: Alter>(connection: &mut Connection<S>) -> Result<Option<i64>
     ensures value { HasCleanDisk (state S.Store connection.new) → IsOurs (state S.Store connection.old).now
         → IfOk result (λ it. it ≡ (tables_in (kept_in (state S.Store connection.old).now.trees)).last_tick) }
     ensures bad { HasCleanDisk (state S.Store connection.new) → IsOurs (state S.Store connection.old).now → result ≡ Err BadRow
-        → is_sound_in (kept_in (state S.Store connection.old).now.trees) ≡ false }
+        → cannot_stand_in (kept_in (state S.Store connection.old).now.trees) LastTick ≡ true }
+    ensures stood { HasCleanDisk (state S.Store connection.new) → IsOurs (state S.Store connection.old).now
+        → IfOk result (λ _. cannot_stand_in (kept_in (state S.Store connection.old).now.trees) LastTick ≡ false) }
     ensures survives { Survives (state S.Store connection.old) (state S.Store connection.new)
         (λ _. IsOurs (state S.Store connection.old).now → ⊥) }
 {

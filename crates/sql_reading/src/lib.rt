@@ -6,7 +6,7 @@
 #![tactic(auto)]
 
 pub use entries::entries_of;
-pub use finding::{command_under, last_tick, next_of, shown_by, value_at};
+pub use finding::{last_tick, next_of, shown_by};
 pub use names::names_of;
 pub use placing::array_of;
 pub use rows::{command_of, commands_run};

@@ -1,9 +1,11 @@
-//! Lists that grow.
-ghost use Rattle.std.specs.Prelude.{◌≡◌, ◌++◌, IfErr, OnOk, [], ◌∷◌, Some};
+//! Lists and texts that grow.
+ghost use Rattle.std.specs.Prelude.{◌≡◌, ◌++◌, IfErr, IfOk, OnOk, [], ◌∷◌, Some, string_bytes};
 ghost use Rattle.std.specs.Bool.{IsTrue};
 ghost use Rattle.sql_reading.specs.Asking.{is_sql};
+ghost use Rattle.sql_reading.specs.Texts.{after};
 
 use sql_rows::ReadFault;
+use std::alloc::Global;
 
 /// The fault of memory that is refused.
 pub fn no_memory() -> ReadFault
@@ -19,6 +21,17 @@ pub fn push<T: Drop>(list: &mut Vec<T>, item: T) -> Result<(), ReadFault>
 {
     match list.push(item) {
         Ok(()) => Ok(()),
+        Err(_) => Err(no_memory()),
+    }
+}
+
+/// The least text after another.
+pub fn text_after(alloc: Global, text: &str) -> Result<String, ReadFault>
+    ensures value { IfOk result (λ it. string_bytes it ≡ after text.now) }
+    ensures fault { IfErr result (λ fault. IsTrue (is_sql (Some fault))) }
+{
+    match format!(in alloc; "{text}\0") {
+        Ok(after) => Ok(after),
         Err(_) => Err(no_memory()),
     }
 }

@@ -1,36 +1,38 @@
 //! The names that stand in the tables.
-ghost use Rattle.std.specs.Prelude.{◌≡◌, ◌≤◌, ◌⊎◌, ◌&&◌, ◌++◌, [], ◌∷◌, false, if◌then◌else◌, unwrap_or, Err, IfErr, IfOk, IsTrue, OnOk, Some};
+ghost use Rattle.std.specs.Prelude.{◌≡◌, ◌⊎◌, ◌++◌, [], ◌∷◌, false, true, if◌then◌else◌, Err, IfErr, IfOk, IsTrue, OnOk, Some, string_bytes};
+ghost use Rattle.std.specs.FinMap.{empty};
 ghost use Rattle.std.specs.Result.{result_err};
 ghost use Rattle.sqlite.specs.Held.{state};
 ghost use Rattle.sqlite.specs.State.{HasCleanDisk, Survives};
 ghost use Rattle.sqlite_value.specs.Order.{column};
-ghost use Rattle.sql_rows.specs.Looking.{FindsLeast, is_from};
+ghost use Rattle.sql_rows.specs.Broken.{cannot_stand_in};
+ghost use Rattle.sql_rows.specs.Looking.{Finds};
 ghost use Rattle.sql_rows.specs.Ours.{IsOurs, kept_in};
+ghost use Rattle.sql_rows.specs.Rows.{of_lower_command};
 ghost use Rattle.sql_reading.specs.Asking.{Asks, is_sql};
-ghost use Rattle.store.specs.Listed.{AreNames, AreTexts, HasCalendar, HasPanel, HasPoint, HasSchedule};
-ghost use Rattle.store.specs.Tables.{Text};
-ghost use Rattle.sql_rows.specs.Cells.{is_text};
+ghost use Rattle.store.specs.Asked.{IsSomeBroken};
+ghost use Rattle.store.specs.Asked.Asked.{AnyName};
+ghost use Rattle.store.specs.Listed.{AreNames, HasCalendar, HasPanel, HasPoint, HasSchedule};
 ghost use Rattle.sql_rows.specs.declared.read_fault.ReadFault.TheVariants.{BadRow};
-ghost use Rattle.sql_rows.specs.Stored.{Kept, is_sound_in, tables_in};
-ghost use Rattle.sql_reading.specs.Naming.{AreNoneBelow, IsLesser, StandsIn, Tells};
-ghost use Rattle.sql_reading.specs.Texts.{IsNextText};
+ghost use Rattle.sql_rows.specs.Stored.{Kept, tables_in};
+ghost use Rattle.sql_reading.specs.Naming.{AreAll, AreNumbered, HasName, IsKept, IsLesser, IsListed, IsNumbered, Tells};
+ghost use Rattle.sql_reading.specs.Texts.{IsNextText, after};
 
 use crate::entries::next_entry;
-use crate::finding::{next_of, shown_by, value_at};
-use crate::memory::{no_memory, push};
+use crate::finding::{next_of, shown_by};
+use crate::memory::{no_memory, push, text_after};
 use crate::next_names::{
     next_calendar, next_commanding_panel, next_numbered_panel, next_point, next_schedule,
 };
-use crate::rows::next_row;
-use points::Name;
-use sql_rows::{ReadFault, count_at, places};
+use crate::placing::array_of;
+use crate::rows::has_row;
+use points::{LOWEST_PRIORITY, Name, PriorityArray};
+use sql_rows::{ReadFault, commands};
 use sqlite::{Alter, Connection, Row};
 use std::alloc::Global;
 use store::Names;
 
 const LEAST_NUMBER: u64 = 1;
-
-const PAST_PRIORITIES: u64 = 17;
 
 /// One of the four lists of names.
 #[derive(Clone, Copy)]
@@ -43,87 +45,79 @@ pub enum NameList {
 
 // ---- whether a name stands
 
-fn stands_panel<S: Alter>(connection: &mut Connection<S>, panel: &Name) -> Result<bool, ReadFault>
+// What the answer of the query on the numbers below 1 tells.
+fn told_numbers(panel: &Name, rows: Vec<Row>) -> Result<(), ReadFault>
+    ensures value { (kept : Kept) → Finds (of_lower_command panel.now 1) (λ row. column row 2 ∷ []) kept.command rows.items
+        → OnOk result (AreNumbered kept panel.now) }
+    ensures bad { (kept : Kept) → Finds (of_lower_command panel.now 1) (λ row. column row 2 ∷ []) kept.command rows.items
+        → IfErr result (λ _. cannot_stand_in kept AnyName ≡ true) }
+    ensures fault { IfErr result (λ fault. fault ≡ BadRow) }
+{
+    match rows.first() {
+        None => Ok(()),
+        Some(_) => Err(ReadFault::BadRow),
+    }
+}
+
+// Looks for rows of a panel with a number below 1.
+#[tactic(auto, using(crate::proofs::ReadLemmas::sees_unchanged))]
+fn check_numbers<S: Alter>(connection: &mut Connection<S>, panel: &Name) -> Result<(), ReadFault>
+    ensures mode { connection.old.in_transaction ≡ false → connection.new.in_transaction ≡ false }
+    ensures asks { HasCleanDisk (state S.Store connection.new) → IsOurs (state S.Store connection.old).now
+        → Asks (result_err result) (state S.Store connection.old) (state S.Store connection.new) }
+    ensures value { HasCleanDisk (state S.Store connection.new) → IsOurs (state S.Store connection.old).now
+        → OnOk result (AreNumbered (kept_in (state S.Store connection.old).now.trees) panel.now) }
+    ensures bad { HasCleanDisk (state S.Store connection.new) → IsOurs (state S.Store connection.old).now → result ≡ Err BadRow
+        → cannot_stand_in (kept_in (state S.Store connection.old).now.trees) AnyName ≡ true }
+    ensures survives { Survives (state S.Store connection.old) (state S.Store connection.new)
+        (λ _. IsOurs (state S.Store connection.old).now → ⊥) }
+{
+    let rows = commands::below(connection, panel, LEAST_NUMBER)?;
+    told_numbers(panel, rows)
+}
+
+// Whether a panel has a next number other than 1, or a row.
+fn has_panel<S: Alter>(connection: &mut Connection<S>, panel: &Name) -> Result<bool, ReadFault>
     ensures mode { connection.old.in_transaction ≡ false → connection.new.in_transaction ≡ false }
     ensures asks { HasCleanDisk (state S.Store connection.new) → IsOurs (state S.Store connection.old).now
         → Asks (result_err result) (state S.Store connection.old) (state S.Store connection.new) }
     ensures value { HasCleanDisk (state S.Store connection.new) → IsOurs (state S.Store connection.old).now
         → IfOk result (Tells (HasPanel (tables_in (kept_in (state S.Store connection.old).now.trees)) panel.now)) }
     ensures bad { HasCleanDisk (state S.Store connection.new) → IsOurs (state S.Store connection.old).now → result ≡ Err BadRow
-        → is_sound_in (kept_in (state S.Store connection.old).now.trees) ≡ false }
+        → IsSomeBroken (cannot_stand_in (kept_in (state S.Store connection.old).now.trees)) }
     ensures survives { Survives (state S.Store connection.old) (state S.Store connection.new)
         (λ _. IsOurs (state S.Store connection.old).now → ⊥) }
 {
     if next_of(connection, panel)? != LEAST_NUMBER {
         return Ok(true);
     }
-    Ok(next_row(connection, panel, 0)?.is_some())
+    has_row(connection, panel)
 }
 
-// What the answer of the query on the least priority tells.
-fn told_priority(point: &Name, rows: Vec<Row>) -> Result<u64, ReadFault>
-    ensures least { IfOk result (λ it. 1 ≤ it) }
-    ensures greatest { IfOk result (λ it. it ≤ 17) }
-    ensures value { (kept : Kept)
-        → FindsLeast (λ row. is_text point.now (column row 1) && is_from 1 (column row 2)) 2 kept.place rows.items
-        → IfOk result (AreNoneBelow ((tables_in kept).places point.now)) }
-    ensures bad { (kept : Kept)
-        → FindsLeast (λ row. is_text point.now (column row 1) && is_from 1 (column row 2)) 2 kept.place rows.items
-        → IfErr result (λ _. is_sound_in kept ≡ false) }
-    ensures fault { IfErr result (λ fault. fault ≡ BadRow) }
-{
-    // What is asked for is a name, as a row's own has to be.
-    let _name = point.as_str();
-    match rows.first() {
-        None => Ok(PAST_PRIORITIES),
-        Some(row) => count_at(row, 0, 1, 16),
-    }
-}
-
-// The least priority of a point that has a place, or 17.
-#[tactic(auto, using(crate::proofs::StepLemmas::sees_same))]
-fn least_priority<S: Alter>(connection: &mut Connection<S>, point: &Name) -> Result<u64, ReadFault>
-    ensures least { IfOk result (λ it. 1 ≤ it) }
-    ensures greatest { IfOk result (λ it. it ≤ 17) }
+fn stands_panel<S: Alter>(connection: &mut Connection<S>, panel: &Name) -> Result<bool, ReadFault>
     ensures mode { connection.old.in_transaction ≡ false → connection.new.in_transaction ≡ false }
     ensures asks { HasCleanDisk (state S.Store connection.new) → IsOurs (state S.Store connection.old).now
         → Asks (result_err result) (state S.Store connection.old) (state S.Store connection.new) }
     ensures value { HasCleanDisk (state S.Store connection.new) → IsOurs (state S.Store connection.old).now
-        → IfOk result (AreNoneBelow ((tables_in (kept_in (state S.Store connection.old).now.trees)).places point.now)) }
+        → IfOk result (IsNumbered (kept_in (state S.Store connection.old).now.trees) panel.now) }
     ensures bad { HasCleanDisk (state S.Store connection.new) → IsOurs (state S.Store connection.old).now → result ≡ Err BadRow
-        → is_sound_in (kept_in (state S.Store connection.old).now.trees) ≡ false }
+        → IsSomeBroken (cannot_stand_in (kept_in (state S.Store connection.old).now.trees)) }
     ensures survives { Survives (state S.Store connection.old) (state S.Store connection.new)
         (λ _. IsOurs (state S.Store connection.old).now → ⊥) }
 {
-    let rows = places::next_priority(connection, point, 1)?;
-    told_priority(point, rows)
+    check_numbers(connection, panel)?;
+    has_panel(connection, panel)
 }
 
-// Whether a point has a value, where none is below a priority.
-fn has_value_from<S: Alter>(
-    connection: &mut Connection<S>,
-    point: &Name,
-    least: u64,
-) -> Result<bool, ReadFault>
-    requires at_least_1 { 1 ≤ least }
-    requires at_most_17 { least ≤ 17 }
-    ensures mode { connection.old.in_transaction ≡ false → connection.new.in_transaction ≡ false }
-    ensures asks { HasCleanDisk (state S.Store connection.new) → IsOurs (state S.Store connection.old).now
-        → Asks (result_err result) (state S.Store connection.old) (state S.Store connection.new) }
-    ensures value { HasCleanDisk (state S.Store connection.new) → IsOurs (state S.Store connection.old).now
-        → AreNoneBelow ((tables_in (kept_in (state S.Store connection.old).now.trees)).places point.now) least
-        → IfOk result (Tells (HasPoint (tables_in (kept_in (state S.Store connection.old).now.trees)) point.now)) }
-    ensures bad { HasCleanDisk (state S.Store connection.new) → IsOurs (state S.Store connection.old).now → result ≡ Err BadRow
-        → is_sound_in (kept_in (state S.Store connection.old).now.trees) ≡ false }
-    ensures survives { Survives (state S.Store connection.old) (state S.Store connection.new)
-        (λ _. IsOurs (state S.Store connection.old).now → ⊥) }
+fn has_value(array: &PriorityArray) -> bool
+    ensures { Tells (array.now ≡ empty → ⊥) result }
 {
-    for priority in least..PAST_PRIORITIES {
-        if value_at(connection, point, priority)?.is_some() {
-            return Ok(true);
+    for priority in 1..=LOWEST_PRIORITY {
+        if array.value_at(priority).is_some() {
+            return true;
         }
     }
-    Ok(false)
+    false
 }
 
 fn stands_point<S: Alter>(connection: &mut Connection<S>, point: &Name) -> Result<bool, ReadFault>
@@ -133,12 +127,11 @@ fn stands_point<S: Alter>(connection: &mut Connection<S>, point: &Name) -> Resul
     ensures value { HasCleanDisk (state S.Store connection.new) → IsOurs (state S.Store connection.old).now
         → IfOk result (Tells (HasPoint (tables_in (kept_in (state S.Store connection.old).now.trees)) point.now)) }
     ensures bad { HasCleanDisk (state S.Store connection.new) → IsOurs (state S.Store connection.old).now → result ≡ Err BadRow
-        → is_sound_in (kept_in (state S.Store connection.old).now.trees) ≡ false }
+        → IsSomeBroken (cannot_stand_in (kept_in (state S.Store connection.old).now.trees)) }
     ensures survives { Survives (state S.Store connection.old) (state S.Store connection.new)
         (λ _. IsOurs (state S.Store connection.old).now → ⊥) }
 {
-    let least = least_priority(connection, point)?;
-    has_value_from(connection, point, least)
+    Ok(has_value(&array_of(connection, point)?))
 }
 
 fn stands_schedule<S: Alter>(
@@ -151,7 +144,7 @@ fn stands_schedule<S: Alter>(
     ensures value { HasCleanDisk (state S.Store connection.new) → IsOurs (state S.Store connection.old).now
         → IfOk result (Tells (HasSchedule (tables_in (kept_in (state S.Store connection.old).now.trees)) schedule.now)) }
     ensures bad { HasCleanDisk (state S.Store connection.new) → IsOurs (state S.Store connection.old).now → result ≡ Err BadRow
-        → is_sound_in (kept_in (state S.Store connection.old).now.trees) ≡ false }
+        → IsSomeBroken (cannot_stand_in (kept_in (state S.Store connection.old).now.trees)) }
     ensures survives { Survives (state S.Store connection.old) (state S.Store connection.new)
         (λ _. IsOurs (state S.Store connection.old).now → ⊥) }
 {
@@ -168,7 +161,7 @@ fn stands_calendar<S: Alter>(
     ensures value { HasCleanDisk (state S.Store connection.new) → IsOurs (state S.Store connection.old).now
         → IfOk result (Tells (HasCalendar (tables_in (kept_in (state S.Store connection.old).now.trees)) calendar.now)) }
     ensures bad { HasCleanDisk (state S.Store connection.new) → IsOurs (state S.Store connection.old).now → result ≡ Err BadRow
-        → is_sound_in (kept_in (state S.Store connection.old).now.trees) ≡ false }
+        → IsSomeBroken (cannot_stand_in (kept_in (state S.Store connection.old).now.trees)) }
     ensures survives { Survives (state S.Store connection.old) (state S.Store connection.new)
         (λ _. IsOurs (state S.Store connection.old).now → ⊥) }
 {
@@ -184,12 +177,14 @@ fn stands_in<S: Alter>(
     ensures asks { HasCleanDisk (state S.Store connection.new) → IsOurs (state S.Store connection.old).now
         → Asks (result_err result) (state S.Store connection.old) (state S.Store connection.new) }
     ensures value { HasCleanDisk (state S.Store connection.new) → IsOurs (state S.Store connection.old).now
-        → IfOk result (Tells (StandsIn list (tables_in (kept_in (state S.Store connection.old).now.trees)) name.now)) }
+        → IfOk result (IsListed list (kept_in (state S.Store connection.old).now.trees) name.now) }
     ensures bad { HasCleanDisk (state S.Store connection.new) → IsOurs (state S.Store connection.old).now → result ≡ Err BadRow
-        → is_sound_in (kept_in (state S.Store connection.old).now.trees) ≡ false }
+        → IsSomeBroken (cannot_stand_in (kept_in (state S.Store connection.old).now.trees)) }
     ensures survives { Survives (state S.Store connection.old) (state S.Store connection.new)
         (λ _. IsOurs (state S.Store connection.old).now → ⊥) }
 {
+    // What is told of is a name, as a row's own has to be.
+    let _name = name.as_str();
     match list {
         NameList::Panels => stands_panel(connection, name),
         NameList::Points => stands_point(connection, name),
@@ -212,57 +207,47 @@ fn lesser(first: Option<Name>, second: Option<Name>) -> Option<Name>
 
 fn next_panel<S: Alter>(
     connection: &mut Connection<S>,
-    after: &str,
+    from: &str,
 ) -> Result<Option<Name>, ReadFault>
     ensures mode { connection.old.in_transaction ≡ false → connection.new.in_transaction ≡ false }
     ensures asks { HasCleanDisk (state S.Store connection.new) → IsOurs (state S.Store connection.old).now
         → Asks (result_err result) (state S.Store connection.old) (state S.Store connection.new) }
     ensures value { HasCleanDisk (state S.Store connection.new) → IsOurs (state S.Store connection.old).now
-        → IfOk result (IsNextText (HasPanel (tables_in (kept_in (state S.Store connection.old).now.trees))) after.now) }
+        → IfOk result (IsNextText (λ name. HasName (kept_in (state S.Store connection.old).now.trees).panel name ⊎ HasName (kept_in (state S.Store connection.old).now.trees).command name) from.now) }
     ensures bad { HasCleanDisk (state S.Store connection.new) → IsOurs (state S.Store connection.old).now → result ≡ Err BadRow
-        → is_sound_in (kept_in (state S.Store connection.old).now.trees) ≡ false }
+        → cannot_stand_in (kept_in (state S.Store connection.old).now.trees) AnyName ≡ true }
     ensures survives { Survives (state S.Store connection.old) (state S.Store connection.new)
         (λ _. IsOurs (state S.Store connection.old).now → ⊥) }
 {
-    let numbered = next_numbered_panel(connection, after)?;
-    let commanding = next_commanding_panel(connection, after)?;
+    let numbered = next_numbered_panel(connection, from)?;
+    let commanding = next_commanding_panel(connection, from)?;
     Ok(lesser(numbered, commanding))
 }
 
 fn next_in<S: Alter>(
     list: NameList,
     connection: &mut Connection<S>,
-    after: &str,
+    from: &str,
 ) -> Result<Option<Name>, ReadFault>
     ensures mode { connection.old.in_transaction ≡ false → connection.new.in_transaction ≡ false }
     ensures asks { HasCleanDisk (state S.Store connection.new) → IsOurs (state S.Store connection.old).now
         → Asks (result_err result) (state S.Store connection.old) (state S.Store connection.new) }
     ensures value { HasCleanDisk (state S.Store connection.new) → IsOurs (state S.Store connection.old).now
-        → IfOk result (IsNextText (StandsIn list (tables_in (kept_in (state S.Store connection.old).now.trees))) after.now) }
+        → IfOk result (IsNextText (IsKept list (kept_in (state S.Store connection.old).now.trees)) from.now) }
     ensures bad { HasCleanDisk (state S.Store connection.new) → IsOurs (state S.Store connection.old).now → result ≡ Err BadRow
-        → is_sound_in (kept_in (state S.Store connection.old).now.trees) ≡ false }
+        → cannot_stand_in (kept_in (state S.Store connection.old).now.trees) AnyName ≡ true }
     ensures survives { Survives (state S.Store connection.old) (state S.Store connection.new)
         (λ _. IsOurs (state S.Store connection.old).now → ⊥) }
 {
     match list {
-        NameList::Panels => next_panel(connection, after),
-        NameList::Points => next_point(connection, after),
-        NameList::Schedules => next_schedule(connection, after),
-        NameList::Calendars => next_calendar(connection, after),
+        NameList::Panels => next_panel(connection, from),
+        NameList::Points => next_point(connection, from),
+        NameList::Schedules => next_schedule(connection, from),
+        NameList::Calendars => next_calendar(connection, from),
     }
 }
 
 // ---- the lists
-
-// The text of a name, and of none the empty one.
-fn text_of(name: &Option<Name>) -> &str
-    ensures { result.now ≡ unwrap_or name.now [] }
-{
-    match name {
-        Some(name) => name.as_str(),
-        None => "",
-    }
-}
 
 // Puts a name that stands at the end of a list.
 fn push_if(names: &mut Vec<Name>, name: Name, stands: bool) -> Result<(), ReadFault>
@@ -281,20 +266,20 @@ fn names_in<S: Alter>(
     ensures asks { HasCleanDisk (state S.Store connection.new) → IsOurs (state S.Store connection.old).now
         → Asks (result_err result) (state S.Store connection.old) (state S.Store connection.new) }
     ensures value { HasCleanDisk (state S.Store connection.new) → IsOurs (state S.Store connection.old).now
-        → IfOk result (λ it. AreTexts (StandsIn list (tables_in (kept_in (state S.Store connection.old).now.trees))) it.items) }
+        → IfOk result (λ it. AreAll list (kept_in (state S.Store connection.old).now.trees) it.items) }
     ensures bad { HasCleanDisk (state S.Store connection.new) → IsOurs (state S.Store connection.old).now → result ≡ Err BadRow
-        → is_sound_in (kept_in (state S.Store connection.old).now.trees) ≡ false }
+        → IsSomeBroken (cannot_stand_in (kept_in (state S.Store connection.old).now.trees)) }
     ensures survives { Survives (state S.Store connection.old) (state S.Store connection.new)
         (λ _. IsOurs (state S.Store connection.old).now → ⊥) }
 {
     let mut names = Vec::new(alloc);
-    let mut after = None;
+    let mut from = String::new(alloc);
     for _ in 0..u64::MAX {
-        match next_in(list, connection, text_of(&after))? {
+        match next_in(list, connection, &from)? {
             Some(name) => {
                 let stands = stands_in(list, connection, &name)?;
+                from = text_after(alloc, name.as_str())?;
                 push_if(&mut names, name, stands)?;
-                after = Some(name);
             }
             None => return Ok(names),
         }
@@ -311,7 +296,9 @@ pub fn names_of<S: Alter>(alloc: Global, connection: &mut Connection<S>) -> Resu
     ensures value { HasCleanDisk (state S.Store connection.new) → IsOurs (state S.Store connection.old).now
         → IfOk result (AreNames (tables_in (kept_in (state S.Store connection.old).now.trees))) }
     ensures bad { HasCleanDisk (state S.Store connection.new) → IsOurs (state S.Store connection.old).now → result ≡ Err BadRow
-        → is_sound_in (kept_in (state S.Store connection.old).now.trees) ≡ false }
+        → IsSomeBroken (cannot_stand_in (kept_in (state S.Store connection.old).now.trees)) }
+    ensures stood { HasCleanDisk (state S.Store connection.new) → IsOurs (state S.Store connection.old).now
+        → IfOk result (λ _. cannot_stand_in (kept_in (state S.Store connection.old).now.trees) AnyName ≡ false) }
     ensures survives { Survives (state S.Store connection.old) (state S.Store connection.new)
         (λ _. IsOurs (state S.Store connection.old).now → ⊥) }
 {

@@ -1,16 +1,18 @@
 //! The priority array of a point.
-ghost use Rattle.std.specs.Prelude.{◌≡◌, false, Err, IfErr, IfOk, OnOk, IsTrue, [], ◌∷◌};
+ghost use Rattle.std.specs.Prelude.{◌≡◌, false, true, Err, IfErr, IfOk, OnOk, IsTrue, [], ◌∷◌};
 ghost use Rattle.std.specs.Result.{result_err};
 ghost use Rattle.sqlite.specs.Held.{state};
 ghost use Rattle.sqlite.specs.State.{HasCleanDisk, Survives};
 ghost use Rattle.sqlite_value.specs.Order.{column};
+ghost use Rattle.sql_rows.specs.Broken.{cannot_stand_in};
+ghost use Rattle.store.specs.Asked.Asked.{ArrayOf};
 ghost use Rattle.sql_rows.specs.Looking.{Finds};
 ghost use Rattle.sql_rows.specs.Ours.{IsOurs, kept_in};
 ghost use Rattle.sql_reading.specs.Asking.{Asks};
 ghost use Rattle.sql_reading.specs.Placing.{IsPlaced, cannot_place};
 ghost use Rattle.sql_rows.specs.Cells.{is_text};
 ghost use Rattle.sql_rows.specs.declared.read_fault.ReadFault.TheVariants.{BadRow};
-ghost use Rattle.sql_rows.specs.Stored.{Kept, is_sound_in, tables_in};
+ghost use Rattle.sql_rows.specs.Stored.{Kept, tables_in};
 
 use points::{Name, PriorityArray};
 use sql_rows::{ReadFault, count_at, number_at, places};
@@ -38,7 +40,10 @@ fn told_array(point: &Name, rows: Vec<Row>) -> Result<PriorityArray, ReadFault>
         → IfOk result (λ it. it ≡ (tables_in kept).places point.now) }
     ensures bad { (kept : Kept)
         → Finds (λ row. is_text point.now (column row 1)) (λ row. column row 2 ∷ column row 3 ∷ []) kept.place rows.items
-        → IfErr result (λ _. is_sound_in kept ≡ false) }
+        → IfErr result (λ _. cannot_stand_in kept (ArrayOf point.now) ≡ true) }
+    ensures stood { (kept : Kept)
+        → Finds (λ row. is_text point.now (column row 1)) (λ row. column row 2 ∷ column row 3 ∷ []) kept.place rows.items
+        → IfOk result (λ _. cannot_stand_in kept (ArrayOf point.now) ≡ false) }
     ensures fault { IfErr result (λ fault. fault ≡ BadRow) }
 {
     // What is asked for is a name, as a row's own has to be.
@@ -62,7 +67,9 @@ pub fn array_of<S: Alter>(
     ensures value { HasCleanDisk (state S.Store connection.new) → IsOurs (state S.Store connection.old).now
         → IfOk result (λ it. it ≡ (tables_in (kept_in (state S.Store connection.old).now.trees)).places point.now) }
     ensures bad { HasCleanDisk (state S.Store connection.new) → IsOurs (state S.Store connection.old).now → result ≡ Err BadRow
-        → is_sound_in (kept_in (state S.Store connection.old).now.trees) ≡ false }
+        → cannot_stand_in (kept_in (state S.Store connection.old).now.trees) (ArrayOf point.now) ≡ true }
+    ensures stood { HasCleanDisk (state S.Store connection.new) → IsOurs (state S.Store connection.old).now
+        → IfOk result (λ _. cannot_stand_in (kept_in (state S.Store connection.old).now.trees) (ArrayOf point.now) ≡ false) }
     ensures survives { Survives (state S.Store connection.old) (state S.Store connection.new)
         (λ _. IsOurs (state S.Store connection.old).now → ⊥) }
 {

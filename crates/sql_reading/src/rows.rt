@@ -1,17 +1,22 @@
 //! A panel's rows, by rising number.
-ghost use Rattle.std.specs.Prelude.{◌≡◌, ◌≤◌, ◌<◌, ◌&&◌, false, Err, IfErr, IfOk, IfSome};
+ghost use Rattle.std.specs.Prelude.{◌≡◌, ◌≤◌, ◌<◌, ◌&&◌, false, true, Err, IfErr, IfOk, IfSome, List, ℕ, Some, IsSome, IsTrue};
 ghost use Rattle.std.specs.Result.{result_err};
-ghost use Rattle.points.specs.Run.{IsRun, Rows};
+ghost use Rattle.points.specs.Run.{IsRun};
 ghost use Rattle.sqlite.specs.Held.{state};
 ghost use Rattle.sqlite.specs.State.{HasCleanDisk, Survives};
 ghost use Rattle.sqlite_value.specs.Order.{column};
+ghost use Rattle.sql_rows.specs.Broken.{cannot_stand_in};
 ghost use Rattle.sql_rows.specs.Looking.{FindsLeast, is_from};
 ghost use Rattle.sql_rows.specs.Ours.{IsOurs, kept_in};
-ghost use Rattle.sql_reading.specs.Asking.{Asks};
+ghost use Rattle.sql_reading.specs.Asking.{Asks, is_sql};
 ghost use Rattle.sql_rows.specs.Cells.{is_text};
 ghost use Rattle.sql_rows.specs.declared.read_fault.ReadFault.TheVariants.{BadRow};
-ghost use Rattle.sql_rows.specs.Stored.{Kept, is_sound_in, tables_in};
-ghost use Rattle.sql_reading.specs.Stepping.{GoesOn, IsNextNumber, IsNextRow};
+ghost use Rattle.sql_rows.specs.Stored.{Kept, tables_in};
+ghost use Rattle.store.specs.Asked.{IsBrokenRow, IsBrokenRun, IsSomeBroken};
+ghost use Rattle.store.specs.Asked.Asked.{RowOf};
+ghost use Rattle.store.specs.Change.{IsNumber};
+ghost use Rattle.sql_reading.specs.Naming.{Tells};
+ghost use Rattle.sql_reading.specs.Stepping.{GoesOn, HaveStood, IsBrokenNext, IsNearNumber, IsNextNumber, IsNoRow};
 
 use crate::finding::command_under;
 use crate::memory::{no_memory, push};
@@ -36,7 +41,9 @@ pub fn command_of<S: Alter>(
     ensures value { HasCleanDisk (state S.Store connection.new) → IsOurs (state S.Store connection.old).now
         → IfOk result (λ it. it ≡ (tables_in (kept_in (state S.Store connection.old).now.trees)).row panel.now number) }
     ensures bad { HasCleanDisk (state S.Store connection.new) → IsOurs (state S.Store connection.old).now → result ≡ Err BadRow
-        → is_sound_in (kept_in (state S.Store connection.old).now.trees) ≡ false }
+        → IsBrokenRow (cannot_stand_in (kept_in (state S.Store connection.old).now.trees)) panel.now number }
+    ensures stood { HasCleanDisk (state S.Store connection.new) → IsOurs (state S.Store connection.old).now
+        → IfOk result (λ _. IsBrokenRow (cannot_stand_in (kept_in (state S.Store connection.old).now.trees)) panel.now number → ⊥) }
     ensures survives { Survives (state S.Store connection.old) (state S.Store connection.new)
         (λ _. IsOurs (state S.Store connection.old).now → ⊥) }
 {
@@ -47,23 +54,32 @@ pub fn command_of<S: Alter>(
     }
 }
 
-// What the answer of the query on the least number tells.
-fn told_number(panel: &Name, from: u64, rows: Vec<Row>) -> Result<Option<u64>, ReadFault>
-    ensures least { IfOk result (λ it. IfSome it (λ number. 1 ≤ number)) }
-    ensures greatest { IfOk result (λ it. IfSome it (λ number. number ≤ 1_000_000_000_000)) }
+// What the answer of the query on the least number tells. Past the greatest there is no row of a command.
+fn told_number(panel: &Name, from: u64, rows: Vec<Row>) -> Option<u64>
+    requires { 1 ≤ from }
+    ensures is { IfSome result IsNumber }
     ensures value { (kept : Kept)
         → FindsLeast (λ row. is_text panel.now (column row 1) && is_from from (column row 2)) 2 kept.command rows.items
-        → IfOk result (IsNextNumber kept panel.now from) }
-    ensures bad { (kept : Kept)
-        → FindsLeast (λ row. is_text panel.now (column row 1) && is_from from (column row 2)) 2 kept.command rows.items
-        → IfErr result (λ _. is_sound_in kept ≡ false) }
-    ensures fault { IfErr result (λ fault. fault ≡ BadRow) }
+        → IsNextNumber kept panel.now from result }
 {
     // What is asked for is a name, as a row's own has to be.
     let _name = panel.as_str();
     match rows.first() {
-        None => Ok(None),
-        Some(row) => Ok(Some(count_at(row, 0, LEAST_NUMBER, GREATEST_NUMBER)?)),
+        None => None,
+        Some(row) => count_at(row, 0, LEAST_NUMBER, GREATEST_NUMBER).ok(),
+    }
+}
+
+// A number, or 1 where it is below.
+fn at_least_1(number: u64) -> u64
+    ensures least { 1 ≤ result }
+    ensures up { number ≤ result }
+    ensures near { (n : ℕ) → number ≤ n → 1 ≤ n → result ≤ n }
+{
+    if number < LEAST_NUMBER {
+        LEAST_NUMBER
+    } else {
+        number
     }
 }
 
@@ -75,46 +91,76 @@ fn next_number<S: Alter>(
     from: u64,
 ) -> Result<Option<u64>, ReadFault>
     requires { from ≤ 1_000_000_000_000 }
-    ensures least { IfOk result (λ it. IfSome it (λ number. 1 ≤ number)) }
-    ensures greatest { IfOk result (λ it. IfSome it (λ number. number ≤ 1_000_000_000_000)) }
+    ensures is { IfOk result (λ it. IfSome it IsNumber) }
+    ensures fault { IfErr result (λ fault. IsTrue (is_sql (Some fault))) }
     ensures mode { connection.old.in_transaction ≡ false → connection.new.in_transaction ≡ false }
     ensures asks { HasCleanDisk (state S.Store connection.new) → IsOurs (state S.Store connection.old).now
         → Asks (result_err result) (state S.Store connection.old) (state S.Store connection.new) }
     ensures value { HasCleanDisk (state S.Store connection.new) → IsOurs (state S.Store connection.old).now
         → IfOk result (IsNextNumber (kept_in (state S.Store connection.old).now.trees) panel.now from) }
-    ensures bad { HasCleanDisk (state S.Store connection.new) → IsOurs (state S.Store connection.old).now → result ≡ Err BadRow
-        → is_sound_in (kept_in (state S.Store connection.old).now.trees) ≡ false }
     ensures survives { Survives (state S.Store connection.old) (state S.Store connection.new)
         (λ _. IsOurs (state S.Store connection.old).now → ⊥) }
 {
-    let rows = commands::next_number(connection, panel, from)?;
-    told_number(panel, from, rows)
+    let least = at_least_1(from);
+    let rows = commands::next_number(connection, panel, least)?;
+    Ok(told_number(panel, least, rows))
 }
 
-/// The row of a panel at the least number from one on, if there is one.
-pub fn next_row<S: Alter>(
+// The row under a number of a panel where something is kept.
+fn row_under<S: Alter>(
     connection: &mut Connection<S>,
     panel: &Name,
-    from: u64,
-) -> Result<Option<NumberedRow>, ReadFault>
-    requires { from ≤ 1_000_000_000_000 }
-    ensures greatest { IfOk result (λ it. IfSome it (λ found. found.number ≤ 1_000_000_000_000)) }
+    number: u64,
+) -> Result<NumberedRow, ReadFault>
+    requires { IsNumber number }
+    ensures number { IfOk result (λ found. found.number ≡ number) }
     ensures mode { connection.old.in_transaction ≡ false → connection.new.in_transaction ≡ false }
     ensures asks { HasCleanDisk (state S.Store connection.new) → IsOurs (state S.Store connection.old).now
         → Asks (result_err result) (state S.Store connection.old) (state S.Store connection.new) }
     ensures value { HasCleanDisk (state S.Store connection.new) → IsOurs (state S.Store connection.old).now
-        → IfOk result (IsNextRow ((tables_in (kept_in (state S.Store connection.old).now.trees)).row panel.now) from) }
+        → IfOk result (λ found. (tables_in (kept_in (state S.Store connection.old).now.trees)).row panel.now number ≡ Some found.row) }
     ensures bad { HasCleanDisk (state S.Store connection.new) → IsOurs (state S.Store connection.old).now → result ≡ Err BadRow
-        → is_sound_in (kept_in (state S.Store connection.old).now.trees) ≡ false }
+        → (IsNoRow (kept_in (state S.Store connection.old).now.trees) panel.now number → ⊥) → IsBrokenRow (cannot_stand_in (kept_in (state S.Store connection.old).now.trees)) panel.now number }
+    ensures stood { HasCleanDisk (state S.Store connection.new) → IsOurs (state S.Store connection.old).now
+        → IfOk result (λ _. IsBrokenRow (cannot_stand_in (kept_in (state S.Store connection.old).now.trees)) panel.now number → ⊥) }
     ensures survives { Survives (state S.Store connection.old) (state S.Store connection.new)
         (λ _. IsOurs (state S.Store connection.old).now → ⊥) }
 {
-    match next_number(connection, panel, from)? {
-        None => Ok(None),
-        Some(number) => match command_under(connection, panel, number)? {
-            Some(row) => Ok(Some(NumberedRow { number, row })),
-            None => Err(ReadFault::BadRow),
-        },
+    match command_under(connection, panel, number)? {
+        Some(row) => Ok(NumberedRow { number, row }),
+        None => Err(ReadFault::BadRow),
+    }
+}
+
+/// Whether a panel has a row.
+pub fn has_row<S: Alter>(connection: &mut Connection<S>, panel: &Name) -> Result<bool, ReadFault>
+    ensures mode { connection.old.in_transaction ≡ false → connection.new.in_transaction ≡ false }
+    ensures asks { HasCleanDisk (state S.Store connection.new) → IsOurs (state S.Store connection.old).now
+        → Asks (result_err result) (state S.Store connection.old) (state S.Store connection.new) }
+    ensures value { HasCleanDisk (state S.Store connection.new) → IsOurs (state S.Store connection.old).now
+        → IfOk result (Tells ((number : ℕ) × IsSome ((tables_in (kept_in (state S.Store connection.old).now.trees)).row panel.now number))) }
+    ensures bad { HasCleanDisk (state S.Store connection.new) → IsOurs (state S.Store connection.old).now → result ≡ Err BadRow
+        → IsSomeBroken (cannot_stand_in (kept_in (state S.Store connection.old).now.trees)) }
+    ensures survives { Survives (state S.Store connection.old) (state S.Store connection.new)
+        (λ _. IsOurs (state S.Store connection.old).now → ⊥) }
+{
+    match next_number(connection, panel, LEAST_NUMBER)? {
+        None => Ok(false),
+        Some(number) => {
+            let _row = row_under(connection, panel, number)?;
+            Ok(true)
+        }
+    }
+}
+
+// A number that is found, unless it is past `upto` and behind a gap.
+fn unless_past(found: Option<u64>, from: u64, upto: u64) -> Option<u64>
+    ensures is { IfSome found IsNumber → IfSome result IsNumber }
+    ensures value { (kept : Kept) (panel : List ℕ) → IsNextNumber kept panel from found → IsNearNumber kept panel from upto result }
+{
+    match found {
+        Some(number) if number <= upto || number == from => Some(number),
+        _ => None,
     }
 }
 
@@ -132,7 +178,9 @@ fn next_in_run<S: Alter>(
     ensures value { HasCleanDisk (state S.Store connection.new) → IsOurs (state S.Store connection.old).now
         → IfOk result (GoesOn ((tables_in (kept_in (state S.Store connection.old).now.trees)).row panel.now) from upto) }
     ensures bad { HasCleanDisk (state S.Store connection.new) → IsOurs (state S.Store connection.old).now → result ≡ Err BadRow
-        → is_sound_in (kept_in (state S.Store connection.old).now.trees) ≡ false }
+        → IsBrokenNext (kept_in (state S.Store connection.old).now.trees) panel.now from upto }
+    ensures stood { HasCleanDisk (state S.Store connection.new) → IsOurs (state S.Store connection.old).now
+        → IfOk result (HaveStood (kept_in (state S.Store connection.old).now.trees) panel.now from upto) }
     ensures survives { Survives (state S.Store connection.old) (state S.Store connection.new)
         (λ _. IsOurs (state S.Store connection.old).now → ⊥) }
 {
@@ -140,18 +188,10 @@ fn next_in_run<S: Alter>(
     if GREATEST_NUMBER < from {
         return Ok(None);
     }
-    let found = next_row(connection, panel, from)?;
-    Ok(unless_past(found, from, upto))
-}
-
-// A row that is found, unless it is past `upto` and behind a gap.
-fn unless_past(found: Option<NumberedRow>, from: u64, upto: u64) -> Option<NumberedRow>
-    ensures greatest { IfSome found (λ row. row.number ≤ 1_000_000_000_000) → IfSome result (λ row. row.number ≤ 1_000_000_000_000) }
-    ensures value { (rows : Rows) → IsNextRow rows from found → GoesOn rows from upto result }
-{
-    match found {
-        Some(row) if row.number <= upto || row.number == from => Some(row),
-        _ => None,
+    let found = next_number(connection, panel, from)?;
+    match unless_past(found, from, upto) {
+        None => Ok(None),
+        Some(number) => Ok(Some(row_under(connection, panel, number)?)),
     }
 }
 
@@ -169,10 +209,11 @@ pub fn commands_run<S: Alter>(
     ensures asks { HasCleanDisk (state S.Store connection.new) → IsOurs (state S.Store connection.old).now
         → Asks (result_err result) (state S.Store connection.old) (state S.Store connection.new) }
     ensures value { HasCleanDisk (state S.Store connection.new) → IsOurs (state S.Store connection.old).now
-        → IfOk result
-        (λ it. IsRun ((tables_in (kept_in (state S.Store connection.old).now.trees)).row panel.now) from upto it.items) }
+        → IfOk result (λ it. IsRun ((tables_in (kept_in (state S.Store connection.old).now.trees)).row panel.now) from upto it.items) }
     ensures bad { HasCleanDisk (state S.Store connection.new) → IsOurs (state S.Store connection.old).now → result ≡ Err BadRow
-        → is_sound_in (kept_in (state S.Store connection.old).now.trees) ≡ false }
+        → IsBrokenRun (cannot_stand_in (kept_in (state S.Store connection.old).now.trees)) ((tables_in (kept_in (state S.Store connection.old).now.trees)).row panel.now) panel.now from upto }
+    ensures stood { HasCleanDisk (state S.Store connection.new) → IsOurs (state S.Store connection.old).now
+        → IfOk result (λ _. IsBrokenRun (cannot_stand_in (kept_in (state S.Store connection.old).now.trees)) ((tables_in (kept_in (state S.Store connection.old).now.trees)).row panel.now) panel.now from upto → ⊥) }
     ensures survives { Survives (state S.Store connection.old) (state S.Store connection.new)
         (λ _. IsOurs (state S.Store connection.old).now → ⊥) }
 {

@@ -10,7 +10,7 @@ use Rattle.sqlite_value.specs.declared.value.Value.{Value}
 use Rattle.sqlite_value.specs.declared.value.Value.TheVariants.{Null, Int, Real, Text, Blob}
 use Rattle.sqlite_value.proofs.OrderLemmas.{value_cmp-Int, value_cmp-Text}
 use Rattle.sqlite_sql.specs.declared.ops.BinaryOp.TheVariants.{Compare}
-use Rattle.sqlite_sql.specs.declared.ops.CompareOp.TheVariants.{Eq, Ge, Gt, Lt}
+use Rattle.sqlite_sql.specs.declared.ops.CompareOp.TheVariants.{Eq, Ge, Lt}
 use Rattle.sqlite_sql.specs.Ops.{binary, from_truth, is_null, is_true}
 use Rattle.sqlite_schema.specs.declared.schema.Kind.TheVariants as kind
 use Rattle.sqlite_schema.specs.Rules.{is_of}
@@ -18,7 +18,7 @@ use Rattle.sqlite_rules.specs.Cast.{cast}
 use Rattle.sqlite_schema.specs.declared.schema.Kind.TheVariants.{Integer}
 use Rattle.sqlite_sql.specs.Ops.{unary}
 use Rattle.sqlite.specs.Values.{bound_value}
-use Rattle.sql_rows.specs.Looking.{is_after, is_from}
+use Rattle.sql_rows.specs.Looking.{is_from, is_from_text}
 use Rattle.sql_rows.specs.Cells.{cell_of, is_below, is_count, is_text}
 
 by_both : (a b : Bool) → (a ≡ true → b ≡ true) → (b ≡ true → a ≡ true) → a ≡ b
@@ -110,14 +110,14 @@ is_ge_cond true b = refl
 is_ge_cond false true = refl
 is_ge_cond false false = refl
 
-pub after_text : (t : List ℕ) (cell : Value) → is_of kind.Text cell ≡ true → is_null cell ≡ false
-    → is_true (binary (Compare Gt Binary) cell (Text t)) ≡ is_after t cell
+pub from_text : (t : List ℕ) (cell : Value) → is_of kind.Text cell ≡ true → is_null cell ≡ false
+    → is_true (binary (Compare Ge Binary) cell (Text t)) ≡ is_from_text t cell
 unfolding binary
-after_text t Null kind filled = absurd (true≢false filled)
-after_text t (Int n) kind filled = absurd (true≢false (sym kind))
-after_text t (Real x) kind filled = absurd (true≢false (sym kind))
-after_text t (Text s) kind filled = truth_of _ ∙ ap is_gt (value_cmp-Text s t)
-after_text t (Blob b) kind filled = absurd (true≢false (sym kind))
+from_text t Null kind filled = absurd (true≢false filled)
+from_text t (Int n) kind filled = absurd (true≢false (sym kind))
+from_text t (Real x) kind filled = absurd (true≢false (sym kind))
+from_text t (Text s) kind filled = truth_of _ ∙ ap is_ge (value_cmp-Text s t)
+from_text t (Blob b) kind filled = absurd (true≢false (sym kind))
 
 pub from_count : (n : ℕ) (cell : Value) → is_of kind.Integer cell ≡ true → is_null cell ≡ false
     → is_true (binary (Compare Ge Binary) cell (Int (pos n))) ≡ is_from n cell

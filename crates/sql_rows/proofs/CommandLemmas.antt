@@ -14,7 +14,7 @@ use Rattle.sqlite_schema.specs.declared.schema.Constraint.TheVariants.{Datatype,
 use Rattle.sqlite_schema.specs.declared.schema.Kind.TheVariants as kind
 use Rattle.sqlite_rules.specs.Lists.{Has}
 use Rattle.sqlite_rules.proofs.ListLemmas.{all_has}
-use Rattle.sqlite_sql.specs.declared.ops.CompareOp.TheVariants.{Ge, Gt, Lt}
+use Rattle.sqlite_sql.specs.declared.ops.CompareOp.TheVariants.{Ge, Lt}
 use Rattle.sqlite_sql.specs.Term.{lit, col}
 use Rattle.sqlite.specs.declared.error.Error.{Error}
 use Rattle.sqlite.specs.Effect.{Database}
@@ -23,16 +23,16 @@ use Rattle.sql_create.specs.Schema.{column_of, command_table, command_tree}
 use Rattle.sql_rows.specs.Meanings.{compared_with, given, passes}
 use Rattle.sql_rows.specs.Ours.{Adds, Changes, Gains, IsInside, IsOurs, Loses}
 use Rattle.sql_rows.specs.Slot.{On, command_slot}
-use Rattle.sql_rows.proofs.CellLemmas.{after_text, and_true, below_count, cast_cell, cast_int, cast_null, equal_count, equal_text, from_count}
+use Rattle.sql_rows.proofs.CellLemmas.{from_text, and_true, below_count, cast_cell, cast_int, cast_null, equal_count, equal_text, from_count}
 use Rattle.sql_rows.proofs.RestLemmas.{finds, finds_least, finds_same, least_same}
-use Rattle.sql_rows.specs.Looking.{Finds, FindsLeast, is_after, is_from}
+use Rattle.sql_rows.specs.Looking.{Finds, FindsLeast, is_from_text, is_from}
 use Rattle.sql_rows.proofs.SlotLemmas.{gains, is_command, loses}
 use Rattle.sql_rows.proofs.TypeLemmas.{IsFilled, first_filled, ruled, second_filled}
-use Rattle.sql_rows.proofs.CommandTexts.{add_is, add_plain, add_text, clear_is, clear_plain, clear_text, drop_is, drop_plain, drop_text, find_is, find_plain, find_text, find_unlisted, next_number_is, next_number_plain, next_number_text, next_number_unlisted, next_panel_is, next_panel_plain, next_panel_text, next_panel_unlisted}
+use Rattle.sql_rows.proofs.CommandTexts.{add_is, add_plain, add_text, below_is, below_plain, below_text, below_unlisted, clear_is, clear_plain, clear_text, drop_is, drop_plain, drop_text, find_is, find_plain, find_text, find_unlisted, next_number_is, next_number_plain, next_number_text, next_number_unlisted, next_panel_is, next_panel_plain, next_panel_text, next_panel_unlisted}
 use Rattle.sql_rows.specs.Cells.{cell_of, is_below, is_count, is_text}
 use Rattle.sql_rows.specs.Rows.{of_command, of_lower_command}
 
-command_cells : (db : Database) → IsOurs db → (row : Row) → Has (db.trees command_tree) row
+pub command_cells : (db : Database) → IsOurs db → (row : Row) → Has (db.trees command_tree) row
     → IsFilled kind.Text (column row 1) × IsFilled kind.Integer (column row 2)
 command_cells db ours row h =
     let typed = all_has _ (db.trees command_tree) row (ruled Datatype db ours).1.1.0 h in
@@ -168,21 +168,33 @@ find_shown items panel number old new (Ok v) ours shown =
     (codes "point" ∷ codes "priority" ∷ codes "value" ∷ codes "state" ∷ codes "a" ∷ codes "b" ∷ []) find_is old new
     (Text panel ∷ Int (pos number) ∷ []) (items v) ours.schema_is shown)
 
-passes_next_panel : (db : Database) → IsOurs db → (after : List ℕ) → (row : Row) → Has (db.trees command_tree) row
-    → passes (compared_with Gt 1 0 ∷ []) (Text after ∷ []) row ≡ (is_after after (column row 1))
-passes_next_panel db ours after row h =
-    let cells = command_cells db ours row h in
-    rw (after_text after (column row 1) cells.0.of cells.0.filled, and_true) refl
+pub below_shown : {V : Type 0} (items : V → List Row) (panel : List ℕ) (number : ℕ) (old new : State) (r : Result V Error) → IsOurs old.now
+    → IfOk r (λ v. Shown below_text (Text panel ∷ Int (pos number) ∷ []) old new (items v))
+    → IfOk r (λ v. Finds (of_lower_command panel number) (λ row. column row 2 ∷ []) (old.now.trees command_tree) (items v))
+below_shown items panel number old new (Err e) ours shown = tt
+below_shown items panel number old new (Ok v) ours shown =
+    finds_same (passes (given 1 0 ∷ compared_with Lt 2 1 ∷ []) (Text panel ∷ Int (pos number) ∷ [])) (of_lower_command panel number)
+    (λ row. column row 2 ∷ []) (old.now.trees command_tree)
+    (items v) (λ row h. passes_lower old.now ours panel number row h)
+    (finds below_text below_plain below_unlisted command_tree (given 1 0 ∷ compared_with Lt 2 1 ∷ []) (col 1 2 ∷ [])
+    (codes "number" ∷ []) below_is old new
+    (Text panel ∷ Int (pos number) ∷ []) (items v) ours.schema_is shown)
 
-pub next_panel_shown : {V : Type 0} (items : V → List Row) (after : List ℕ) (old new : State) (r : Result V Error) → IsOurs old.now
-    → IfOk r (λ v. Shown next_panel_text (Text after ∷ []) old new (items v))
-    → IfOk r (λ v. FindsLeast (λ row. is_after after (column row 1)) 1 (old.now.trees command_tree) (items v))
-next_panel_shown items after old new (Err e) ours shown = tt
-next_panel_shown items after old new (Ok v) ours shown =
-    least_same (passes (compared_with Gt 1 0 ∷ []) (Text after ∷ [])) (λ row. is_after after (column row 1)) 1
-    (old.now.trees command_tree) (items v) (λ row h. passes_next_panel old.now ours after row h)
-    (finds_least next_panel_text next_panel_plain next_panel_unlisted command_tree (compared_with Gt 1 0 ∷ []) 1
-    (codes "panel" ∷ []) next_panel_is old new (Text after ∷ []) (items v) ours.schema_is shown)
+passes_next_panel : (db : Database) → IsOurs db → (from : List ℕ) → (row : Row) → Has (db.trees command_tree) row
+    → passes (compared_with Ge 1 0 ∷ []) (Text from ∷ []) row ≡ (is_from_text from (column row 1))
+passes_next_panel db ours from row h =
+    let cells = command_cells db ours row h in
+    rw (from_text from (column row 1) cells.0.of cells.0.filled, and_true) refl
+
+pub next_panel_shown : {V : Type 0} (items : V → List Row) (from : List ℕ) (old new : State) (r : Result V Error) → IsOurs old.now
+    → IfOk r (λ v. Shown next_panel_text (Text from ∷ []) old new (items v))
+    → IfOk r (λ v. FindsLeast (λ row. is_from_text from (column row 1)) 1 (old.now.trees command_tree) (items v))
+next_panel_shown items from old new (Err e) ours shown = tt
+next_panel_shown items from old new (Ok v) ours shown =
+    least_same (passes (compared_with Ge 1 0 ∷ []) (Text from ∷ [])) (λ row. is_from_text from (column row 1)) 1
+    (old.now.trees command_tree) (items v) (λ row h. passes_next_panel old.now ours from row h)
+    (finds_least next_panel_text next_panel_plain next_panel_unlisted command_tree (compared_with Ge 1 0 ∷ []) 1
+    (codes "panel" ∷ []) next_panel_is old new (Text from ∷ []) (items v) ours.schema_is shown)
 
 passes_next_number : (db : Database) → IsOurs db → (panel : List ℕ) (from : ℕ) → (row : Row) → Has (db.trees command_tree) row
     → passes (given 1 0 ∷ compared_with Ge 2 1 ∷ []) (Text panel ∷ Int (pos from) ∷ []) row

@@ -3,7 +3,7 @@ use Rattle.std.proofs.Common.{◌≡◌, ℕ, false, List, [], ◌∷◌, codes,
 use Rattle.sqlite_value.specs.declared.value.Value.TheVariants.{Null}
 use Rattle.sqlite_schema.specs.declared.command.Command.TheVariants.{Insert}
 use Rattle.sqlite_schema.specs.declared.command.Source.TheVariants.{Values}
-use Rattle.sqlite_sql.specs.declared.ops.CompareOp.TheVariants.{Ge, Gt, Lt}
+use Rattle.sqlite_sql.specs.declared.ops.CompareOp.TheVariants.{Ge, Lt}
 use Rattle.sqlite_sql.specs.Term.{lit, col}
 use Rattle.sqlite.specs.Given.{IsPlain}
 use Rattle.sqlite.specs.Listing.{reads_listing, understood}
@@ -65,11 +65,27 @@ pub find_unlisted : reads_listing desk_schema find_text ≡ false
 unfolding everything
 find_unlisted = refl
 
+abbrev pub below_text : List ℕ
+below_text = codes "SELECT number FROM command WHERE panel = ?1 AND number < ?2"
+
+pub below_is : command_of (understood desk_schema below_text)
+    ≡ selection command_tree (given 1 0 ∷ compared_with Lt 2 1 ∷ []) (col 1 2 ∷ []) (codes "number" ∷ [])
+unfolding understood everything
+below_is = refl
+
+pub below_plain : IsPlain (understood desk_schema below_text)
+unfolding understood everything
+below_plain = (refl, refl)
+
+pub below_unlisted : reads_listing desk_schema below_text ≡ false
+unfolding everything
+below_unlisted = refl
+
 abbrev pub next_panel_text : List ℕ
-next_panel_text = codes "SELECT panel FROM command WHERE panel > ?1 ORDER BY panel LIMIT 1"
+next_panel_text = codes "SELECT panel FROM command WHERE panel >= ?1 ORDER BY panel LIMIT 1"
 
 pub next_panel_is : command_of (understood desk_schema next_panel_text)
-    ≡ least command_tree (compared_with Gt 1 0 ∷ []) 1 (codes "panel" ∷ [])
+    ≡ least command_tree (compared_with Ge 1 0 ∷ []) 1 (codes "panel" ∷ [])
 unfolding understood everything
 next_panel_is = refl
 

@@ -6,7 +6,7 @@ use Rattle.sqlite_schema.specs.declared.schema.Constraint.TheVariants.{Datatype,
 use Rattle.sqlite_schema.specs.declared.schema.Kind.TheVariants as kind
 use Rattle.sqlite_rules.specs.Lists.{Has}
 use Rattle.sqlite_rules.proofs.ListLemmas.{all_has}
-use Rattle.sqlite_sql.specs.declared.ops.CompareOp.TheVariants.{Gt}
+use Rattle.sqlite_sql.specs.declared.ops.CompareOp.TheVariants.{Ge}
 use Rattle.sqlite_sql.specs.Term.{lit, col}
 use Rattle.sqlite.specs.declared.error.Error.{Error}
 use Rattle.sqlite.specs.Effect.{Database}
@@ -15,16 +15,16 @@ use Rattle.sql_create.specs.Schema.{column_of, imported_table, imported_tree}
 use Rattle.sql_rows.specs.Meanings.{compared_with, given, passes}
 use Rattle.sql_rows.specs.Ours.{Changes, Gains, IsInside, IsOurs, Loses}
 use Rattle.sql_rows.specs.Slot.{On, imported_slot}
-use Rattle.sql_rows.proofs.CellLemmas.{after_text, and_true, cast_null, equal_text}
+use Rattle.sql_rows.proofs.CellLemmas.{from_text, and_true, cast_null, equal_text}
 use Rattle.sql_rows.proofs.RestLemmas.{finds_least, least_same}
-use Rattle.sql_rows.specs.Looking.{FindsLeast, is_after}
+use Rattle.sql_rows.specs.Looking.{FindsLeast, is_from_text}
 use Rattle.sql_rows.proofs.SlotLemmas.{gains, is_imported, loses}
 use Rattle.sql_rows.proofs.TypeLemmas.{IsFilled, first_filled, ruled, second_filled}
 use Rattle.sql_rows.proofs.ImportedTexts.{add_is, add_plain, add_text, clear_is, clear_plain, clear_text, next_entry_is, next_entry_plain, next_entry_text, next_entry_unlisted, next_name_is, next_name_plain, next_name_text, next_name_unlisted}
 use Rattle.sql_rows.specs.Cells.{is_text}
 use Rattle.sql_rows.specs.Rows.{of_entry}
 
-imported_cells : (db : Database) → IsOurs db → (row : Row) → Has (db.trees imported_tree) row
+pub imported_cells : (db : Database) → IsOurs db → (row : Row) → Has (db.trees imported_tree) row
     → IsFilled kind.Text (column row 1) × IsFilled kind.Text (column row 2)
 imported_cells db ours row h =
     let typed = all_has _ (db.trees imported_tree) row (ruled Datatype db ours).1.1.1.1.1.0 h in
@@ -65,42 +65,42 @@ adds calendar entry old new result inside h =
 
 -- the queries
 
-passes_next_name : (db : Database) → IsOurs db → (after : List ℕ) → (row : Row) → Has (db.trees imported_tree) row
-    → passes (compared_with Gt 1 0 ∷ []) (Text after ∷ []) row ≡ (is_after after (column row 1))
-passes_next_name db ours after row h =
+passes_next_name : (db : Database) → IsOurs db → (from : List ℕ) → (row : Row) → Has (db.trees imported_tree) row
+    → passes (compared_with Ge 1 0 ∷ []) (Text from ∷ []) row ≡ (is_from_text from (column row 1))
+passes_next_name db ours from row h =
     let cells = imported_cells db ours row h in
-    rw (after_text after (column row 1) cells.0.of cells.0.filled, and_true) refl
+    rw (from_text from (column row 1) cells.0.of cells.0.filled, and_true) refl
 
-pub next_name_shown : {V : Type 0} (items : V → List Row) (after : List ℕ) (old new : State) (r : Result V Error) → IsOurs old.now
-    → IfOk r (λ v. Shown next_name_text (Text after ∷ []) old new (items v))
-    → IfOk r (λ v. FindsLeast (λ row. is_after after (column row 1)) 1 (old.now.trees imported_tree) (items v))
-next_name_shown items after old new (Err e) ours shown = tt
-next_name_shown items after old new (Ok v) ours shown =
-    least_same (passes (compared_with Gt 1 0 ∷ []) (Text after ∷ [])) (λ row. is_after after (column row 1)) 1
-    (old.now.trees imported_tree) (items v) (λ row h. passes_next_name old.now ours after row h)
-    (finds_least next_name_text next_name_plain next_name_unlisted imported_tree (compared_with Gt 1 0 ∷ []) 1
-    (codes "calendar" ∷ []) next_name_is old new (Text after ∷ []) (items v) ours.schema_is shown)
+pub next_name_shown : {V : Type 0} (items : V → List Row) (from : List ℕ) (old new : State) (r : Result V Error) → IsOurs old.now
+    → IfOk r (λ v. Shown next_name_text (Text from ∷ []) old new (items v))
+    → IfOk r (λ v. FindsLeast (λ row. is_from_text from (column row 1)) 1 (old.now.trees imported_tree) (items v))
+next_name_shown items from old new (Err e) ours shown = tt
+next_name_shown items from old new (Ok v) ours shown =
+    least_same (passes (compared_with Ge 1 0 ∷ []) (Text from ∷ [])) (λ row. is_from_text from (column row 1)) 1
+    (old.now.trees imported_tree) (items v) (λ row h. passes_next_name old.now ours from row h)
+    (finds_least next_name_text next_name_plain next_name_unlisted imported_tree (compared_with Ge 1 0 ∷ []) 1
+    (codes "calendar" ∷ []) next_name_is old new (Text from ∷ []) (items v) ours.schema_is shown)
 
-passes_next_entry : (db : Database) → IsOurs db → (calendar : List ℕ) (after : List ℕ) → (row : Row) → Has (db.trees imported_tree) row
-    → passes (given 1 0 ∷ compared_with Gt 2 1 ∷ []) (Text calendar ∷ Text after ∷ []) row
-    ≡ (is_text calendar (column row 1) && is_after after (column row 2))
-passes_next_entry db ours calendar after row h =
+passes_next_entry : (db : Database) → IsOurs db → (calendar : List ℕ) (from : List ℕ) → (row : Row) → Has (db.trees imported_tree) row
+    → passes (given 1 0 ∷ compared_with Ge 2 1 ∷ []) (Text calendar ∷ Text from ∷ []) row
+    ≡ (is_text calendar (column row 1) && is_from_text from (column row 2))
+passes_next_entry db ours calendar from row h =
     let cells = imported_cells db ours row h in
     rw (
       equal_text calendar (column row 1) cells.0.of cells.0.filled,
-      after_text after (column row 2) cells.1.of cells.1.filled,
+      from_text from (column row 2) cells.1.of cells.1.filled,
       and_true,
     ) refl
 
-pub next_entry_shown : {V : Type 0} (items : V → List Row) (calendar : List ℕ) (after : List ℕ) (old new : State) (r : Result V Error)
+pub next_entry_shown : {V : Type 0} (items : V → List Row) (calendar : List ℕ) (from : List ℕ) (old new : State) (r : Result V Error)
     → IsOurs old.now
-    → IfOk r (λ v. Shown next_entry_text (Text calendar ∷ Text after ∷ []) old new (items v))
-    → IfOk r (λ v. FindsLeast (λ row. is_text calendar (column row 1) && is_after after (column row 2)) 2
+    → IfOk r (λ v. Shown next_entry_text (Text calendar ∷ Text from ∷ []) old new (items v))
+    → IfOk r (λ v. FindsLeast (λ row. is_text calendar (column row 1) && is_from_text from (column row 2)) 2
     (old.now.trees imported_tree) (items v))
-next_entry_shown items calendar after old new (Err e) ours shown = tt
-next_entry_shown items calendar after old new (Ok v) ours shown =
-    least_same (passes (given 1 0 ∷ compared_with Gt 2 1 ∷ []) (Text calendar ∷ Text after ∷ []))
-    (λ row. is_text calendar (column row 1) && is_after after (column row 2)) 2 (old.now.trees imported_tree) (items v)
-    (λ row h. passes_next_entry old.now ours calendar after row h)
-    (finds_least next_entry_text next_entry_plain next_entry_unlisted imported_tree (given 1 0 ∷ compared_with Gt 2 1 ∷ []) 2
-    (codes "entry" ∷ []) next_entry_is old new (Text calendar ∷ Text after ∷ []) (items v) ours.schema_is shown)
+next_entry_shown items calendar from old new (Err e) ours shown = tt
+next_entry_shown items calendar from old new (Ok v) ours shown =
+    least_same (passes (given 1 0 ∷ compared_with Ge 2 1 ∷ []) (Text calendar ∷ Text from ∷ []))
+    (λ row. is_text calendar (column row 1) && is_from_text from (column row 2)) 2 (old.now.trees imported_tree) (items v)
+    (λ row h. passes_next_entry old.now ours calendar from row h)
+    (finds_least next_entry_text next_entry_plain next_entry_unlisted imported_tree (given 1 0 ∷ compared_with Ge 2 1 ∷ []) 2
+    (codes "entry" ∷ []) next_entry_is old new (Text calendar ∷ Text from ∷ []) (items v) ours.schema_is shown)

@@ -3,7 +3,7 @@ use Rattle.std.proofs.Common.{◌≡◌, ℕ, false, List, [], ◌∷◌, codes,
 use Rattle.sqlite_value.specs.declared.value.Value.TheVariants.{Null}
 use Rattle.sqlite_schema.specs.declared.command.Command.TheVariants.{Insert}
 use Rattle.sqlite_schema.specs.declared.command.Source.TheVariants.{Values}
-use Rattle.sqlite_sql.specs.declared.ops.CompareOp.TheVariants.{Gt}
+use Rattle.sqlite_sql.specs.declared.ops.CompareOp.TheVariants.{Ge}
 use Rattle.sqlite_sql.specs.Term.{lit, col}
 use Rattle.sqlite.specs.Given.{IsPlain}
 use Rattle.sqlite.specs.Listing.{reads_listing, understood}
@@ -37,10 +37,10 @@ add_plain = (refl, refl)
 -- the queries
 
 abbrev pub next_name_text : List ℕ
-next_name_text = codes "SELECT calendar FROM imported WHERE calendar > ?1 ORDER BY calendar LIMIT 1"
+next_name_text = codes "SELECT calendar FROM imported WHERE calendar >= ?1 ORDER BY calendar LIMIT 1"
 
 pub next_name_is : command_of (understood desk_schema next_name_text)
-    ≡ least imported_tree (compared_with Gt 1 0 ∷ []) 1 (codes "calendar" ∷ [])
+    ≡ least imported_tree (compared_with Ge 1 0 ∷ []) 1 (codes "calendar" ∷ [])
 unfolding understood everything
 next_name_is = refl
 
@@ -53,10 +53,10 @@ unfolding everything
 next_name_unlisted = refl
 
 abbrev pub next_entry_text : List ℕ
-next_entry_text = codes "SELECT entry FROM imported WHERE calendar = ?1 AND entry > ?2 ORDER BY entry LIMIT 1"
+next_entry_text = codes "SELECT entry FROM imported WHERE calendar = ?1 AND entry >= ?2 ORDER BY entry LIMIT 1"
 
 pub next_entry_is : command_of (understood desk_schema next_entry_text)
-    ≡ least imported_tree (given 1 0 ∷ compared_with Gt 2 1 ∷ []) 2 (codes "entry" ∷ [])
+    ≡ least imported_tree (given 1 0 ∷ compared_with Ge 2 1 ∷ []) 2 (codes "entry" ∷ [])
 unfolding understood everything
 next_entry_is = refl
 

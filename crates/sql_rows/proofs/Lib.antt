@@ -1,4 +1,5 @@
 pub mod AnswerLemmas
+pub mod BrokenLemmas
 pub mod CellLemmas
 pub mod CommandLemmas
 pub mod CommandTexts
@@ -12,6 +13,7 @@ pub mod ItemLemmas
 pub mod KeyLemmas
 pub mod LeastLemmas
 pub mod MadeLemmas
+pub mod NamedLemmas
 pub mod PanelLemmas
 pub mod PanelTexts
 pub mod PlaceLemmas
@@ -31,3 +33,4 @@ pub mod StoredRowLemmas
 pub mod TableLemmas
 pub mod TypeLemmas
 pub mod WriteLemmas
+pub mod UnsoundLemmas

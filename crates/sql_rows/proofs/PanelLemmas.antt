@@ -11,7 +11,7 @@ use Rattle.sqlite_rules.specs.Lists.{Has}
 use Rattle.sqlite_rules.proofs.ListLemmas.{all_has}
 use Rattle.sqlite_rules.proofs.TableLemmas.{int_is}
 use Rattle.sqlite_trees.specs.Tree.{rowid}
-use Rattle.sqlite_sql.specs.declared.ops.CompareOp.TheVariants.{Gt}
+use Rattle.sqlite_sql.specs.declared.ops.CompareOp.TheVariants.{Ge}
 use Rattle.sqlite_sql.specs.Term.{lit, col}
 use Rattle.sqlite.specs.declared.error.Error.{Error}
 use Rattle.sqlite.specs.Effect.{Database}
@@ -20,18 +20,18 @@ use Rattle.sql_create.specs.Schema.{column_of, panel_table, panel_tree}
 use Rattle.sql_rows.specs.Meanings.{compared_with, given, passes}
 use Rattle.sql_rows.specs.Ours.{Changes, Gains, IsInside, IsOurs, Rewrites}
 use Rattle.sql_rows.specs.Slot.{On, panel_slot}
-use Rattle.sql_rows.proofs.CellLemmas.{after_text, and_true, cast_int, cast_null, equal_text}
+use Rattle.sql_rows.proofs.CellLemmas.{from_text, and_true, cast_int, cast_null, equal_text}
 use Rattle.sql_rows.proofs.KeyLemmas.{one_number, text_is}
 use Rattle.sql_rows.proofs.RewriteLemmas.{rewrites}
 use Rattle.sql_rows.proofs.RestLemmas.{finds, finds_least, finds_same, least_same}
-use Rattle.sql_rows.specs.Looking.{Finds, FindsLeast, is_after}
+use Rattle.sql_rows.specs.Looking.{Finds, FindsLeast, is_from_text}
 use Rattle.sql_rows.proofs.SlotLemmas.{gains, is_panel}
 use Rattle.sql_rows.proofs.TypeLemmas.{IsFilled, first_filled, ruled}
 use Rattle.sql_rows.proofs.PanelTexts.{add_is, add_plain, add_text, cells_set, find_is, find_plain, find_text, find_unlisted, next_name_is, next_name_plain, next_name_text, next_name_unlisted, set_is, set_plain, set_text}
 use Rattle.sql_rows.specs.Cells.{is_text}
 use Rattle.sql_rows.specs.Rows.{of_panel}
 
-panel_cells : (db : Database) → IsOurs db → (row : Row) → Has (db.trees panel_tree) row → IsFilled kind.Text (column row 1)
+pub panel_cells : (db : Database) → IsOurs db → (row : Row) → Has (db.trees panel_tree) row → IsFilled kind.Text (column row 1)
 panel_cells db ours row h =
     let typed = all_has _ (db.trees panel_tree) row (ruled Datatype db ours).1.0 h in
     let present = all_has _ (db.trees panel_tree) row (ruled NotNull db ours).1.0 h in
@@ -90,18 +90,18 @@ find_shown items panel old new (Ok v) ours shown =
     (finds find_text find_plain find_unlisted panel_tree (given 1 0 ∷ []) (col 1 2 ∷ []) (codes "next" ∷ []) find_is old new
     (Text panel ∷ []) (items v) ours.schema_is shown)
 
-passes_next_name : (db : Database) → IsOurs db → (after : List ℕ) → (row : Row) → Has (db.trees panel_tree) row
-    → passes (compared_with Gt 1 0 ∷ []) (Text after ∷ []) row ≡ (is_after after (column row 1))
-passes_next_name db ours after row h =
+passes_next_name : (db : Database) → IsOurs db → (from : List ℕ) → (row : Row) → Has (db.trees panel_tree) row
+    → passes (compared_with Ge 1 0 ∷ []) (Text from ∷ []) row ≡ (is_from_text from (column row 1))
+passes_next_name db ours from row h =
     let cell = panel_cells db ours row h in
-    rw (after_text after (column row 1) cell.of cell.filled, and_true) refl
+    rw (from_text from (column row 1) cell.of cell.filled, and_true) refl
 
-pub next_name_shown : {V : Type 0} (items : V → List Row) (after : List ℕ) (old new : State) (r : Result V Error) → IsOurs old.now
-    → IfOk r (λ v. Shown next_name_text (Text after ∷ []) old new (items v))
-    → IfOk r (λ v. FindsLeast (λ row. is_after after (column row 1)) 1 (old.now.trees panel_tree) (items v))
-next_name_shown items after old new (Err e) ours shown = tt
-next_name_shown items after old new (Ok v) ours shown =
-    least_same (passes (compared_with Gt 1 0 ∷ []) (Text after ∷ [])) (λ row. is_after after (column row 1)) 1
-    (old.now.trees panel_tree) (items v) (λ row h. passes_next_name old.now ours after row h)
-    (finds_least next_name_text next_name_plain next_name_unlisted panel_tree (compared_with Gt 1 0 ∷ []) 1 (codes "name" ∷ [])
-    next_name_is old new (Text after ∷ []) (items v) ours.schema_is shown)
+pub next_name_shown : {V : Type 0} (items : V → List Row) (from : List ℕ) (old new : State) (r : Result V Error) → IsOurs old.now
+    → IfOk r (λ v. Shown next_name_text (Text from ∷ []) old new (items v))
+    → IfOk r (λ v. FindsLeast (λ row. is_from_text from (column row 1)) 1 (old.now.trees panel_tree) (items v))
+next_name_shown items from old new (Err e) ours shown = tt
+next_name_shown items from old new (Ok v) ours shown =
+    least_same (passes (compared_with Ge 1 0 ∷ []) (Text from ∷ [])) (λ row. is_from_text from (column row 1)) 1
+    (old.now.trees panel_tree) (items v) (λ row h. passes_next_name old.now ours from row h)
+    (finds_least next_name_text next_name_plain next_name_unlisted panel_tree (compared_with Ge 1 0 ∷ []) 1 (codes "name" ∷ [])
+    next_name_is old new (Text from ∷ []) (items v) ours.schema_is shown)

@@ -3,7 +3,7 @@ use Rattle.std.proofs.Common.{◌≡◌, ℕ, false, List, [], ◌∷◌, codes,
 use Rattle.sqlite_value.specs.declared.value.Value.TheVariants.{Null}
 use Rattle.sqlite_schema.specs.declared.command.Command.TheVariants.{Insert, Update}
 use Rattle.sqlite_schema.specs.declared.command.Source.TheVariants.{Values}
-use Rattle.sqlite_sql.specs.declared.ops.CompareOp.TheVariants.{Gt}
+use Rattle.sqlite_sql.specs.declared.ops.CompareOp.TheVariants.{Ge}
 use Rattle.sqlite_sql.specs.Term.{Term, lit, col}
 use Rattle.sqlite.specs.Given.{IsPlain}
 use Rattle.sqlite.specs.Listing.{reads_listing, understood}
@@ -57,9 +57,9 @@ unfolding everything
 find_unlisted = refl
 
 abbrev pub next_name_text : List ℕ
-next_name_text = codes "SELECT name FROM panel WHERE name > ?1 ORDER BY name LIMIT 1"
+next_name_text = codes "SELECT name FROM panel WHERE name >= ?1 ORDER BY name LIMIT 1"
 
-pub next_name_is : command_of (understood desk_schema next_name_text) ≡ least panel_tree (compared_with Gt 1 0 ∷ []) 1 (codes "name" ∷ [])
+pub next_name_is : command_of (understood desk_schema next_name_text) ≡ least panel_tree (compared_with Ge 1 0 ∷ []) 1 (codes "name" ∷ [])
 unfolding understood everything
 next_name_is = refl
 

@@ -16,25 +16,25 @@ use Rattle.sqlite.specs.Effect.{Database}
 use Rattle.sql_create.specs.Schema.{column_of, place_table, place_tree}
 use Rattle.sql_rows.specs.Meanings.{compared_with, given, passes}
 use Rattle.sql_rows.specs.Ours.{IsOurs}
-use Rattle.sql_rows.proofs.CellLemmas.{after_text, and_true, cast_int, cast_null, equal_count, equal_text, from_count}
+use Rattle.sql_rows.proofs.CellLemmas.{from_text, and_true, cast_int, cast_null, equal_count, equal_text}
 use Rattle.sql_rows.proofs.TypeLemmas.{IsFilled, first_filled, ruled, second_filled}
-use Rattle.sqlite_sql.specs.declared.ops.CompareOp.TheVariants.{Ge, Gt}
+use Rattle.sqlite_sql.specs.declared.ops.CompareOp.TheVariants.{Ge}
 use Rattle.sqlite_sql.specs.Term.{lit, col}
 use Rattle.sqlite.specs.declared.error.Error.{Error}
 use Rattle.sqlite.specs.State.{ExecutesInside, Shown, State}
 use Rattle.sql_rows.specs.Ours.{Changes, Gains, IsInside, Loses, Rewrites}
 use Rattle.sql_rows.specs.Slot.{On, place_slot}
-use Rattle.sql_rows.proofs.CellLemmas.{after_text, and_true, cast_int, cast_null, equal_count, equal_text, from_count}
-use Rattle.sql_rows.proofs.PlaceTexts.{add_is, add_plain, add_text, cells_set, clear_is, clear_plain, clear_text, find_is, find_plain, find_text, find_unlisted, next_point_is, next_point_plain, next_point_text, next_point_unlisted, next_priority_is, next_priority_plain, next_priority_text, next_priority_unlisted, of_point_is, of_point_plain, of_point_text, of_point_unlisted, set_is, set_plain, set_text}
+use Rattle.sql_rows.proofs.CellLemmas.{from_text, and_true, cast_int, cast_null, equal_count, equal_text}
+use Rattle.sql_rows.proofs.PlaceTexts.{add_is, add_plain, add_text, cells_set, clear_is, clear_plain, clear_text, next_point_is, next_point_plain, next_point_text, next_point_unlisted, of_point_is, of_point_plain, of_point_text, of_point_unlisted, set_is, set_plain, set_text}
 use Rattle.sql_rows.proofs.KeyLemmas.{count_is, one_number, text_is}
 use Rattle.sql_rows.proofs.RewriteLemmas.{rewrites}
 use Rattle.sql_rows.proofs.RestLemmas.{finds, finds_least, finds_same, least_same}
-use Rattle.sql_rows.specs.Looking.{Finds, FindsLeast, is_after, is_from}
+use Rattle.sql_rows.specs.Looking.{Finds, FindsLeast, is_from_text}
 use Rattle.sql_rows.proofs.SlotLemmas.{gains, is_place, loses}
 use Rattle.sql_rows.specs.Cells.{is_count, is_text}
 use Rattle.sql_rows.specs.Rows.{of_place}
 
-place_cells : (db : Database) → IsOurs db → (row : Row) → Has (db.trees place_tree) row
+pub place_cells : (db : Database) → IsOurs db → (row : Row) → Has (db.trees place_tree) row
     → IsFilled kind.Text (column row 1) × IsFilled kind.Integer (column row 2)
 place_cells db ours row h =
     let typed = all_has _ (db.trees place_tree) row (ruled Datatype db ours).1.1.1.0 h in
@@ -115,51 +115,21 @@ sets point priority value old new result inside h =
 
 -- the queries
 
-pub find_shown : {V : Type 0} (items : V → List Row) (point : List ℕ) (priority : ℕ) (old new : State) (r : Result V Error) → IsOurs old.now
-    → IfOk r (λ v. Shown find_text (Text point ∷ Int (pos priority) ∷ []) old new (items v))
-    → IfOk r (λ v. Finds (of_place point priority) (λ row. column row 3 ∷ []) (old.now.trees place_tree) (items v))
-find_shown items point priority old new (Err e) ours shown = tt
-find_shown items point priority old new (Ok v) ours shown =
-    finds_same (passes (given 1 0 ∷ given 2 1 ∷ []) (Text point ∷ Int (pos priority) ∷ [])) (of_place point priority)
-    (λ row. column row 3 ∷ []) (old.now.trees place_tree) (items v) (λ row h. passes_place old.now ours point priority row h)
-    (finds find_text find_plain find_unlisted place_tree (given 1 0 ∷ given 2 1 ∷ []) (col 1 3 ∷ []) (codes "value" ∷ []) find_is
-    old new (Text point ∷ Int (pos priority) ∷ []) (items v) ours.schema_is shown)
-
-passes_next_point : (db : Database) → IsOurs db → (after : List ℕ) → (row : Row) → Has (db.trees place_tree) row
-    → passes (compared_with Gt 1 0 ∷ []) (Text after ∷ []) row ≡ (is_after after (column row 1))
-passes_next_point db ours after row h =
+passes_next_point : (db : Database) → IsOurs db → (from : List ℕ) → (row : Row) → Has (db.trees place_tree) row
+    → passes (compared_with Ge 1 0 ∷ []) (Text from ∷ []) row ≡ (is_from_text from (column row 1))
+passes_next_point db ours from row h =
     let cells = place_cells db ours row h in
-    rw (after_text after (column row 1) cells.0.of cells.0.filled, and_true) refl
+    rw (from_text from (column row 1) cells.0.of cells.0.filled, and_true) refl
 
-pub next_point_shown : {V : Type 0} (items : V → List Row) (after : List ℕ) (old new : State) (r : Result V Error) → IsOurs old.now
-    → IfOk r (λ v. Shown next_point_text (Text after ∷ []) old new (items v))
-    → IfOk r (λ v. FindsLeast (λ row. is_after after (column row 1)) 1 (old.now.trees place_tree) (items v))
-next_point_shown items after old new (Err e) ours shown = tt
-next_point_shown items after old new (Ok v) ours shown =
-    least_same (passes (compared_with Gt 1 0 ∷ []) (Text after ∷ [])) (λ row. is_after after (column row 1)) 1
-    (old.now.trees place_tree) (items v) (λ row h. passes_next_point old.now ours after row h)
-    (finds_least next_point_text next_point_plain next_point_unlisted place_tree (compared_with Gt 1 0 ∷ []) 1 (codes "point" ∷ [])
-    next_point_is old new (Text after ∷ []) (items v) ours.schema_is shown)
-
-passes_next_priority : (db : Database) → IsOurs db → (point : List ℕ) (from : ℕ) → (row : Row) → Has (db.trees place_tree) row
-    → passes (given 1 0 ∷ compared_with Ge 2 1 ∷ []) (Text point ∷ Int (pos from) ∷ []) row
-    ≡ (is_text point (column row 1) && is_from from (column row 2))
-passes_next_priority db ours point from row h =
-    let cells = place_cells db ours row h in
-    rw (equal_text point (column row 1) cells.0.of cells.0.filled, from_count from (column row 2) cells.1.of cells.1.filled, and_true) refl
-
-pub next_priority_shown : {V : Type 0} (items : V → List Row) (point : List ℕ) (from : ℕ) (old new : State) (r : Result V Error)
-    → IsOurs old.now
-    → IfOk r (λ v. Shown next_priority_text (Text point ∷ Int (pos from) ∷ []) old new (items v))
-    → IfOk r (λ v. FindsLeast (λ row. is_text point (column row 1) && is_from from (column row 2)) 2 (old.now.trees place_tree)
-    (items v))
-next_priority_shown items point from old new (Err e) ours shown = tt
-next_priority_shown items point from old new (Ok v) ours shown =
-    least_same (passes (given 1 0 ∷ compared_with Ge 2 1 ∷ []) (Text point ∷ Int (pos from) ∷ []))
-    (λ row. is_text point (column row 1) && is_from from (column row 2)) 2 (old.now.trees place_tree) (items v)
-    (λ row h. passes_next_priority old.now ours point from row h)
-    (finds_least next_priority_text next_priority_plain next_priority_unlisted place_tree (given 1 0 ∷ compared_with Ge 2 1 ∷ []) 2
-    (codes "priority" ∷ []) next_priority_is old new (Text point ∷ Int (pos from) ∷ []) (items v) ours.schema_is shown)
+pub next_point_shown : {V : Type 0} (items : V → List Row) (from : List ℕ) (old new : State) (r : Result V Error) → IsOurs old.now
+    → IfOk r (λ v. Shown next_point_text (Text from ∷ []) old new (items v))
+    → IfOk r (λ v. FindsLeast (λ row. is_from_text from (column row 1)) 1 (old.now.trees place_tree) (items v))
+next_point_shown items from old new (Err e) ours shown = tt
+next_point_shown items from old new (Ok v) ours shown =
+    least_same (passes (compared_with Ge 1 0 ∷ []) (Text from ∷ [])) (λ row. is_from_text from (column row 1)) 1
+    (old.now.trees place_tree) (items v) (λ row h. passes_next_point old.now ours from row h)
+    (finds_least next_point_text next_point_plain next_point_unlisted place_tree (compared_with Ge 1 0 ∷ []) 1 (codes "point" ∷ [])
+    next_point_is old new (Text from ∷ []) (items v) ours.schema_is shown)
 
 passes_point : (db : Database) → IsOurs db → (point : List ℕ) (row : Row) → Has (db.trees place_tree) row
     → passes (given 1 0 ∷ []) (Text point ∷ []) row ≡ is_text point (column row 1)

@@ -3,7 +3,7 @@ use Rattle.std.proofs.Common.{◌≡◌, ℕ, false, List, [], ◌∷◌, codes,
 use Rattle.sqlite_value.specs.declared.value.Value.TheVariants.{Null}
 use Rattle.sqlite_schema.specs.declared.command.Command.TheVariants.{Insert, Update}
 use Rattle.sqlite_schema.specs.declared.command.Source.TheVariants.{Values}
-use Rattle.sqlite_sql.specs.declared.ops.CompareOp.TheVariants.{Ge, Gt}
+use Rattle.sqlite_sql.specs.declared.ops.CompareOp.TheVariants.{Ge}
 use Rattle.sqlite_sql.specs.Term.{Term, lit, col}
 use Rattle.sqlite.specs.Given.{IsPlain}
 use Rattle.sqlite.specs.Listing.{reads_listing, understood}
@@ -52,27 +52,11 @@ set_plain = (refl, refl)
 
 -- the queries
 
-abbrev pub find_text : List ℕ
-find_text = codes "SELECT value FROM place WHERE point = ?1 AND priority = ?2"
-
-pub find_is : command_of (understood desk_schema find_text)
-    ≡ selection place_tree (given 1 0 ∷ given 2 1 ∷ []) (col 1 3 ∷ []) (codes "value" ∷ [])
-unfolding understood everything
-find_is = refl
-
-pub find_plain : IsPlain (understood desk_schema find_text)
-unfolding understood everything
-find_plain = (refl, refl)
-
-pub find_unlisted : reads_listing desk_schema find_text ≡ false
-unfolding everything
-find_unlisted = refl
-
 abbrev pub next_point_text : List ℕ
-next_point_text = codes "SELECT point FROM place WHERE point > ?1 ORDER BY point LIMIT 1"
+next_point_text = codes "SELECT point FROM place WHERE point >= ?1 ORDER BY point LIMIT 1"
 
 pub next_point_is : command_of (understood desk_schema next_point_text)
-    ≡ least place_tree (compared_with Gt 1 0 ∷ []) 1 (codes "point" ∷ [])
+    ≡ least place_tree (compared_with Ge 1 0 ∷ []) 1 (codes "point" ∷ [])
 unfolding understood everything
 next_point_is = refl
 
@@ -83,22 +67,6 @@ next_point_plain = (refl, refl)
 pub next_point_unlisted : reads_listing desk_schema next_point_text ≡ false
 unfolding everything
 next_point_unlisted = refl
-
-abbrev pub next_priority_text : List ℕ
-next_priority_text = codes "SELECT priority FROM place WHERE point = ?1 AND priority >= ?2 ORDER BY priority LIMIT 1"
-
-pub next_priority_is : command_of (understood desk_schema next_priority_text)
-    ≡ least place_tree (given 1 0 ∷ compared_with Ge 2 1 ∷ []) 2 (codes "priority" ∷ [])
-unfolding understood everything
-next_priority_is = refl
-
-pub next_priority_plain : IsPlain (understood desk_schema next_priority_text)
-unfolding understood everything
-next_priority_plain = (refl, refl)
-
-pub next_priority_unlisted : reads_listing desk_schema next_priority_text ≡ false
-unfolding everything
-next_priority_unlisted = refl
 
 abbrev pub of_point_text : List ℕ
 of_point_text = codes "SELECT priority, value FROM place WHERE point = ?1"

@@ -6,7 +6,7 @@ use Rattle.sqlite_schema.specs.declared.schema.Constraint.TheVariants.{Datatype,
 use Rattle.sqlite_schema.specs.declared.schema.Kind.TheVariants as kind
 use Rattle.sqlite_rules.specs.Lists.{Has}
 use Rattle.sqlite_rules.proofs.ListLemmas.{all_has}
-use Rattle.sqlite_sql.specs.declared.ops.CompareOp.TheVariants.{Gt}
+use Rattle.sqlite_sql.specs.declared.ops.CompareOp.TheVariants.{Ge}
 use Rattle.sqlite_sql.specs.Term.{lit, col}
 use Rattle.sqlite.specs.declared.error.Error.{Error}
 use Rattle.sqlite.specs.Effect.{Database}
@@ -15,16 +15,16 @@ use Rattle.sql_create.specs.Schema.{column_of, shown_table, shown_tree}
 use Rattle.sql_rows.specs.Meanings.{compared_with, given, passes}
 use Rattle.sql_rows.specs.Ours.{Changes, Gains, IsInside, IsOurs, Loses}
 use Rattle.sql_rows.specs.Slot.{On, shown_slot}
-use Rattle.sql_rows.proofs.CellLemmas.{after_text, and_true, cast_cell, cast_null, equal_text}
+use Rattle.sql_rows.proofs.CellLemmas.{from_text, and_true, cast_cell, cast_null, equal_text}
 use Rattle.sql_rows.proofs.RestLemmas.{finds, finds_least, finds_same, least_same}
-use Rattle.sql_rows.specs.Looking.{Finds, FindsLeast, is_after}
+use Rattle.sql_rows.specs.Looking.{Finds, FindsLeast, is_from_text}
 use Rattle.sql_rows.proofs.SlotLemmas.{gains, is_shown, loses}
 use Rattle.sql_rows.proofs.TypeLemmas.{IsFilled, first_filled, ruled}
 use Rattle.sql_rows.proofs.ShownTexts.{add_is, add_plain, add_text, clear_is, clear_plain, clear_text, find_is, find_plain, find_text, find_unlisted, next_name_is, next_name_plain, next_name_text, next_name_unlisted}
 use Rattle.sql_rows.specs.Cells.{cell_of, is_text}
 use Rattle.sql_rows.specs.Rows.{of_schedule}
 
-shown_cells : (db : Database) → IsOurs db → (row : Row) → Has (db.trees shown_tree) row → IsFilled kind.Text (column row 1)
+pub shown_cells : (db : Database) → IsOurs db → (row : Row) → Has (db.trees shown_tree) row → IsFilled kind.Text (column row 1)
 shown_cells db ours row h =
     let typed = all_has _ (db.trees shown_tree) row (ruled Datatype db ours).1.1.1.1.0 h in
     let present = all_has _ (db.trees shown_tree) row (ruled NotNull db ours).1.1.1.1.0 h in
@@ -66,18 +66,18 @@ find_shown items schedule old new (Ok v) ours shown =
     (finds find_text find_plain find_unlisted shown_tree (given 1 0 ∷ []) (col 1 2 ∷ []) (codes "value" ∷ []) find_is old new
     (Text schedule ∷ []) (items v) ours.schema_is shown)
 
-passes_next_name : (db : Database) → IsOurs db → (after : List ℕ) → (row : Row) → Has (db.trees shown_tree) row
-    → passes (compared_with Gt 1 0 ∷ []) (Text after ∷ []) row ≡ (is_after after (column row 1))
-passes_next_name db ours after row h =
+passes_next_name : (db : Database) → IsOurs db → (from : List ℕ) → (row : Row) → Has (db.trees shown_tree) row
+    → passes (compared_with Ge 1 0 ∷ []) (Text from ∷ []) row ≡ (is_from_text from (column row 1))
+passes_next_name db ours from row h =
     let cell = shown_cells db ours row h in
-    rw (after_text after (column row 1) cell.of cell.filled, and_true) refl
+    rw (from_text from (column row 1) cell.of cell.filled, and_true) refl
 
-pub next_name_shown : {V : Type 0} (items : V → List Row) (after : List ℕ) (old new : State) (r : Result V Error) → IsOurs old.now
-    → IfOk r (λ v. Shown next_name_text (Text after ∷ []) old new (items v))
-    → IfOk r (λ v. FindsLeast (λ row. is_after after (column row 1)) 1 (old.now.trees shown_tree) (items v))
-next_name_shown items after old new (Err e) ours shown = tt
-next_name_shown items after old new (Ok v) ours shown =
-    least_same (passes (compared_with Gt 1 0 ∷ []) (Text after ∷ [])) (λ row. is_after after (column row 1)) 1
-    (old.now.trees shown_tree) (items v) (λ row h. passes_next_name old.now ours after row h)
-    (finds_least next_name_text next_name_plain next_name_unlisted shown_tree (compared_with Gt 1 0 ∷ []) 1 (codes "schedule" ∷ [])
-    next_name_is old new (Text after ∷ []) (items v) ours.schema_is shown)
+pub next_name_shown : {V : Type 0} (items : V → List Row) (from : List ℕ) (old new : State) (r : Result V Error) → IsOurs old.now
+    → IfOk r (λ v. Shown next_name_text (Text from ∷ []) old new (items v))
+    → IfOk r (λ v. FindsLeast (λ row. is_from_text from (column row 1)) 1 (old.now.trees shown_tree) (items v))
+next_name_shown items from old new (Err e) ours shown = tt
+next_name_shown items from old new (Ok v) ours shown =
+    least_same (passes (compared_with Ge 1 0 ∷ []) (Text from ∷ [])) (λ row. is_from_text from (column row 1)) 1
+    (old.now.trees shown_tree) (items v) (λ row h. passes_next_name old.now ours from row h)
+    (finds_least next_name_text next_name_plain next_name_unlisted shown_tree (compared_with Ge 1 0 ∷ []) 1 (codes "schedule" ∷ [])
+    next_name_is old new (Text from ∷ []) (items v) ours.schema_is shown)

@@ -33,15 +33,15 @@ use Rattle.sql_rows.proofs.TableLemmas.{entry-either, entry-absorb, entry-commut
 
 -- ---- soundness, table by table
 
-record AreSound (kept : Kept) : Type 0 where
-  desk : is_desk kept.desk ≡ true
-  panel : can_stand next_said same_panel kept.panel ≡ true
-  command : can_stand command_said same_command kept.command ≡ true
-  place : can_stand place_said same_place kept.place ≡ true
-  shown : can_stand shown_said same_schedule kept.shown ≡ true
-  imported : can_stand imported_said same_entry kept.imported ≡ true
+pub record AreSound (kept : Kept) : Type 0 where
+  pub desk : is_desk kept.desk ≡ true
+  pub panel : can_stand next_said same_panel kept.panel ≡ true
+  pub command : can_stand command_said same_command kept.command ≡ true
+  pub place : can_stand place_said same_place kept.place ≡ true
+  pub shown : can_stand shown_said same_schedule kept.shown ≡ true
+  pub imported : can_stand imported_said same_entry kept.imported ≡ true
 
-sound-parts : (kept : Kept) → is_sound_in kept ≡ true → AreSound kept
+pub sound-parts : (kept : Kept) → is_sound_in kept ≡ true → AreSound kept
 sound-parts kept is =
     let a = and_parts (is_desk kept.desk) _ is in
     let b = and_parts (can_stand next_said same_panel kept.panel) _ a.1 in
@@ -267,10 +267,10 @@ pub bad_next : (kept : Kept) (row : Row) → Contains kept.panel row → next_sa
 bad_next kept row here none =
     false_from_ne_true _ (λ is. both_ways _ (bad-row next_said same_panel kept.panel row here none) (sound-parts kept is).panel)
 
-alike-text : (key a b : Text) → bytes_eq key a ≡ true → bytes_eq key b ≡ true → bytes_eq a b ≡ true
+pub alike-text : (key a b : Text) → bytes_eq key a ≡ true → bytes_eq key b ≡ true → bytes_eq a b ≡ true
 alike-text key a b first second = text-same a b (sym (same-text key a first) ∙ same-text key b second)
 
-alike-number : (key m n : ℕ) → (key == m) ≡ true → (key == n) ≡ true → (m == n) ≡ true
+pub alike-number : (key m n : ℕ) → (key == m) ≡ true → (key == n) ≡ true → (m == n) ≡ true
 alike-number key m n first second = eq-eqb m n (sym (eqb-true key m first) ∙ eqb-true key n second)
 
 pub two_next : (panel : Text) (kept : Kept) (a b : Row) (more : List Row) → filter (of_panel panel) kept.panel ≡ a ∷ b ∷ more

@@ -1,3 +1,4 @@
+pub mod Broken
 pub mod Cells
 pub mod Looking
 pub mod Meanings

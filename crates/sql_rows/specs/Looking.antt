@@ -2,7 +2,7 @@
 use Rattle.std.specs.Prelude.{◌≡◌, ℕ, pos, Bool, true, false, nat_lt, not, IsTrue, List, [], ◌∷◌, filter, map}
 use Rattle.std.specs.Cmp.Lexicographic.{slice_cmp}
 use Rattle.std.specs.List.Sorted.{IsPermutation}
-use Rattle.std.specs.Ordering.{is_gt, is_lt, nat_cmp}
+use Rattle.std.specs.Ordering.{is_ge, is_lt, nat_cmp}
 use Rattle.sqlite_rules.specs.Lists.{Has}
 use Rattle.sqlite_value.specs.declared.value.Value.{Value}
 use Rattle.sqlite_value.specs.declared.value.Value.TheVariants.{Int, Text}
@@ -25,10 +25,10 @@ pub record FindsLeast (pick : Row → Bool) (at : ℕ) (rows answer : List Row) 
       → (row : Row) × Has rows row × (pick row ≡ true) × (shown ≡ column row at ∷ []) × (more ≡ [])
       × ((other : Row) → Has rows other → pick other ≡ true → is_lt (value_cmp (column other at) (column row at)) ≡ false)
 
--- the cell has a text after this one
-abbrev pub is_after : List ℕ → Value → Bool
-is_after text (Text t) = is_gt (slice_cmp nat_cmp t text)
-is_after text _ = false
+-- the cell has this text or one after it
+abbrev pub is_from_text : List ℕ → Value → Bool
+is_from_text text (Text t) = is_ge (slice_cmp nat_cmp t text)
+is_from_text text _ = false
 
 -- the cell has this number or a greater one
 abbrev pub is_from : ℕ → Value → Bool

@@ -4,7 +4,7 @@ ghost use Rattle.sqlite.specs.Held.{state};
 ghost use Rattle.sqlite.specs.State.{HasCleanDisk, IsUnchanged, KeepsCommit, Survives};
 ghost use Rattle.sqlite_value.specs.declared.value.Value.TheVariants.{Int, Text};
 ghost use Rattle.sqlite_value.specs.Order.{column};
-ghost use Rattle.sql_rows.specs.Looking.{Finds, FindsLeast, Rests, is_after, is_from};
+ghost use Rattle.sql_rows.specs.Looking.{Finds, FindsLeast, Rests, is_from_text, is_from};
 ghost use Rattle.sql_rows.specs.Ours.{Changes, Gains, IsInside, IsOurs, Loses, kept_in};
 ghost use Rattle.sql_rows.specs.Slot.{On, imported_slot};
 ghost use Rattle.sql_rows.specs.Cells.{is_text};
@@ -60,31 +60,31 @@ pub fn add<S: Alter>(
 
 // ---- what is read
 
-/// The least name after a text, if there is one.
-pub fn next_name<S: Alter>(connection: &mut Connection<S>, after: &str) -> Result<Vec<Row>, Error>
+/// The least name from a text on, if there is one.
+pub fn next_name<S: Alter>(connection: &mut Connection<S>, from: &str) -> Result<Vec<Row>, Error>
     ensures mode { connection.old.in_transaction ≡ false → connection.new.in_transaction ≡ false }
     ensures same { HasCleanDisk (state S.Store connection.new) → IsOurs (state S.Store connection.old).now
         → OnOk result (IsUnchanged (state S.Store connection.old) (state S.Store connection.new)) }
     ensures rests { HasCleanDisk (state S.Store connection.new) → IsOurs (state S.Store connection.old).now
         → Rests (state S.Store connection.old) (state S.Store connection.new) }
     ensures found { HasCleanDisk (state S.Store connection.new) → IsOurs (state S.Store connection.old).now
-        → IfOk result (λ rows. FindsLeast (λ row. is_after after.now (column row 1)) 1
+        → IfOk result (λ rows. FindsLeast (λ row. is_from_text from.now (column row 1)) 1
         (kept_in (state S.Store connection.old).now.trees).imported rows.items) }
     ensures survives { Survives (state S.Store connection.old) (state S.Store connection.new)
         (λ _. IsOurs (state S.Store connection.old).now → ⊥) }
 {
     look(
         connection,
-        "SELECT calendar FROM imported WHERE calendar > ?1 ORDER BY calendar LIMIT 1",
-        &[words(after)],
+        "SELECT calendar FROM imported WHERE calendar >= ?1 ORDER BY calendar LIMIT 1",
+        &[words(from)],
     )
 }
 
-/// The least entry of a calendar after a text, if there is one.
+/// The least entry of a calendar from a text on, if there is one.
 pub fn next_entry<S: Alter>(
     connection: &mut Connection<S>,
     calendar: &Name,
-    after: &str,
+    from: &str,
 ) -> Result<Vec<Row>, Error>
     ensures mode { connection.old.in_transaction ≡ false → connection.new.in_transaction ≡ false }
     ensures same { HasCleanDisk (state S.Store connection.new) → IsOurs (state S.Store connection.old).now
@@ -92,14 +92,14 @@ pub fn next_entry<S: Alter>(
     ensures rests { HasCleanDisk (state S.Store connection.new) → IsOurs (state S.Store connection.old).now
         → Rests (state S.Store connection.old) (state S.Store connection.new) }
     ensures found { HasCleanDisk (state S.Store connection.new) → IsOurs (state S.Store connection.old).now
-        → IfOk result (λ rows. FindsLeast (λ row. is_text calendar.now (column row 1) && is_after after.now (column row 2)) 2
+        → IfOk result (λ rows. FindsLeast (λ row. is_text calendar.now (column row 1) && is_from_text from.now (column row 2)) 2
         (kept_in (state S.Store connection.old).now.trees).imported rows.items) }
     ensures survives { Survives (state S.Store connection.old) (state S.Store connection.new)
         (λ _. IsOurs (state S.Store connection.old).now → ⊥) }
 {
     look(
         connection,
-        "SELECT entry FROM imported WHERE calendar = ?1 AND entry > ?2 ORDER BY entry LIMIT 1",
-        &[text(calendar), words(after)],
+        "SELECT entry FROM imported WHERE calendar = ?1 AND entry >= ?2 ORDER BY entry LIMIT 1",
+        &[text(calendar), words(from)],
     )
 }

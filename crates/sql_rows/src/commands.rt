@@ -7,7 +7,7 @@ ghost use Rattle.sqlite_schema.specs.declared.schema.Constraint.TheVariants.{Uni
 ghost use Rattle.sqlite.specs.State.{HasCleanDisk, IsUnchanged, KeepsCommit, Shows, Survives};
 ghost use Rattle.sqlite_value.specs.declared.value.Value.TheVariants.{Int, Text};
 ghost use Rattle.sqlite_value.specs.Order.{column};
-ghost use Rattle.sql_rows.specs.Looking.{Finds, FindsLeast, Rests, is_after, is_from};
+ghost use Rattle.sql_rows.specs.Looking.{Finds, FindsLeast, Rests, is_from_text, is_from};
 ghost use Rattle.sql_rows.specs.Ours.{Adds, Changes, IsInside, IsOurs, Loses, kept_in};
 ghost use Rattle.sql_rows.specs.Slot.{On, command_slot};
 ghost use Rattle.sql_rows.specs.Cells.{cell_of, is_text};
@@ -131,23 +131,48 @@ pub fn find<S: Alter>(
     )
 }
 
-/// The least name of a panel after a text, if there is one.
-pub fn next_panel<S: Alter>(connection: &mut Connection<S>, after: &str) -> Result<Vec<Row>, Error>
+/// The numbers of a panel's rows below one.
+pub fn below<S: Alter>(
+    connection: &mut Connection<S>,
+    panel: &Name,
+    number: u64,
+) -> Result<Vec<Row>, Error>
+    requires { number < 2 ^ 63 }
     ensures mode { connection.old.in_transaction ≡ false → connection.new.in_transaction ≡ false }
     ensures same { HasCleanDisk (state S.Store connection.new) → IsOurs (state S.Store connection.old).now
         → OnOk result (IsUnchanged (state S.Store connection.old) (state S.Store connection.new)) }
     ensures rests { HasCleanDisk (state S.Store connection.new) → IsOurs (state S.Store connection.old).now
         → Rests (state S.Store connection.old) (state S.Store connection.new) }
     ensures found { HasCleanDisk (state S.Store connection.new) → IsOurs (state S.Store connection.old).now
-        → IfOk result (λ rows. FindsLeast (λ row. is_after after.now (column row 1)) 1
+        → IfOk result (λ rows. Finds (of_lower_command panel.now number) (λ row. column row 2 ∷ [])
         (kept_in (state S.Store connection.old).now.trees).command rows.items) }
     ensures survives { Survives (state S.Store connection.old) (state S.Store connection.new)
         (λ _. IsOurs (state S.Store connection.old).now → ⊥) }
 {
     look(
         connection,
-        "SELECT panel FROM command WHERE panel > ?1 ORDER BY panel LIMIT 1",
-        &[words(after)],
+        "SELECT number FROM command WHERE panel = ?1 AND number < ?2",
+        &[text(panel), count(number)],
+    )
+}
+
+/// The least name of a panel from a text on, if there is one.
+pub fn next_panel<S: Alter>(connection: &mut Connection<S>, from: &str) -> Result<Vec<Row>, Error>
+    ensures mode { connection.old.in_transaction ≡ false → connection.new.in_transaction ≡ false }
+    ensures same { HasCleanDisk (state S.Store connection.new) → IsOurs (state S.Store connection.old).now
+        → OnOk result (IsUnchanged (state S.Store connection.old) (state S.Store connection.new)) }
+    ensures rests { HasCleanDisk (state S.Store connection.new) → IsOurs (state S.Store connection.old).now
+        → Rests (state S.Store connection.old) (state S.Store connection.new) }
+    ensures found { HasCleanDisk (state S.Store connection.new) → IsOurs (state S.Store connection.old).now
+        → IfOk result (λ rows. FindsLeast (λ row. is_from_text from.now (column row 1)) 1
+        (kept_in (state S.Store connection.old).now.trees).command rows.items) }
+    ensures survives { Survives (state S.Store connection.old) (state S.Store connection.new)
+        (λ _. IsOurs (state S.Store connection.old).now → ⊥) }
+{
+    look(
+        connection,
+        "SELECT panel FROM command WHERE panel >= ?1 ORDER BY panel LIMIT 1",
+        &[words(from)],
     )
 }
 

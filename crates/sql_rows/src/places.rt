@@ -4,7 +4,7 @@ ghost use Rattle.sqlite.specs.Held.{state};
 ghost use Rattle.sqlite.specs.State.{HasCleanDisk, IsUnchanged, KeepsCommit, Survives};
 ghost use Rattle.sqlite_value.specs.declared.value.Value.TheVariants.{Int, Text};
 ghost use Rattle.sqlite_value.specs.Order.{column};
-ghost use Rattle.sql_rows.specs.Looking.{Finds, FindsLeast, Rests, is_after, is_from};
+ghost use Rattle.sql_rows.specs.Looking.{Finds, FindsLeast, Rests, is_from_text, is_from};
 ghost use Rattle.sql_rows.specs.Ours.{Changes, Gains, IsInside, IsOurs, Loses, Rewrites, kept_in};
 ghost use Rattle.sql_rows.specs.Slot.{On, place_slot};
 ghost use Rattle.sql_rows.specs.Cells.{is_text};
@@ -84,73 +84,23 @@ pub fn set<S: Alter>(
 
 // ---- what is read
 
-/// The cell `value` of a place.
-pub fn find<S: Alter>(
-    connection: &mut Connection<S>,
-    point: &Name,
-    priority: u64,
-) -> Result<Vec<Row>, Error>
-    requires { priority < 2 ^ 63 }
+/// The least name of a point from a text on, if there is one.
+pub fn next_point<S: Alter>(connection: &mut Connection<S>, from: &str) -> Result<Vec<Row>, Error>
     ensures mode { connection.old.in_transaction ≡ false → connection.new.in_transaction ≡ false }
     ensures same { HasCleanDisk (state S.Store connection.new) → IsOurs (state S.Store connection.old).now
         → OnOk result (IsUnchanged (state S.Store connection.old) (state S.Store connection.new)) }
     ensures rests { HasCleanDisk (state S.Store connection.new) → IsOurs (state S.Store connection.old).now
         → Rests (state S.Store connection.old) (state S.Store connection.new) }
     ensures found { HasCleanDisk (state S.Store connection.new) → IsOurs (state S.Store connection.old).now
-        → IfOk result (λ rows. Finds (of_place point.now priority) (λ row. column row 3 ∷ [])
+        → IfOk result (λ rows. FindsLeast (λ row. is_from_text from.now (column row 1)) 1
         (kept_in (state S.Store connection.old).now.trees).place rows.items) }
     ensures survives { Survives (state S.Store connection.old) (state S.Store connection.new)
         (λ _. IsOurs (state S.Store connection.old).now → ⊥) }
 {
     look(
         connection,
-        "SELECT value FROM place WHERE point = ?1 AND priority = ?2",
-        &[text(point), count(priority)],
-    )
-}
-
-/// The least name of a point after a text, if there is one.
-pub fn next_point<S: Alter>(connection: &mut Connection<S>, after: &str) -> Result<Vec<Row>, Error>
-    ensures mode { connection.old.in_transaction ≡ false → connection.new.in_transaction ≡ false }
-    ensures same { HasCleanDisk (state S.Store connection.new) → IsOurs (state S.Store connection.old).now
-        → OnOk result (IsUnchanged (state S.Store connection.old) (state S.Store connection.new)) }
-    ensures rests { HasCleanDisk (state S.Store connection.new) → IsOurs (state S.Store connection.old).now
-        → Rests (state S.Store connection.old) (state S.Store connection.new) }
-    ensures found { HasCleanDisk (state S.Store connection.new) → IsOurs (state S.Store connection.old).now
-        → IfOk result (λ rows. FindsLeast (λ row. is_after after.now (column row 1)) 1
-        (kept_in (state S.Store connection.old).now.trees).place rows.items) }
-    ensures survives { Survives (state S.Store connection.old) (state S.Store connection.new)
-        (λ _. IsOurs (state S.Store connection.old).now → ⊥) }
-{
-    look(
-        connection,
-        "SELECT point FROM place WHERE point > ?1 ORDER BY point LIMIT 1",
-        &[words(after)],
-    )
-}
-
-/// The least priority of a point from one on, if there is one.
-pub fn next_priority<S: Alter>(
-    connection: &mut Connection<S>,
-    point: &Name,
-    from: u64,
-) -> Result<Vec<Row>, Error>
-    requires { from < 2 ^ 63 }
-    ensures mode { connection.old.in_transaction ≡ false → connection.new.in_transaction ≡ false }
-    ensures same { HasCleanDisk (state S.Store connection.new) → IsOurs (state S.Store connection.old).now
-        → OnOk result (IsUnchanged (state S.Store connection.old) (state S.Store connection.new)) }
-    ensures rests { HasCleanDisk (state S.Store connection.new) → IsOurs (state S.Store connection.old).now
-        → Rests (state S.Store connection.old) (state S.Store connection.new) }
-    ensures found { HasCleanDisk (state S.Store connection.new) → IsOurs (state S.Store connection.old).now
-        → IfOk result (λ rows. FindsLeast (λ row. is_text point.now (column row 1) && is_from from (column row 2)) 2
-        (kept_in (state S.Store connection.old).now.trees).place rows.items) }
-    ensures survives { Survives (state S.Store connection.old) (state S.Store connection.new)
-        (λ _. IsOurs (state S.Store connection.old).now → ⊥) }
-{
-    look(
-        connection,
-        "SELECT priority FROM place WHERE point = ?1 AND priority >= ?2 ORDER BY priority LIMIT 1",
-        &[text(point), count(from)],
+        "SELECT point FROM place WHERE point >= ?1 ORDER BY point LIMIT 1",
+        &[words(from)],
     )
 }
 

@@ -4,7 +4,7 @@ ghost use Rattle.sqlite.specs.Held.{state};
 ghost use Rattle.sqlite.specs.State.{HasCleanDisk, IsUnchanged, KeepsCommit, Survives};
 ghost use Rattle.sqlite_value.specs.declared.value.Value.TheVariants.{Int, Text};
 ghost use Rattle.sqlite_value.specs.Order.{column};
-ghost use Rattle.sql_rows.specs.Looking.{Finds, FindsLeast, Rests, is_after, is_from};
+ghost use Rattle.sql_rows.specs.Looking.{Finds, FindsLeast, Rests, is_from_text, is_from};
 ghost use Rattle.sql_rows.specs.Ours.{Changes, Gains, IsInside, IsOurs, Loses, kept_in};
 ghost use Rattle.sql_rows.specs.Slot.{On, shown_slot};
 ghost use Rattle.sql_rows.specs.Cells.{cell_of, is_text};
@@ -79,22 +79,22 @@ pub fn find<S: Alter>(connection: &mut Connection<S>, schedule: &Name) -> Result
     )
 }
 
-/// The least name after a text, if there is one.
-pub fn next_name<S: Alter>(connection: &mut Connection<S>, after: &str) -> Result<Vec<Row>, Error>
+/// The least name from a text on, if there is one.
+pub fn next_name<S: Alter>(connection: &mut Connection<S>, from: &str) -> Result<Vec<Row>, Error>
     ensures mode { connection.old.in_transaction ≡ false → connection.new.in_transaction ≡ false }
     ensures same { HasCleanDisk (state S.Store connection.new) → IsOurs (state S.Store connection.old).now
         → OnOk result (IsUnchanged (state S.Store connection.old) (state S.Store connection.new)) }
     ensures rests { HasCleanDisk (state S.Store connection.new) → IsOurs (state S.Store connection.old).now
         → Rests (state S.Store connection.old) (state S.Store connection.new) }
     ensures found { HasCleanDisk (state S.Store connection.new) → IsOurs (state S.Store connection.old).now
-        → IfOk result (λ rows. FindsLeast (λ row. is_after after.now (column row 1)) 1
+        → IfOk result (λ rows. FindsLeast (λ row. is_from_text from.now (column row 1)) 1
         (kept_in (state S.Store connection.old).now.trees).shown rows.items) }
     ensures survives { Survives (state S.Store connection.old) (state S.Store connection.new)
         (λ _. IsOurs (state S.Store connection.old).now → ⊥) }
 {
     look(
         connection,
-        "SELECT schedule FROM shown WHERE schedule > ?1 ORDER BY schedule LIMIT 1",
-        &[words(after)],
+        "SELECT schedule FROM shown WHERE schedule >= ?1 ORDER BY schedule LIMIT 1",
+        &[words(from)],
     )
 }

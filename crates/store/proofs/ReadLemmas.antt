@@ -49,6 +49,7 @@ pub Reads-then : (fault : Option StoreFault) (first second third : Standing) →
 Reads-then fault first second third before after = record {
   goes = Goes-after fault first second third before.goes after.goes;
   kept = λ honest told. after.kept honest told ∙ before.kept (after.goes.honest honest) not_failed;
+  rows = λ honest told. after.rows honest told ∙ before.rows (after.goes.honest honest) not_failed;
   left = λ honest was content left.
       after.left honest (stays_open first second before.goes) content left ∙ before.kept (after.goes.honest honest) not_failed;
   bad_row =
@@ -88,6 +89,7 @@ IsOpen-read first second reads = record {
     settled = reads.goes.settled;
   };
   kept = λ honest told. refl;
+  rows = λ honest told. refl;
   left = λ honest was content left. reads.goes.settled honest was content left;
   bad_row = λ honest told. absurd (not_bad told);
 }
@@ -115,6 +117,7 @@ pub Reads-told : (fault : StoreFault) (first second : Standing) → Reads None f
 Reads-told fault first second before is = record {
   goes = Goes-told fault first second before.goes (λ told. memory_not_shut (sym is ∙ told)) (λ told. memory_not_failed (sym is ∙ told));
   kept = λ honest told. before.kept honest not_failed;
+  rows = λ honest told. before.rows honest not_failed;
   left = before.left;
   bad_row = λ honest told. absurd (memory_not_bad (sym is ∙ told));
 }

@@ -3,6 +3,7 @@ use Rattle.std.specs.Bool.{IsTrue}
 use Rattle.store.specs.declared.change.Change.{Change}
 use Rattle.store.specs.declared.fault.StoreFault.{StoreFault}
 use Rattle.store.specs.declared.fault.StoreFault.TheVariants.{Failed, Shut, BadRow}
+use Rattle.store.specs.Asked.{Asked}
 use Rattle.store.specs.Change.{with_change}
 use Rattle.store.specs.Tables.{Tables}
 
@@ -28,6 +29,8 @@ pub record Standing : Type 1 where
   pub is_honest : Type 0
   -- what a stop at this moment may leave, opened again
   pub may_leave : Content → Type 0
+  -- of which rows that can be asked for one is kept that cannot stand
+  pub cannot_stand : Asked → Bool
 
 -- a count that stays at its greatest value, and has risen there too
 abbrev pub HasRisen : ℕ → ℕ → Type 0
@@ -58,6 +61,7 @@ pub record Goes (fault : Option StoreFault) (old new : Standing) : Type 0 where
 pub record Reads (fault : Option StoreFault) (old new : Standing) : Type 0 where
   pub goes : Goes fault old new
   pub kept : new.is_honest → (fault ≡ Some Failed → ⊥) → new.content ≡ old.content
+  pub rows : new.is_honest → (fault ≡ Some Failed → ⊥) → new.cannot_stand ≡ old.cannot_stand
   pub left : new.is_honest → old.is_shut ≡ false → (content : Content) → new.may_leave content → content ≡ old.content
   pub bad_row : new.is_honest → fault ≡ Some BadRow → old.content.is_sound ≡ false
 

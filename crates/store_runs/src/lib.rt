@@ -2,8 +2,8 @@
 //!
 //! Each reads the building of a file and opens a store. `tick` and `import` deliver one delivery to a desk over it, and
 //! print the reply as a line; `report` prints the report of a day; the store is handed back as it stands then. `serve`
-//! listens on an address, takes one connection after another, answers its request (`panel_http`), and lets no client
-//! hold the desk: a connection's reads and writes end 5 seconds after it was taken (`TimedStream`).
+//! listens on an address and holds many connections at once, in one thread: the request of each is answered (`panel_http`)
+//! as soon as it is whole, and no client holds the others up. A connection is let go 5 seconds after it was taken.
 #![tactic(auto)]
 
 pub use clock_run::{Ended, import, tick};
@@ -12,7 +12,10 @@ pub use server_run::{Serving, serve};
 
 mod answering;
 mod clock_run;
+mod connection;
 mod connections;
+mod held;
+mod last_response;
 mod machine_clock;
 mod report_run;
 mod server_run;

@@ -5,12 +5,13 @@ ghost use Rattle.std.specs.Io.KnownBytes.{Appends, Keeps};
 ghost use Rattle.store_runs.specs.Listening.{listening_line};
 
 use crate::answering::open_desk;
-use crate::connections::serve_connections;
+use crate::connections::{Connections, EVENTS};
 use desk::Desk;
 use desk_console::{Input, RunFault, Status, print_whole, read_building};
+use mio::Events;
 use panel_http::Routes;
 use std::alloc::{AllocError, Global};
-use std::io::{Read, Write};
+use std::io::{self, ErrorKind, Read, Write};
 use std::net::TcpListener;
 use store::{OpenFault, Store};
 
@@ -80,25 +81,28 @@ fn listen<'a, S: Store + Drop, W: Write>(
     ensures { OnOk result (Appends (W.contents out.old) (W.contents out.new) (listening_line serving.now.address.now)) }
 {
     let routes = Routes::new(rt.alloc())?;
-    let listener = bound(rt, serving.address)?;
+    let mut events = Events::with_capacity(rt.alloc(), EVENTS)?;
+    let mut connections = bound(rt, serving)?;
     let line = listening_line(rt.alloc(), serving.address)?;
     print_whole(out, line.as_str())?;
-    Ok(serve_connections(
-        rt,
-        &routes,
-        desk,
-        &listener,
-        serving.requests,
-        serving.clock,
-    ))
+    Ok(connections.serve(rt, &routes, desk, &mut events))
 }
 
-/// What takes the connections to an address.
-fn bound<'a>(rt: &HostRuntime, address: &'a str) -> Result<TcpListener, RunFault<'a>> {
-    match TcpListener::bind(rt, address) {
-        Ok(listener) => Ok(listener),
-        Err(_) => Err(RunFault::CannotListen { address }),
+/// The connections to the address.
+fn bound<'a>(rt: &HostRuntime, serving: &Serving<'a>) -> Result<Connections, RunFault<'a>> {
+    let address = serving.address;
+    match bind(rt, serving) {
+        Ok(connections) => Ok(connections),
+        Err(error) => match error.kind() {
+            ErrorKind::OutOfMemory => Err(RunFault::NoMemory),
+            _ => Err(RunFault::CannotListen { address }),
+        },
     }
+}
+
+fn bind(rt: &HostRuntime, serving: &Serving<'_>) -> io::Result<Connections> {
+    let listener = TcpListener::bind(rt, serving.address)?;
+    Connections::new(rt, listener, serving.requests, serving.clock)
 }
 
 /// The line of an address that is listened on.

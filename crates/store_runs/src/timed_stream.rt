@@ -1,11 +1,9 @@
 //! A connection whose time is limited.
 
+use crate::connection::LIMIT;
 use std::io::{self, ErrorKind, Read, Write};
 use std::net::TcpStream;
 use std::time::{Duration, Instant};
-
-/// How many seconds a connection may take from when it was taken.
-const LIMIT: u64 = 5;
 
 /// One end of a connection, whose reads and writes fail once its time is up: each waits for what is left of it at most.
 /// So a client that stalls, or sends a byte now and then, costs no more than that time.

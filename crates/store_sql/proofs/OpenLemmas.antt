@@ -1,5 +1,6 @@
 -- What the steps of an opening leave.
-use Rattle.std.proofs.Common.{◌≡◌, inl, inr, ℕ, Bool, true, None, true≢false, List, [], ◌∷◌, Some, Ok, Err, Result, ℤ, slice_get, refl, sym, ap, subst, ◌∙◌, IfErr, IfOk}
+use Rattle.std.proofs.Common.{◌≡◌, inl, inr, ℕ, Bool, true, false, None, true≢false, List, [], ◌∷◌, Some, Ok, Err, Result, ℤ, slice_get, ◌⊎◌, pos, IsTrue, refl, sym, ap, subst, ◌∙◌, IfErr, IfOk}
+use Rattle.std.specs.Result.{result_err}
 use Rattle.sqlite_value.specs.Order.{Row, column}
 use Rattle.sqlite.specs.declared.error.Error.{Error}
 use Rattle.sqlite.specs.State.{IsNotRun, IsUnchanged, State}
@@ -11,7 +12,9 @@ use Rattle.sql_rows.proofs.RestLemmas.{rests_unchanged}
 use Rattle.sql_rows.specs.Cells.{number_in}
 use Rattle.sql_rows.specs.declared.read_fault.ReadFault.{ReadFault}
 use Rattle.sql_rows.specs.Ours.{IsOurs}
-use Rattle.store_sql.specs.Opening.{IsFound, IsJudged, IsSettled, version_in, version_of}
+use Rattle.sql_rows.specs.declared.read_fault.ReadFault.TheVariants as read
+use Rattle.store_sql.specs.declared.refusal.Refusal.TheVariants.{NotOurs}
+use Rattle.store_sql.specs.Opening.{IsFound, IsJudged, IsKnown, IsSettled, as_version, is_sql, version_in, version_of}
 
 pub sees_unchanged : (old new : State) → IsUnchanged old new → Sees old new
 sees_unchanged old new same =
@@ -96,3 +99,49 @@ version_read told own old mid new is settled judged asks version =
     let judged' : IsJudged true old mid = subst (λ b. IsJudged b old mid) is judged in
     let ours = judged_ours old mid settled judged' in
     version_found told old mid new settled judged' (answered_sees mid new (asks ours)) (version ours)
+
+-- ---- how the answer of the query on the version is told
+
+pub found_told : (r : Result ℤ ReadFault) (own : Bool) (old mid new : State) → own ≡ true → IsSettled old → IsJudged own old mid
+    → (IsOurs mid.now → Asks (result_err r) mid new) → (IsOurs mid.now → IfOk r (λ version. version_of mid.now.trees ≡ Some version))
+    → IfOk (as_version r) (λ version. IsFound version old new)
+found_told (Ok told) own old mid new is settled judged asks version = version_read told own old mid new is settled judged asks version
+found_told (Err (read.Sql e)) own old mid new is settled judged asks version = tt
+found_told (Err read.BadRow) own old mid new is settled judged asks version = tt
+
+pub faults_told : (r : Result ℤ ReadFault) → IfErr (as_version r) (λ fault. IsTrue (is_sql fault) ⊎ (fault ≡ NotOurs))
+faults_told (Ok told) = tt
+faults_told (Err (read.Sql e)) = inl refl
+faults_told (Err read.BadRow) = inr refl
+
+known_version : (s : State) → IsKnown s → version_of s.committed.trees ≡ None → ⊥
+known_version s known none = elim known.version [
+  | inl first ↦ absurd (let e : Some (pos 1) ≡ None = sym first ∙ none in let n : ⊥ = cc in n)
+  | inr second ↦ absurd (let e : Some (pos 2) ≡ None = sym second ∙ none in let n : ⊥ = cc in n)
+]
+
+-- a version that is known is a number
+pub known_told : (r : Result ℤ ReadFault) (own : Bool) (old mid : State) → own ≡ true → IsSettled old → IsJudged own old mid → IsKnown old
+    → (IsOurs mid.now → r ≡ Err read.BadRow → version_of mid.now.trees ≡ None) → IfErr (as_version r) (λ fault. IsTrue (is_sql fault))
+known_told (Ok told) own old mid is settled judged known bad = tt
+known_told (Err (read.Sql e)) own old mid is settled judged known bad = refl
+known_told (Err read.BadRow) own old mid is settled judged known bad =
+    let judged' : IsJudged true old mid = subst (λ b. IsJudged b old mid) is judged in
+    let none = bad (judged_ours old mid settled judged') refl in
+    absurd (known_version old known (ap (λ d. version_of d.trees) (sym (judged.now ∙ known.stands.same)) ∙ none))
+
+-- what was found, of a version that is known, was known
+pub found_known : (told : ℤ) (old new : State) → IsFound told old new → old.in_transaction ≡ false → (told ≡ pos 1) ⊎ (told ≡ pos 2)
+    → IsKnown old
+found_known told old new found mode is = record {
+  mode = mode;
+  stands = record {
+    is_open = found.was_open;
+    ours = subst IsOurs found.now found.stands.ours;
+    same = sym found.now ∙ found.stands.same ∙ found.committed;
+  };
+  version = elim is [
+    | inl first ↦ inl (ap (λ d. version_of d.trees) (sym found.committed) ∙ found.version ∙ ap Some first)
+    | inr second ↦ inr (ap (λ d. version_of d.trees) (sym found.committed) ∙ found.version ∙ ap Some second)
+  ];
+}

@@ -6,6 +6,7 @@ use Rattle.sqlite_trees.specs.declared.store.Store.{Ghosts}
 use Rattle.sqlite.specs.Held.{Held, state}
 use Rattle.sqlite.specs.State.{HasCleanDisk, IsUnchanged, State, Survives}
 use Rattle.sqlite.proofs.StateLemmas.{survives_then}
+use Rattle.sql_rows.specs.Broken.{cannot_stand_in}
 use Rattle.sql_rows.specs.Looking.{Rests}
 use Rattle.sql_reading.specs.Asking.{Asks, Sees, is_sql}
 use Rattle.sql_reading.proofs.ReadLemmas.{clean_before}
@@ -16,7 +17,8 @@ use Rattle.store.specs.Standing.{HasRisen, IsSettled, Reads}
 use Rattle.store.specs.Tables.{Tables}
 use Rattle.sql_rows.specs.declared.read_fault.ReadFault.{ReadFault}
 use Rattle.sql_rows.specs.declared.read_fault.ReadFault.TheVariants as read
-use Rattle.sql_rows.specs.Stored.{is_sound_in, tables_in}
+use Rattle.sql_rows.specs.Stored.{Kept, is_sound_in, tables_in}
+use Rattle.store.specs.Asked.{Judges}
 use Rattle.store_sql.specs.Opening.{Stands}
 use Rattle.store_sql.specs.Standing.{IsFit, standing_at, standing_of}
 use Rattle.store_sql.specs.declared.session.Session.{Session}
@@ -44,6 +46,7 @@ reads_shut s failures is_shut shut = record {
     settled = λ clean unshut. absurd (true≢false (sym shut ∙ unshut));
   };
   kept = λ _ _. refl;
+  rows = λ _ _. refl;
   left = λ _ unshut. absurd (true≢false (sym shut ∙ unshut));
   bad_row = λ _ is. absurd (let e = is in cc);
 }
@@ -97,6 +100,7 @@ module _ (old new : State) (failures : ℕ) (was_shut : Bool) (was_open : was_sh
             settled = settled_at new failures now_shut settles_new now_fit;
           };
           kept = λ clean _. ap (λ d. content_of d.trees) (sees clean).committed;
+          rows = λ clean _. ap (λ d. cannot_stand_in (kept_in d.trees)) (sees clean).committed;
           left = λ clean _ content left. left_before clean content left;
           bad_row = λ clean is. ap (λ d. is_sound_in (kept_in d.trees)) (sym (ours_before clean).same) ∙ bad is clean;
         },
@@ -118,6 +122,7 @@ module _ (old new : State) (failures : ℕ) (was_shut : Bool) (was_open : was_sh
         settled = λ clean unshut. absurd (true≢false (sym shut ∙ unshut));
       };
       kept = λ _ unfailed. absurd (unfailed refl);
+      rows = λ _ unfailed. absurd (unfailed refl);
       left = λ clean _ content left. left_before clean content left;
       bad_row = λ _ is. absurd (let e = is in cc);
     },
@@ -129,6 +134,15 @@ refused_sees old mid new stands rests same =
     let here : IsTrue mid.is_open = same.0.was_open in
     let left = rests.same stands.same here in
     record { now = same.0.now_is ∙ left.0; committed = same.0.committed_is ∙ left.1; is_open = same.0.is_open ∙ sym stands.is_open }
+
+-- what holds of an answer, where no fault is told
+if_ok : {A E P : Type 0} (r : Result A E) → IfOk r (λ _. P) → result_err r ≡ None → P
+if_ok (Ok value) p none = p
+if_ok (Err e) p none = absurd (let n : ⊥ = cc in n)
+
+pub if_false : {A E : Type 0} (r : Result A E) (b : Bool) → IfOk r (λ _. b ≡ false) → IfOk r (λ _. IsTrue b → ⊥)
+if_false (Ok value) b is = λ holds. true≢false (sym holds ∙ is)
+if_false (Err e) b is = tt
 
 -- What a read says, once its answer was told: before it, after the question, and now.
 module _ {S A : Type 0} (g : Ghosts S) (before after now : Session S) (asked : Result A ReadFault) (told : Result A StoreFault)
@@ -228,3 +242,50 @@ module _ {S A : Type 0} (g : Ghosts S) (before after now : Session S) (asked : R
   value_left P value clean =
       subst (λ d. IfOk told (P (tables_in (kept_in d.trees)))) (stood clean).same
       (value_by P asked is_told (value (clean_mid clean) (stood clean).ours))
+
+  -- ---- which rows cannot stand
+
+  bad_by : (Broken : Kept → Type 0) (answer : Result A ReadFault) → IsTold g after now answer told
+      → (answer ≡ Err read.BadRow → Broken (kept_in old.now.trees)) → result_err told ≡ Some BadRow → Broken (kept_in old.now.trees)
+  bad_by Broken (Ok value) h bad is = absurd (let e : None ≡ Some BadRow = sym (ap result_err h.0) ∙ is in let n : ⊥ = cc in n)
+  bad_by Broken (Err read.BadRow) h bad is = bad refl
+  bad_by Broken (Err (read.Sql e)) h bad is = elim h.2 [
+    | inl memory ↦ absurd (let e : Some NoMemory ≡ Some BadRow = sym (ap result_err h.1 ∙ ap Some memory.0) ∙ is in let n : ⊥ = cc in n)
+    | inr failed ↦ absurd (let e : Some Failed ≡ Some BadRow = sym (ap result_err h.1 ∙ ap Some failed.0) ∙ is in let n : ⊥ = cc in n)
+  ]
+
+  -- S5 is told only where a row that was asked for cannot stand
+  pub bad_left : (Broken : Kept → Type 0)
+      → (HasCleanDisk mid → IsOurs old.now → asked ≡ Err read.BadRow → Broken (kept_in old.now.trees))
+      → HasCleanDisk new → result_err told ≡ Some BadRow → Broken (kept_in old.committed.trees)
+  bad_left Broken broken clean is =
+      subst (λ d. Broken (kept_in d.trees)) (stood clean).same
+      (bad_by Broken asked is_told (broken (clean_mid clean) (stood clean).ours) is)
+
+  stood_by : (Sound : Type 0) (answer : Result A ReadFault) → IsTold g after now answer told → IfOk answer (λ _. Sound) → IfOk told (λ _. Sound)
+  stood_by Sound (Ok value) h sound = subst (λ t. IfOk t (λ _. Sound)) (sym h.0) sound
+  stood_by Sound (Err fault) h sound = subst (λ t. IfOk t (λ _. Sound)) (sym h.1) sound
+
+  -- an answer is told only where each row that was asked for can stand
+  pub stood_left : (Sound : Kept → Type 0) → (HasCleanDisk mid → IsOurs old.now → IfOk asked (λ _. Sound (kept_in old.now.trees)))
+      → HasCleanDisk new → IfOk told (λ _. Sound (kept_in old.committed.trees))
+  stood_left Sound sound clean =
+      subst (λ d. IfOk told (λ _. Sound (kept_in d.trees))) (stood clean).same
+      (stood_by (Sound (kept_in old.now.trees)) asked is_told (sound (clean_mid clean) (stood clean).ours))
+
+  pub judged_left : (Broken : Kept → Type 0)
+      → (HasCleanDisk mid → IsOurs old.now → asked ≡ Err read.BadRow → Broken (kept_in old.now.trees))
+      → (HasCleanDisk mid → IsOurs old.now → IfOk asked (λ _. Broken (kept_in old.now.trees) → ⊥))
+      → HasCleanDisk new → Judges (Broken (kept_in old.committed.trees)) (result_err told)
+  judged_left Broken broken sound clean = record {
+    bad = bad_left Broken broken clean;
+    stood = λ none. if_ok told (stood_left (λ kept. Broken kept → ⊥) sound clean) none;
+  }
+
+  pub flagged_left : (is_broken : Kept → Bool)
+      → (HasCleanDisk mid → IsOurs old.now → asked ≡ Err read.BadRow → is_broken (kept_in old.now.trees) ≡ true)
+      → (HasCleanDisk mid → IsOurs old.now → IfOk asked (λ _. is_broken (kept_in old.now.trees) ≡ false))
+      → HasCleanDisk new → Judges (IsTrue (is_broken (kept_in old.committed.trees))) (result_err told)
+  flagged_left is_broken broken sound =
+      judged_left (λ kept. IsTrue (is_broken kept)) broken
+      (λ clean ours. if_false asked (is_broken (kept_in old.now.trees)) (sound clean ours))

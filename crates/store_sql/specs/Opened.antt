@@ -34,6 +34,10 @@ SurvivesTaking old new = Survives old new (λ trees. IsRaised old.committed.tree
 abbrev pub IsFaultOver : State → OpenFault → Type 0
 IsFaultOver s fault = ((fault ≡ NoMemory) ⊎ (fault ≡ Failed)) ⊎ ((fault ≡ BadRow) × ((content_of s.committed.trees).is_sound ≡ false))
 
+-- the fault is the database's, or the tables are none that are known
+abbrev pub IsFaultOfNone : OpenFault → Type 0
+IsFaultOfNone fault = ((fault ≡ NoMemory) ⊎ (fault ≡ Failed)) ⊎ (fault ≡ UnknownTables)
+
 -- S1 where memory was refused, S2 where the database failed for another cause
 abbrev pub told_of : Refusal → OpenFault
 told_of (refused.Sql (sql.SqliteFailure code.OutOfMemory)) = NoMemory

@@ -1,5 +1,5 @@
 -- How a database is made or taken, and how it stands then.
-use Rattle.std.specs.Prelude.{◌≡◌, ◌↔◌, ◌⊎◌, ℕ, ◌+◌, ◌-◌, nat_lt, if◌then◌else◌, ℤ, pos, Bool, true, false, IsTrue, List, [], ◌∷◌, Option, Some, None}
+use Rattle.std.specs.Prelude.{◌≡◌, ◌↔◌, ◌⊎◌, ℕ, ◌+◌, ◌-◌, nat_lt, if◌then◌else◌, ℤ, pos, Bool, true, false, IsTrue, List, [], ◌∷◌, Option, Some, None, Result, Ok, Err}
 use Rattle.sqlite_trees.specs.Tree.{Trees}
 use Rattle.sqlite_value.specs.Order.{Row, column}
 use Rattle.sqlite.specs.State.{State}
@@ -22,6 +22,12 @@ use Rattle.store_sql.specs.declared.refusal.Refusal.TheVariants.{BadRow, NotOurs
 abbrev pub refusal_of : ReadFault → Refusal
 refusal_of (read.Sql error) = Sql error
 refusal_of read.BadRow = BadRow
+
+-- a fault of the read of the version as one of an opening: a version that is no number is none that is known
+abbrev pub as_version : Result ℤ ReadFault → Result ℤ Refusal
+as_version (Ok version) = Ok version
+as_version (Err (read.Sql error)) = Err (Sql error)
+as_version (Err read.BadRow) = Err NotOurs
 
 -- the version that a row of `desk` tells
 abbrev pub version_in : List Row → Option ℤ

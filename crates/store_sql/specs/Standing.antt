@@ -6,7 +6,8 @@ use Rattle.sqlite_trees.specs.Tree.{Trees}
 use Rattle.sqlite.specs.Held.{Held, held_code, state}
 use Rattle.sqlite.specs.State.{HasCleanDisk, State}
 use Rattle.store_sql.specs.Opening.{Stands}
-use Rattle.sql_rows.specs.Ours.{content_of}
+use Rattle.sql_rows.specs.Broken.{cannot_stand_in}
+use Rattle.sql_rows.specs.Ours.{content_of, kept_in}
 use Rattle.store.specs.Standing.{Standing}
 use Rattle.store_sql.specs.declared.session.Session.{Session}
 
@@ -28,6 +29,7 @@ standing_at s failures is_shut = record {
   failures = failures;
   is_honest = HasCleanDisk s;
   may_leave = λ content. (db : Trees) × s.may_leave db × (content ≡ content_of db);
+  cannot_stand = cannot_stand_in (kept_in s.committed.trees);
 }
 
 abbrev pub standing_of : {S : Type 0} → Ghosts S → Session S → Standing

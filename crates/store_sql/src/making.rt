@@ -1,10 +1,10 @@
 //! The six tables in an empty database.
-ghost use Rattle.std.specs.Prelude.{◌≡◌, ◌↔◌, Err, IsTrue, OnErr, OnOk, false};
+ghost use Rattle.std.specs.Prelude.{◌≡◌, ◌↔◌, ◌⊎◌, Err, IfErr, IsTrue, OnErr, OnOk, false};
 ghost use Rattle.sqlite.specs.Effect.{IsDatabase};
 ghost use Rattle.sqlite.specs.Held.{state};
 ghost use Rattle.sqlite.specs.State.{HasCleanDisk, Survives};
 ghost use Rattle.sql_create.specs.Creating.{AreFirst, IsAsBefore, IsMade};
-ghost use Rattle.store_sql.specs.Opening.{IsBare, IsBegun};
+ghost use Rattle.store_sql.specs.Opening.{IsBare, IsBegun, is_sql};
 ghost use Rattle.store_sql.specs.declared.refusal.Refusal.TheVariants.{NotOurs};
 
 use crate::refusal::Refusal;
@@ -38,6 +38,8 @@ fn make_all<S: Alter>(connection: &mut Connection<S>) -> Result<(), Error>
 pub fn make<S: Alter>(connection: &mut Connection<S>) -> Result<(), Refusal>
     ensures mode { OnOk result (connection.new.in_transaction ≡ false) }
     ensures made { HasCleanDisk (state S.Store connection.new) → OnOk result (IsBegun (state S.Store connection.new)) }
+    ensures bare { OnOk result (IsBare (state S.Store connection.old)) }
+    ensures faults { IfErr result (λ fault. IsTrue (is_sql fault) ⊎ (fault ≡ NotOurs)) }
     ensures not_ours { (result ≡ Err NotOurs) ↔ (IsBare (state S.Store connection.old) → ⊥) }
     ensures kept { HasCleanDisk (state S.Store connection.new) → IsTrue (state S.Store connection.new).is_open
         → OnErr result (IsAsBefore (state S.Store connection.old) (state S.Store connection.new)) }

@@ -1,14 +1,14 @@
 //! A store in a database of SQLite.
-ghost use Rattle.std.specs.Prelude.{◌≡◌, ◌↔◌, IfErr, IfOk, IsTrue, false};
+ghost use Rattle.std.specs.Prelude.{◌≡◌, ◌↔◌, ◌⊎◌, IfErr, IfOk, IsTrue, false};
 ghost use Rattle.sqlite.specs.Held.{state};
 ghost use Rattle.sqlite.specs.State.{HasCleanDisk};
 ghost use Rattle.sql_create.specs.Creating.{IsAsBefore};
 ghost use Rattle.store_sql.specs.Opening.{IsBare, IsKnown};
 ghost use Rattle.store.specs.Tables.{no_tables};
 ghost use Rattle.store.specs.Standing.{sound};
-ghost use Rattle.store_sql.specs.Opened.{IsFaultOver, IsOpened, SurvivesMaking, SurvivesTaking, left_by};
+ghost use Rattle.store_sql.specs.Opened.{IsFaultOfNone, IsFaultOver, IsOpened, SurvivesMaking, SurvivesTaking, left_by};
 ghost use Rattle.store_sql.specs.Standing.{IsFit, standing_of};
-ghost use Rattle.store.specs.declared.open_fault.OpenFault.TheVariants.{UnknownTables};
+ghost use Rattle.store.specs.declared.open_fault.OpenFault.TheVariants.{Failed, NoMemory, UnknownTables};
 
 use crate::making::{is_bare, make};
 use crate::session::Session;
@@ -71,6 +71,8 @@ impl<S: Alter + Drop> SqlStore<S> {
         ensures empty { IfOk result (λ store. (standing_of S.Store store).is_honest
             → (standing_of S.Store store).content ≡ sound no_tables) }
         ensures open { IfOk result (λ store. ((standing_of S.Store store).is_shut ≡ false) × ((standing_of S.Store store).failures ≡ 0)) }
+        ensures bare { IfOk result (λ store. IsBare (state S.Store connection)) }
+        ensures faults { IfErr result (λ refused. IsFaultOfNone refused.0) }
         ensures unknown { IfErr result (λ refused. (refused.0 ≡ UnknownTables) ↔ (IsBare (state S.Store connection) → ⊥)) }
         ensures unchanged { IfErr result (λ refused. HasCleanDisk (state S.Store refused.1)
             → IsTrue (state S.Store refused.1).is_open → IsAsBefore (state S.Store connection) (state S.Store refused.1)) }
@@ -98,6 +100,9 @@ impl<S: Alter + Drop> SqlStore<S> {
             → IsTrue (state S.Store refused.1).is_open → IsAsBefore (state S.Store connection) (state S.Store refused.1)) }
         ensures known { IsKnown (state S.Store connection)
             → IfErr result (λ refused. HasCleanDisk (state S.Store refused.1) → IsFaultOver (state S.Store connection) refused.0) }
+        ensures unknown { (IsKnown (state S.Store connection) → ⊥)
+            → IfErr result (λ refused. HasCleanDisk (state S.Store refused.1) → IsFaultOfNone refused.0) }
+        ensures was_known { IfOk result (λ store. (standing_of S.Store store).is_honest → IsKnown (state S.Store connection)) }
         ensures survives { SurvivesTaking (state S.Store connection) (state S.Store (left_by result)) }
     {
         let mut connection = connection;
@@ -120,6 +125,14 @@ impl<S: Alter + Drop> SqlStore<S> {
         ensures open { IfOk result (λ store. ((standing_of S.Store store).is_shut ≡ false) × ((standing_of S.Store store).failures ≡ 0)) }
         ensures unchanged { IfErr result (λ refused. HasCleanDisk (state S.Store refused.1)
             → IsTrue (state S.Store refused.1).is_open → IsAsBefore (state S.Store connection) (state S.Store refused.1)) }
+        ensures unmade { IsBare (state S.Store connection)
+            → IfErr result (λ refused. (refused.0 ≡ NoMemory) ⊎ (refused.0 ≡ Failed)) }
+        ensures known { IsKnown (state S.Store connection)
+            → IfErr result (λ refused. HasCleanDisk (state S.Store refused.1) → IsFaultOver (state S.Store connection) refused.0) }
+        ensures unknown { (IsBare (state S.Store connection) → ⊥) → (IsKnown (state S.Store connection) → ⊥)
+            → IfErr result (λ refused. HasCleanDisk (state S.Store refused.1) → IsFaultOfNone refused.0) }
+        ensures was_known { (IsBare (state S.Store connection) → ⊥)
+            → IfOk result (λ store. (standing_of S.Store store).is_honest → IsKnown (state S.Store connection)) }
         ensures survives_making { IsBare (state S.Store connection)
             → SurvivesMaking (state S.Store connection) (state S.Store (left_by result)) }
         ensures survives_taking { (IsBare (state S.Store connection) → ⊥)

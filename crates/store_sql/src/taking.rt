@@ -4,7 +4,8 @@ ghost use Rattle.sqlite.specs.Held.{state};
 ghost use Rattle.sqlite.specs.State.{HasCleanDisk, IsUnchanged, Survives};
 ghost use Rattle.sql_create.specs.Creating.{IsAsBefore};
 ghost use Rattle.sql_rows.specs.Looking.{Rests};
-ghost use Rattle.store_sql.specs.Opening.{IsFaultOf, IsFirst, IsFound, IsJudged, IsKnown, IsMigrated, IsRaised, IsSettled, IsShaped, IsTaken, is_sql};
+ghost use Rattle.store_sql.specs.Opening.{IsFaultOf, IsFirst, IsFound, IsJudged, IsKnown, IsMigrated, IsRaised, IsSettled, IsShaped, IsTaken, as_version, is_sql};
+ghost use Rattle.store_sql.specs.declared.refusal.Refusal.TheVariants.{NotOurs};
 
 use crate::early::dropping;
 use crate::own_rows::are_own;
@@ -12,6 +13,7 @@ use crate::raising::commit_raised;
 use crate::refusal::Refusal;
 use crate::version::version_of;
 use sql_create::{VERSION, has_desk_schema};
+use sql_rows::ReadFault;
 use sqlite::{Alter, Connection, Error};
 use std::alloc::Global;
 
@@ -55,10 +57,23 @@ fn rows_are_own<S: Alter>(connection: &mut Connection<S>) -> Result<bool, Error>
     are_own(connection)
 }
 
+// The answer of the query on the version as an opening tells it.
+fn as_version(asked: Result<i64, ReadFault>) -> Result<i64, Refusal>
+    ensures { result ≡ as_version asked }
+{
+    match asked {
+        Ok(version) => Ok(version),
+        Err(ReadFault::Sql(error)) => Err(Refusal::Sql(error)),
+        Err(ReadFault::BadRow) => Err(Refusal::NotOurs),
+    }
+}
+
 // The version of a database that has the six tables, with rows as a store writes them.
 fn find_version<S: Alter>(connection: &mut Connection<S>) -> Result<i64, Refusal>
     ensures known { HasCleanDisk (state S.Store connection.new) → IsKnown (state S.Store connection.old)
         → IfErr result (λ fault. IsTrue (is_sql fault)) }
+    ensures faults { IfErr result (λ fault. IsTrue (is_sql fault) ⊎ (fault ≡ NotOurs)) }
+    ensures was_outside { OnOk result (connection.old.in_transaction ≡ false) }
     ensures mode { OnOk result (connection.new.in_transaction ≡ false) }
     ensures found { HasCleanDisk (state S.Store connection.new)
         → IfOk result (λ version. IsFound version (state S.Store connection.old) (state S.Store connection.new)) }
@@ -72,7 +87,7 @@ fn find_version<S: Alter>(connection: &mut Connection<S>) -> Result<i64, Refusal
     if !rows_are_own(connection)? {
         return Err(Refusal::NotOurs);
     }
-    Ok(version_of(connection)?)
+    as_version(version_of(connection))
 }
 
 // Drops the early rows of the tables of the first version, and sets the version, in one transaction.
@@ -102,6 +117,9 @@ pub fn take<S: Alter>(alloc: Global, connection: &mut Connection<S>) -> Result<(
     ensures mode { OnOk result (connection.new.in_transaction ≡ false) }
     ensures known { HasCleanDisk (state S.Store connection.new) → IsKnown (state S.Store connection.old)
         → IfErr result (IsFaultOf (state S.Store connection.old)) }
+    ensures unknown { HasCleanDisk (state S.Store connection.new) → (IsKnown (state S.Store connection.old) → ⊥)
+        → IfErr result (λ fault. IsTrue (is_sql fault) ⊎ (fault ≡ NotOurs)) }
+    ensures was_known { HasCleanDisk (state S.Store connection.new) → OnOk result (IsKnown (state S.Store connection.old)) }
     ensures taken { HasCleanDisk (state S.Store connection.new)
         → OnOk result (IsTaken (state S.Store connection.old) (state S.Store connection.new) ⊎ IsMigrated
         (state S.Store connection.old) (state S.Store connection.new)) }

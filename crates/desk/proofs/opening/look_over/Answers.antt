@@ -1,6 +1,6 @@
 use Rattle.std.proofs.Common.{◌∙◌, sym}
 use Rattle.std.specs.Result.{result_err}
-use Rattle.desk.proofs.OpeningLemmas.{Opens-read, Opens-unknown, Opens-unticked}
+use Rattle.desk.proofs.OpeningLemmas.{on_ok, Opens-read, Opens-unknown, Opens-unticked}
 use Rattle.desk.proofs.opening.look_over.Goals as goal
 
 pub returns-then-not-are_known : goal.returns-then-not-are_known
@@ -24,4 +24,5 @@ returns g c =
     c.in_ok-last.last c.in_ok-names.ensures.reads c.in_ok-last.ensures.reads c.in_ok-last.ensures.value
     (result_err c.read_rows.result) (g.S.Store.standing c.read_rows.new.store)
     c.in_ok-names.names c.in_ok-names.ensures.value (sym c.are_known.ensures ∙ c.if-not-are_known.false)
-    (sym c.is_ticked.ensures ∙ c.if-not-is_ticked.false) c.read_rows.ensures
+    (sym c.is_ticked.ensures ∙ c.if-not-is_ticked.false) c.read_rows.ensures.reads c.in_ok-names.ensures.stood
+    c.in_ok-last.ensures.judges (λ honest none. on_ok c.read_rows.result (rw c.as_slice.ensures.value at (c.read_rows.ensures.stood honest)) none)

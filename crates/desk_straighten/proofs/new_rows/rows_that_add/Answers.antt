@@ -5,6 +5,7 @@ use Rattle.sched.specs.declared.calendar.CalendarEntry.{CalendarEntry}
 use Rattle.settling.specs.Calendars.{Tells}
 use Rattle.store.specs.Standing.{Content}
 use Rattle.store.proofs.ReadLemmas.{Reads-then, kept-read}
+use Rattle.clock.specs.Knowing.{Knows}
 use Rattle.desk_straighten.specs.Steps.{row_if}
 use Rattle.desk_straighten.proofs.NewRowLemmas.{row_if-no, row_if-yes, rows-more}
 use Rattle.desk_straighten.proofs.new_rows.rows_that_add.Goals as goal
@@ -41,15 +42,21 @@ loop-row-preserved g c =
     ] in
     record {
       reads = Reads-then None first old (g.S.Store.standing c.add_row.new.store) so_far.reads adds.reads;
+      knows = λ honest.
+          let was_honest = adds.reads.goes.honest honest in
+          let kept = kept-read first old so_far.reads was_honest in
+          let knew = subst (λ (content : Content). Knows c.loop-row.known c.args.building.now content.tables.imported before) (sym kept) (so_far.knows was_honest) in
+          subst (λ (content : Content). Knows c.add_row.new.known c.args.building.now content.tables.imported now) kept (adds.knows honest knew);
       rows = λ honest imported straightens.
           let was_honest = adds.reads.goes.honest honest in
           let kept = kept-read first old so_far.reads was_honest in
           let here = subst (λ (content : Content). Tells content.tables.imported imported) (sym kept) straightens in
+          let knew = subst (λ (content : Content). Knows c.loop-row.known c.args.building.now content.tables.imported before) (sym kept) (so_far.knows was_honest) in
           let within : c.loop-row.row-index < length c.args.rows.now = omega (arith, c.loop-row-test.true) in
           let rest = drop_more c.args.rows.now c.loop-row.row-index c.row-item.result within in
           let next : drop c.loop-row.row-index c.args.rows.now ≡ c.row-item.result ∷ drop (c.loop-row.row-index + 1) c.args.rows.now =
           rest ∙ ap (λ (first : CalendarEntry). first ∷ drop (c.loop-row.row-index + 1) c.args.rows.now) (sym c.row-item.is) in
           rows-more c.args.building.now imported c.args.rows.now c.loop-row.row-index c.row-item.result c.loop-row.items.items
           c.add_row.new.items.items c.loop-row.kept.items c.if-before-len.kept.items
-          _ next (adds.adds honest imported here) keeps (so_far.rows was_honest imported straightens);
+          _ next (adds.adds honest knew imported here) keeps (so_far.rows was_honest imported straightens);
     }

@@ -3,6 +3,7 @@ use Rattle.settling.specs.Calendars.{Tells, with_items}
 use Rattle.store.specs.Standing.{Reads}
 use Rattle.store.specs.Tables.{Text}
 use Rattle.deliveries_straight.specs.Cut.{added_rows}
+use Rattle.clock.specs.Knowing.{Knows}
 use Rattle.desk_straighten.proofs.new_rows.rows_that_add.Given as goal
 
 -- the rows so far, and those of the rest beside the items so far
@@ -11,6 +12,7 @@ invariant-loop-row g l =
     let first = g.S.Store.standing l.initial.store in
     record {
       reads : Reads None first (g.S.Store.standing l.store);
+      knows : (g.S.Store.standing l.store).is_honest → Knows l.known l.building first.content.tables.imported l.items.items;
       rows : (g.S.Store.standing l.store).is_honest → (imported : Text → List Text) → Tells first.content.tables.imported imported
           → l.kept.items ++ added_rows l.building (with_items imported l.items.items) (drop l.row-index l.rows)
           ≡ added_rows l.building imported l.rows;

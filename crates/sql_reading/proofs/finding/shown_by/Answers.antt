@@ -9,3 +9,7 @@ returns-clause-value g c clean ours =
 pub returns-clause-bad : goal.returns-clause-bad
 returns-clause-bad g c clean ours is =
     rw is at (c.told_shown.ensures.bad (kept_in (state g.S.Store c.args.connection.now).now.trees) (c.in_ok-rows.ensures.found clean ours))
+
+pub returns-clause-stood : goal.returns-clause-stood
+returns-clause-stood g c clean ours =
+    c.told_shown.ensures.stood (kept_in (state g.S.Store c.args.connection.now).now.trees) (c.in_ok-rows.ensures.found clean ours)

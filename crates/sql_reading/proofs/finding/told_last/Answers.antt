@@ -1,5 +1,5 @@
 use Rattle.std.proofs.Common.{refl}
-use Rattle.sql_reading.proofs.ToldLemmas.{if_err, last_err, last_none, last_ok, last_several}
+use Rattle.sql_reading.proofs.ToldLemmas.{if_err, last_err, last_none, last_ok, last_ok_stood, last_several}
 use Rattle.sql_reading.proofs.finding.told_last.Goals as goal
 
 pub returns-in_err-only-clause-bad : goal.returns-in_err-only-clause-bad
@@ -18,3 +18,8 @@ returns-in-Some-clause-bad c kept found =
 
 pub returns-in-None-clause-bad : goal.returns-in-None-clause-bad
 returns-in-None-clause-bad c kept found = last_none kept c.args.rows.items found (c.in_ok-only.ensures.none (rw c.in-None.is refl))
+
+pub returns-in-Some-clause-stood : goal.returns-in-Some-clause-stood
+returns-in-Some-clause-stood c kept found =
+    last_ok_stood kept c.args.rows.items found c.optional_at.result c.in-Some.row (rw c.in-Some.is at c.in_ok-only.ensures.one)
+    c.optional_at.ensures.value

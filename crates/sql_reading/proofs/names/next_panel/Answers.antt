@@ -1,14 +1,12 @@
-use Rattle.std.proofs.Common.{◌⊎◌, ap, sym, subst}
+use Rattle.std.proofs.Common.{ap, sym, subst}
 use Rattle.std.specs.Result.{result_err}
 use Rattle.sqlite.specs.Held.{state}
 use Rattle.sql_rows.specs.Ours.{IsOurs, kept_in}
 use Rattle.sql_reading.specs.Asking.{is_sql}
 use Rattle.sql_reading.proofs.ReadLemmas.{clean_before}
-use Rattle.store.specs.Listed.{HasPanel}
-use Rattle.sql_rows.specs.Stored.{tables_in}
 use Rattle.sql_reading.specs.Naming.{HasName}
 use Rattle.sql_reading.specs.Texts.{IsNextText}
-use Rattle.sql_reading.proofs.NameLemmas.{next_either, next_fewer, panel_named}
+use Rattle.sql_reading.proofs.NameLemmas.{next_either}
 use Rattle.sql_reading.proofs.StepLemmas.{read_one}
 use Rattle.sql_reading.proofs.names.next_panel.Goals as goal
 
@@ -23,11 +21,9 @@ returns-clause-value g c clean ours =
     let was = clean_before mid last c.next_commanding_panel.ensures.survives.clean clean in
     let saw = reads.sees was ours in
     let kept = kept_in first.now.trees in
-    let after = c.args.after.now in
+    let from = c.args.from.now in
     let other =
-    subst (λ d. IsNextText (HasName (kept_in d.trees).command) after c.in_ok-commanding.commanding) saw.now
+    subst (λ d. IsNextText (HasName (kept_in d.trees).command) from c.in_ok-commanding.commanding) saw.now
     (c.in_ok-commanding.ensures.value clean (subst IsOurs (sym saw.now) ours)) in
-    next_fewer (λ name. HasName kept.panel name ⊎ HasName kept.command name) (HasPanel (tables_in kept)) after c.lesser.result
-    (panel_named kept)
-    (next_either (HasName kept.panel) (HasName kept.command) after c.in_ok-numbered.numbered c.in_ok-commanding.commanding
-    c.lesser.result c.lesser.ensures (c.in_ok-numbered.ensures.value was ours) other)
+    next_either (HasName kept.panel) (HasName kept.command) from c.in_ok-numbered.numbered c.in_ok-commanding.commanding
+    c.lesser.result c.lesser.ensures (c.in_ok-numbered.ensures.value was ours) other

@@ -1,6 +1,6 @@
 use Rattle.std.proofs.Common.{◌<◌, ◌≡◌, ◌∙◌, length, take, take_all, subst, arith}
 use Rattle.sql_reading.specs.Placing.{AreTold}
-use Rattle.sql_reading.proofs.PlacingLemmas.{cannot, told_all, told_more, told_none}
+use Rattle.sql_reading.proofs.PlacingLemmas.{cannot, told_all, told_more, told_none, told_stands}
 use Rattle.sql_reading.proofs.ToldLemmas.{if_err}
 use Rattle.sql_reading.proofs.placing.told_array.Goals as goal
 
@@ -26,3 +26,10 @@ returns-in_err-place-clause-bad c kept found =
     if_err c.from_residual.result (cannot c.args.point.now kept c.deref-row-items.result.now c.as_str-name.ensures.is_name
     (rw c.deref-row-items.ensures.value found) c.loop-row.row-index c.row-item.result c.loop-row.array below c.row-item.is
     c.loop-row.invariant c.in_err-place.ensures.bad)
+
+pub returns-clause-stood : goal.returns-clause-stood
+returns-clause-stood c kept found =
+    let whole : take c.loop-row.row-index c.deref-row-items.result.now ≡ c.args.rows.items =
+    take_all c.loop-row.row-index c.deref-row-items.result.now (omega arith) ∙ c.deref-row-items.ensures.value in
+    told_stands c.args.point.now kept c.args.rows.items c.as_str-name.ensures.is_name found c.loop-row.array
+    (subst (λ l. AreTold l c.loop-row.array) whole c.loop-row.invariant)

@@ -1,6 +1,8 @@
-use Rattle.std.proofs.Common.{◌≡◌, rules, slice_get, None, Some}
-use Rattle.sql_reading.proofs.ToldLemmas.{if_err}
-use Rattle.sql_reading.proofs.NumberLemmas.{first_none, first_some, told_bad, told_none, told_some}
+use Rattle.std.proofs.Common.{◌≡◌, rules, slice_get, IfSome, None, Some, subst, sym}
+use Rattle.sqlite_value.specs.Order.{column}
+use Rattle.store.specs.Change.{IsNumber}
+use Rattle.sql_reading.specs.Stepping.{IsNextNumber}
+use Rattle.sql_reading.proofs.NumberLemmas.{first_none, first_some, number_is, told_none, told_ok}
 use Rattle.sql_reading.proofs.rows.told_number.Goals as goal
 
 pub returns-in-None-clause-value : goal.returns-in-None-clause-value
@@ -8,14 +10,15 @@ returns-in-None-clause-value c kept found =
     let none : slice_get c.args.rows.items 0 ≡ None = search rules in
     told_none c.args.panel.now c.args.from kept c.args.rows.items c.as_str-name.ensures.is_name found (first_none c.args.rows.items none)
 
+pub returns-clause-is : goal.returns-clause-is
+returns-clause-is c =
+    subst (λ it. IfSome it IsNumber) (sym c.ok.ensures.value)
+    (number_is c.count_at.result (column c.in-Some.row.now 0) c.count_at.ensures.value)
+
 pub returns-clause-value : goal.returns-clause-value
 returns-clause-value c kept found =
     let some : slice_get c.args.rows.items 0 ≡ Some c.in-Some.row.now = search rules in
-    told_some c.args.panel.now c.args.from kept c.args.rows.items c.as_str-name.ensures.is_name found c.in-Some.row.now _ _
-    (first_some c.args.rows.items c.in-Some.row.now some) c.in_ok-count_at-in-Some.ensures.value
-
-pub returns-in_err-count_at-in-Some-clause-bad : goal.returns-in_err-count_at-in-Some-clause-bad
-returns-in_err-count_at-in-Some-clause-bad c kept found =
-    let some : slice_get c.args.rows.items 0 ≡ Some c.in-Some.row.now = search rules in
-    if_err c.from_residual.result (told_bad c.args.panel.now c.args.from kept c.args.rows.items c.as_str-name.ensures.is_name found
-    c.in-Some.row.now _ (first_some c.args.rows.items c.in-Some.row.now some) c.in_err-count_at-in-Some.ensures.bad)
+    subst (IsNextNumber kept c.args.panel.now c.args.from) (sym c.ok.ensures.value)
+    (told_ok c.args.panel.now c.args.from kept c.args.rows.items c.as_str-name.ensures.is_name found c.count_at.result
+    c.in-Some.row.now _ c.requires (first_some c.args.rows.items c.in-Some.row.now some) c.count_at.ensures.value
+    c.count_at.ensures.bad)

@@ -14,7 +14,7 @@ returns-clause-rests g c clean ours =
 
 pub returns-clause-found : goal.returns-clause-found
 returns-clause-found g c clean ours =
-    next_name_shown (λ v. v.items) c.args.after.now (state g.S.Store c.args.connection.now) (state g.S.Store c.look.new.connection)
+    next_name_shown (λ v. v.items) c.args.from.now (state g.S.Store c.args.connection.now) (state g.S.Store c.look.new.connection)
     c.look.result ours
     (rw (c.words.ensures) at (c.look.ensures.shown clean))
 

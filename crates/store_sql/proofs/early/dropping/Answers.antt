@@ -1,4 +1,4 @@
-use Rattle.std.proofs.Common.{◌≡◌, map, sym, subst}
+use Rattle.std.proofs.Common.{◌≡◌, Err, map, rules, sym, subst}
 use Rattle.sqlite.specs.Held.{state}
 use Rattle.sql_rows.specs.Ours.{IsOurs, kept_in}
 use Rattle.sql_reading.proofs.ReadLemmas.{clean_before}
@@ -6,6 +6,8 @@ use Rattle.sql_rows.specs.Stored.{tables_in}
 use Rattle.store_sql.specs.Opening.{early_rows}
 use Rattle.store_sql.proofs.EarlyLemmas.{drops_early}
 use Rattle.store_sql.proofs.OpenLemmas.{answered_sees}
+use Rattle.sql_rows.specs.declared.read_fault.ReadFault.TheVariants.{BadRow}
+use Rattle.sql_rows.proofs.UnsoundLemmas.{unsound}
 use Rattle.store_sql.proofs.early.dropping.Goals as goal
 
 pub returns-clause-value : goal.returns-clause-value
@@ -22,3 +24,9 @@ returns-clause-value g c clean ours =
     drops_early (tables_in (kept_in old.now.trees)) c.in_ok-names.names.panels.items (c.in_ok-names.ensures.value was ours).panels _
     made.nexts made.rows (rw c.deref.ensures.value at early)
     made.places made.shown made.imported made.last_tick
+
+pub returns-in_err-names-clause-bad : goal.returns-in_err-names-clause-bad
+returns-in_err-names-clause-bad g c clean ours is =
+    let told : c.names_of.result ≡ Err BadRow = search rules in
+    let row = c.names_of.ensures.bad clean ours told in
+    unsound (kept_in (state g.S.Store c.args.connection.now).now.trees) row.0 row.1

@@ -1,9 +1,9 @@
-use Rattle.std.proofs.Common.{◌≡◌, subst, sym, true, rules, w64}
-use Rattle.std.specs.Int.{cast_signed as to_z, cast_unsigned as of_z}
+use Rattle.std.proofs.Common.{◌≡◌, ◌⊎◌, subst, sym, true, IfErr, IfOk, IsTrue}
 use Rattle.sqlite.specs.Held.{state}
-use Rattle.store_sql.specs.Opening.{IsFound}
+use Rattle.store_sql.specs.declared.refusal.Refusal.TheVariants.{NotOurs}
+use Rattle.store_sql.specs.Opening.{IsFound, is_sql}
 use Rattle.sql_reading.proofs.ReadLemmas.{clean_before}
-use Rattle.store_sql.proofs.OpenLemmas.{version_read}
+use Rattle.store_sql.proofs.OpenLemmas.{faults_told, found_told, known_told}
 use Rattle.store_sql.proofs.taking.find_version.Goals as goal
 
 pub returns-clause-found : goal.returns-clause-found
@@ -11,10 +11,23 @@ returns-clause-found g c clean =
     let old = state g.S.Store c.args.connection.now in
     let mid = state g.S.Store c.rows_are_own.new.connection in
     let new = state g.S.Store c.version_of.new.connection in
-    let it = c.in_ok-version_of.field-0 in
-    let whole : to_z w64 (of_z w64 it) ≡ it = search rules in
     let own : c.in_ok-rows_are_own.field-0 ≡ true = search in
-    subst (λ n. IsFound n old new) (sym whole)
-    (version_read it c.in_ok-rows_are_own.field-0 old mid new own (c.has_shape.ensures.settled search)
-    (c.in_ok-rows_are_own.ensures.judged (clean_before mid new c.in_ok-version_of.ensures.survives.clean clean))
-    (c.in_ok-version_of.ensures.asks clean) (c.in_ok-version_of.ensures.value clean))
+    subst (λ r. IfOk r (λ version. IsFound version old new)) (sym c.as_version.ensures)
+    (found_told c.version_of.result c.in_ok-rows_are_own.field-0 old mid new own (c.has_shape.ensures.settled search)
+    (c.in_ok-rows_are_own.ensures.judged (clean_before mid new c.version_of.ensures.survives.clean clean))
+    (c.version_of.ensures.asks clean) (c.version_of.ensures.value clean))
+
+pub returns-clause-known : goal.returns-clause-known
+returns-clause-known g c clean known =
+    let old = state g.S.Store c.args.connection.now in
+    let mid = state g.S.Store c.rows_are_own.new.connection in
+    let new = state g.S.Store c.version_of.new.connection in
+    let own : c.in_ok-rows_are_own.field-0 ≡ true = search in
+    subst (λ r. IfErr r (λ fault. IsTrue (is_sql fault))) (sym c.as_version.ensures)
+    (known_told c.version_of.result c.in_ok-rows_are_own.field-0 old mid own (c.has_shape.ensures.settled search)
+    (c.in_ok-rows_are_own.ensures.judged (clean_before mid new c.version_of.ensures.survives.clean clean)) known
+    (c.version_of.ensures.bad clean))
+
+pub returns-clause-faults : goal.returns-clause-faults
+returns-clause-faults g c =
+    subst (λ r. IfErr r (λ fault. IsTrue (is_sql fault) ⊎ (fault ≡ NotOurs))) (sym c.as_version.ensures) (faults_told c.version_of.result)

@@ -1,6 +1,6 @@
-use Rattle.mem_store.specs.Held.{imported_of, places_of, shown_of}
-use Rattle.mem_store.proofs.HeldLemmas.{OnOk-then}
-use Rattle.mem_store.proofs.PanelLemmas.{Grows-then}
+use Rattle.memory_tables.specs.Held.{imported_of, places_of, shown_of}
+use Rattle.memory_tables.proofs.HeldLemmas.{OnOk-then}
+use Rattle.memory_tables.proofs.PanelLemmas.{Grows-then}
 use Rattle.mem_store.proofs.mem_store.MemStore.make_room.Goals as goal
 
 pub returns-in_err-make_room_for_nexts-clause-same : goal.returns-in_err-make_room_for_nexts-clause-same

@@ -1,9 +1,9 @@
-use Rattle.mem_store.specs.Held.{array_at, calendar_at, shown_slot, stands_calendar, stands_panel, stands_point, table_at}
+use Rattle.memory_tables.specs.Held.{array_at, calendar_at, shown_slot, stands_calendar, stands_panel, stands_point, table_at}
 use Rattle.store.specs.Listed.{HasCalendar, HasPanel, HasPoint, HasSchedule}
 use Rattle.mem_store.specs.Memory.{tables_of}
-use Rattle.mem_store.specs.Slots.{IsStanding}
-use Rattle.mem_store.proofs.StandLemmas.{calendar_stands, panel_stands, point_stands}
-use Rattle.mem_store.proofs.TextLemmas.{AreTexts-by, standing_some}
+use Rattle.memory_tables.specs.Slots.{IsStanding}
+use Rattle.memory_tables.proofs.StandLemmas.{calendar_stands, panel_stands, point_stands}
+use Rattle.memory_tables.proofs.TextLemmas.{AreTexts-by, standing_some}
 use Rattle.std.proofs.Common.{is_some}
 use Rattle.mem_store.proofs.mem_store.MemStoreStore.names.Goals as goal
 

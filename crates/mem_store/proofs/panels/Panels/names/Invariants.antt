@@ -1,7 +1,0 @@
-use Rattle.std.proofs.Common.{◌≡◌, ◌++◌}
-use Rattle.mem_store.specs.Held.{stands_panel}
-use Rattle.mem_store.specs.Slots.{standing_keys}
-use Rattle.mem_store.proofs.panels.Panels.names.Given as goal
-
-abbrev pub invariant-loop-name : goal.invariant-loop-name
-invariant-loop-name l = l.names.items ++ standing_keys stands_panel l.name-iterator ≡ standing_keys stands_panel l.self.tables.entries

@@ -1,0 +1,47 @@
+-- Entries that are imported one after the other.
+use Rattle.std.proofs.Common.{◌≡◌, ◌&&◌, ◌||◌, Bool, true, false, List, [], ◌∷◌, map, refl, sym, ap, ◌∙◌}
+use Rattle.std.specs.Bool.{IsTrue}
+use Rattle.std.specs.Cmp.Lexicographic.{nat_list_eq_equiv}
+use Rattle.std.specs.List.{list_any}
+use Rattle.std.specs.Str.{bytes_eq}
+use Rattle.std.proofs.lemmas.Map.Views.{Contains-from_any, list_any-from_Contains}
+use Rattle.std.proofs.lemmas.Slice.Eq.{bytes_eq-Decides}
+use Rattle.dates.specs.declared.entry.Entry.{Entry}
+use Rattle.dates.specs.Entry.{spelling}
+use Rattle.memory_tables.specs.Items.{item_for}
+use Rattle.store.specs.Change.{with_each, with_imported}
+use Rattle.store.specs.Listed.{AreTexts}
+use Rattle.store.specs.Tables.{Text}
+
+none_more : (here old : Bool) → old ≡ ((here && false) || old)
+none_more true old = refl
+none_more false old = refl
+
+one_more : (here first rest old : Bool) → ((here && rest) || ((here && first) || old)) ≡ ((here && (first || rest)) || old)
+one_more true true true old = refl
+one_more true true false old = refl
+one_more true false true old = refl
+one_more true false false old = refl
+one_more false first rest old = refl
+
+pub imported-each : (calendar : Text) (entries : List Entry) (old : Text → Text → Bool) (q text : Text)
+    → with_each with_imported (map (item_for calendar) entries) old q text
+    ≡ ((bytes_eq calendar q && list_any (bytes_eq text) (map spelling entries)) || old q text)
+imported-each calendar [] old q text = none_more (bytes_eq calendar q) (old q text)
+imported-each calendar (entry ∷ entries) old q text =
+    imported-each calendar entries (with_imported (item_for calendar entry) old) q text
+    ∙ one_more (bytes_eq calendar q) (bytes_eq (spelling entry) text) (list_any (bytes_eq text) (map spelling entries)) (old q text)
+    ∙ ap (λ b. (bytes_eq calendar q && (b || list_any (bytes_eq text) (map spelling entries))) || old q text)
+    (nat_list_eq_equiv.symm (spelling entry) text)
+
+either_way : (a b : Bool) → (a ≡ true → b ≡ true) → (b ≡ true → a ≡ true) → a ≡ b
+either_way true b there back = sym (there refl)
+either_way false true there back = back refl
+either_way false false there back = refl
+
+-- the texts that are listed are those of which something holds
+pub texts-any : (holds : Text → Bool) (texts : List Text) → AreTexts (λ text. IsTrue (holds text)) texts → (text : Text)
+    → list_any (bytes_eq text) texts ≡ holds text
+texts-any holds texts are text = either_way _ _
+    (λ is. (are.each text).0 (Contains-from_any (λ x y same. (bytes_eq-Decides x y).0 same) text texts is))
+    (λ is. list_any-from_Contains nat_list_eq_equiv text texts ((are.each text).1 is))

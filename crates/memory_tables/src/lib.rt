@@ -1,0 +1,21 @@
+//! What do the parts of the desk's tables hold in memory?
+//!
+//! The next numbers and the rows of panels, the priority arrays of points, what schedules show and the entries of
+//! calendars, each over std's maps. Room is made for a change first, which is all that can fail; then it is written.
+#![tactic(auto)]
+
+pub use arrays::Arrays;
+pub use calendar_table::CalendarTable;
+pub use calendars::Calendars;
+pub use panel_table::PanelTable;
+pub use panels::Panels;
+pub use shown_values::ShownValues;
+pub use spelled_entry::{SpelledEntry, spell};
+
+mod arrays;
+mod calendar_table;
+mod calendars;
+mod panel_table;
+mod panels;
+mod shown_values;
+mod spelled_entry;

@@ -1,0 +1,80 @@
+//! The bytes of an input, gathered as they come.
+
+ghost use Rattle.std.specs.Prelude.{◌≡◌, ◌+◌, OnErr, OnOk, IfOk, length};
+ghost use Rattle.std.specs.Io.KnownBytes.{IsAtEnd, Keeps};
+ghost use Rattle.building.specs.Building.{Building as a_building};
+ghost use Rattle.panel_http.specs.Gathering.{Takes};
+ghost use Rattle.panel_http.specs.declared.gathering.Gathered.{Gathered};
+ghost use Rattle.request_reading.specs.Whole.{IsWhole};
+
+use request_reading::{Routes, lacking};
+use std::alloc::Global;
+use std::io::{self, ErrorKind, Read};
+
+/// How many bytes are read at once at most.
+const READ: usize = 8_192;
+
+/// How many reads an input has at a turn, so that none holds the others up.
+const READS: u32 = 8;
+
+/// What has come of an input.
+#[derive(Clone, Copy, PartialEq, Eq)]
+pub enum Gathered {
+    /// A whole request: no byte that follows can change what is asked.
+    Whole,
+    /// All that there is.
+    Ended,
+    /// A part, and no more is there yet.
+    Waits,
+    /// A part, and more may be there.
+    HasMore,
+    /// A part, and a read failed or memory was refused.
+    Lost,
+}
+
+/// Reads an input as long as it gives something, until what has come is a whole request, or for a few reads. `lacks` is
+/// how many bytes are waited for before it is looked at again: 1 before the first call.
+pub fn gather<R: Read>(
+    alloc: Global,
+    routes: &Routes,
+    reader: &mut R,
+    come: &mut Vec<u8>,
+    lacks: &mut usize,
+) -> Gathered
+    ensures taken { Takes (R.remaining reader.old) (R.remaining reader.new) come.old.items come.new.items }
+    ensures whole { (building : a_building) → result ≡ Gathered.Whole → IsWhole building come.new.items }
+    ensures ended { result ≡ Gathered.Ended → IsAtEnd (R.remaining reader.new) }
+{
+    for _ in 0..READS {
+        match take_some(reader, come) {
+            Ok(0) => return Gathered::Ended,
+            Ok(count) => {
+                *lacks = lacks.saturating_sub(count);
+                if *lacks == 0 {
+                    *lacks = lacking(alloc, routes, come);
+                    if *lacks == 0 {
+                        return Gathered::Whole;
+                    }
+                }
+            }
+            Err(error) if error.kind() == ErrorKind::WouldBlock => return Gathered::Waits,
+            Err(_) => return Gathered::Lost,
+        }
+    }
+    Gathered::HasMore
+}
+
+/// Reads once, and puts what was read behind what has come. Where it fails, for want of memory too, nothing was read.
+pub fn take_some<R: Read>(reader: &mut R, come: &mut Vec<u8>) -> io::Result<usize>
+    ensures taken { OnOk result (Takes (R.remaining reader.old) (R.remaining reader.new) come.old.items come.new.items) }
+    ensures count { IfOk result (λ count. length come.new.items ≡ length come.old.items + count) }
+    ensures end { IfOk result (λ count. count ≡ 0 → IsAtEnd (R.remaining reader.new)) }
+    ensures none { OnErr result (Keeps (R.remaining reader.old) (R.remaining reader.new)) }
+    ensures same { OnErr result (come.new.items ≡ come.old.items) }
+{
+    let mut scratch = [0; READ];
+    come.reserve_exact(READ)?;
+    let count = reader.read(&mut scratch)?;
+    come.extend_from_slice(&scratch[..count])?;
+    Ok(count)
+}

@@ -1,0 +1,100 @@
+-- What is written of an entry is read back.
+use Rattle.std.proofs.Common.{◌≡◌, ℕ, ℤ, ◌^◌, ◌<◌, pos, negsuc, true, List, Option, Some, None, refl, ◌∙◌, arith, nat_lt}
+use Rattle.std.proofs.lemmas.Bool.Decides.{nat_tests}
+use Rattle.serde_json.specs.Find.{as_i64, of_integer}
+use Rattle.points.specs.Name.{is_name}
+use Rattle.points.specs.RuleCode.{code_of}
+use Rattle.points.specs.declared.answer.Answer.TheVariants.{Done, Refused}
+use Rattle.points.specs.declared.content.Content.{Content}
+use Rattle.points.specs.declared.rule.Rule.{Rule}
+use Rattle.points.specs.declared.rule.Rule.TheVariants.{NoSuchPoint, NotGranted, NoSuchPriority, ReservedPriority}
+use Rattle.points.specs.declared.rule.Rule.TheVariants.{PriorityNotGranted, OutsideKind}
+use Rattle.deliveries.specs.declared.reply.Reply.{Reply}
+use Rattle.deliveries.specs.declared.reply.Reply.TheVariants.{Answered, BadNumber, Differs, Forgotten, NoPanel, Parked, SkipDone}
+use Rattle.deliveries.specs.declared.reply.Reply.TheVariants.{Skipped, TooFar}
+use Rattle.delivery_lines.specs.Readings.{value_in}
+use Rattle.panel_journal.specs.declared.entry.Entry.TheVariants.{Began, GaveUp, Heard, Pressed}
+use Rattle.panel_journal.specs.Entries.{began_in, content_in, entry_in, gave_up_in, heard_in, pressed_in}
+use Rattle.panel_journal.specs.EntryData.{EntriesReadBack, IsOfPanel, IsWord, IsWordOrNone, entry_data, reply_data, value_data}
+use Rattle.panel_journal.specs.Replies.{differs_in, done_in, forgotten_in, parked_in, refused_in, reply_in, rule_of, skip_in}
+use Rattle.panel_journal.specs.Replies.{skipped_in, too_far_in}
+
+word-back : (z : ℤ) → IsWord z → as_i64 (of_integer z) ≡ Some z
+word-back (pos n) is = let test : nat_lt n (2 ^ 63) ≡ true = grind (arith, nat_tests) in rw test refl
+word-back (negsuc n) is = refl
+
+rule-back : (rule : Rule) → rule_of (code_of rule) ≡ Some rule
+rule-back NoSuchPoint = refl
+rule-back NotGranted = refl
+rule-back NoSuchPriority = refl
+rule-back ReservedPriority = refl
+rule-back PriorityNotGranted = refl
+rule-back OutsideKind = refl
+
+done-back : (told present : ℤ) (priority : ℕ) → IsWord told → IsWord present → priority < 2 ^ 8
+    → reply_in (reply_data (Answered told (Done present priority))) ≡ Some (Answered told (Done present priority))
+unfolding reply_in done_in
+done-back told present priority is value small =
+    let test : nat_lt priority (2 ^ 8) ≡ true = grind (arith, nat_tests) in
+    rw (word-back told is, word-back present value, test) refl
+
+refused-back : (told : ℤ) (rule : Rule) → IsWord told
+    → reply_in (reply_data (Answered told (Refused rule))) ≡ Some (Answered told (Refused rule))
+unfolding reply_in refused_in
+refused-back told rule is = rw (word-back told is, rule-back rule) refl
+
+reply-back : (reply : Reply) → IsOfPanel reply → reply_in (reply_data reply) ≡ Some reply
+unfolding reply_in skipped_in forgotten_in differs_in parked_in too_far_in skip_in
+reply-back (Answered told (Done present priority)) is = done-back told present priority is.0 is.1.0 is.1.1
+reply-back (Answered told (Refused rule)) is = refused-back told rule is.0
+reply-back (Skipped told) is = rw (word-back told is) refl
+reply-back (Forgotten told) is = rw (word-back told is) refl
+reply-back (Differs told) is = rw (word-back told is) refl
+reply-back (Parked next told) is = rw (word-back told is) refl
+reply-back (TooFar next told) is = rw (word-back told is) refl
+reply-back (SkipDone next) is = refl
+reply-back NoPanel is = refl
+reply-back BadNumber is = refl
+reply-back other is = absurd is
+
+value-back : (value : Option ℤ) → IsWordOrNone value → value_in (value_data value) ≡ Some value
+value-back None is = refl
+value-back (Some value) is = rw (word-back value is) refl
+
+-- an object with the key `answer` is read as a reply
+heard-back : (reply : Reply) → IsOfPanel reply → heard_in (reply_data reply) ≡ Some (Heard reply)
+unfolding heard_in
+heard-back reply is = rw (reply-back reply is) refl
+
+heard-entry : (reply : Reply) → IsOfPanel reply → entry_in (reply_data reply) ≡ heard_in (reply_data reply)
+unfolding entry_in
+heard-entry (Answered told (Done present priority)) is = refl
+heard-entry (Answered told (Refused rule)) is = refl
+heard-entry (Skipped told) is = refl
+heard-entry (Forgotten told) is = refl
+heard-entry (Differs told) is = refl
+heard-entry (Parked next told) is = refl
+heard-entry (TooFar next told) is = refl
+heard-entry (SkipDone next) is = refl
+heard-entry NoPanel is = refl
+heard-entry BadNumber is = refl
+heard-entry other is = absurd is
+
+began-back : (panel : List ℕ) (first : ℕ) → is_name panel ≡ true → entry_in (entry_data (Began panel first)) ≡ Some (Began panel first)
+unfolding entry_in began_in
+began-back panel first is = rw is refl
+
+pressed-back : (told : ℕ) (content : Content) → is_name content.point ≡ true → IsWord content.priority → IsWordOrNone content.value
+    → entry_in (entry_data (Pressed told content)) ≡ Some (Pressed told content)
+unfolding entry_in pressed_in content_in
+pressed-back told content is priority value = rw (is, word-back content.priority priority, value-back content.value value) refl
+
+gave_up-back : (told : ℕ) → entry_in (entry_data (GaveUp told)) ≡ Some (GaveUp told)
+unfolding entry_in gave_up_in
+gave_up-back told = refl
+
+pub entries-read-back : EntriesReadBack
+entries-read-back (Began panel first) is = began-back panel first is
+entries-read-back (Pressed told content) is = pressed-back told content is.0 is.1 is.2
+entries-read-back (Heard reply) is = heard-entry reply is ∙ heard-back reply is
+entries-read-back (GaveUp told) is = gave_up-back told

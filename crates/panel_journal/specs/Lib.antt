@@ -1,0 +1,3 @@
+pub mod Entries
+pub mod EntryData
+pub mod Replies

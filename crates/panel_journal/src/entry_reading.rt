@@ -1,0 +1,103 @@
+//! The entry of a journal that an object tells.
+ghost use Rattle.std.specs.Prelude.{◌≡◌, option_map};
+ghost use Rattle.serde_json.specs.View.{view};
+ghost use Rattle.delivery_lines.specs.Readings.{name_in, priority_in, value_in};
+ghost use Rattle.panel_journal.specs.Entries.{began_in, content_in, entry_in, gave_up_in, heard_in, pressed_in, entry_with_first};
+ghost use Rattle.panel_journal.specs.Entries.{entry_with_give_up};
+
+use crate::entry::Entry;
+use crate::replies::{count_in, reply_in};
+use points::{Content, LOWEST_PRIORITY, Name};
+use serde_json::Value;
+use texts::name_of;
+
+fn name_in(value: &Value) -> Option<Name>
+    ensures { result ≡ name_in (view value.now) }
+{
+    name_of(value.as_str()?)
+}
+
+// A number, or null for NULL.
+fn value_in(value: &Value) -> Option<Option<i64>>
+    ensures { result ≡ value_in (view value.now) }
+{
+    match value {
+        Value::Null => Some(None),
+        _ => Some(Some(value.as_i64()?)),
+    }
+}
+
+// The priority, which is 16 where it is missing or null.
+fn priority_in(value: Option<&Value>) -> Option<i64>
+    ensures { result ≡ priority_in (option_map (λ v. view v.now) value.entry) }
+{
+    match value {
+        Some(value) => Some(value_in(value)?.unwrap_or(i64::from(LOWEST_PRIORITY))),
+        None => Some(i64::from(LOWEST_PRIORITY)),
+    }
+}
+
+/// The content of a command that an object tells, whatever other keys it has.
+#[tactic(auto, unfolding(crate::specs::Entries::content_in))]
+pub(crate) fn content_in(value: &Value) -> Option<Content>
+    ensures { result ≡ content_in (view value.now) }
+{
+    let point = name_in(value.get("point")?)?;
+    let priority = priority_in(value.get("priority"))?;
+    let value = value_in(value.get("value")?)?;
+    Some(Content {
+        point,
+        priority,
+        value,
+    })
+}
+
+#[tactic(auto, unfolding(crate::specs::Entries::pressed_in))]
+fn pressed_in(value: &Value) -> Option<Entry>
+    ensures { result ≡ pressed_in (view value.now) }
+{
+    let number = count_in(value, "number")?;
+    let content = content_in(value)?;
+    Some(Entry::Pressed { number, content })
+}
+
+#[tactic(auto, unfolding(crate::specs::Entries::began_in))]
+fn began_in(value: &Value) -> Option<Entry>
+    ensures { result ≡ began_in (view value.now) }
+{
+    let first = count_in(value, "first")?;
+    let panel = name_in(value.get("panel")?)?;
+    Some(Entry::Began { panel, first })
+}
+
+#[tactic(auto, unfolding(crate::specs::Entries::gave_up_in))]
+fn gave_up_in(value: &Value) -> Option<Entry>
+    ensures { result ≡ gave_up_in (view value.now) }
+{
+    let number = count_in(value, "give_up")?;
+    Some(Entry::GaveUp { number })
+}
+
+#[tactic(auto, unfolding(crate::specs::Entries::heard_in))]
+fn heard_in(value: &Value) -> Option<Entry>
+    ensures { result ≡ heard_in (view value.now) }
+{
+    let reply = reply_in(value)?;
+    Some(Entry::Heard { reply })
+}
+
+/// The entry that an object tells.
+#[tactic(auto, unfolding(crate::specs::Entries::entry_in))]
+pub(crate) fn entry_in(value: &Value) -> Option<Entry>
+    ensures { result ≡ entry_in (view value.now) }
+{
+    if value.get("answer").is_some() {
+        heard_in(value)
+    } else if value.get("give_up").is_some() {
+        gave_up_in(value)
+    } else if value.get("first").is_some() {
+        began_in(value)
+    } else {
+        pressed_in(value)
+    }
+}
