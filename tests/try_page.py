@@ -298,6 +298,10 @@ def the_proxy_serves_the_page_to_staff_alone(program, folder, shown):
     with serving(program, folder, CONNECTIONS) as desk, page_serving.deployed_page_of(desk, folder) as port:
         for who, method, path, body, wanted in asked:
             expect((who, path, status_for(folder, port, who, method, path, body)), (who, path, wanted))
+    log = [json.loads(line) for line in (folder / "desk.log").read_text().splitlines()]
+    expect([(line["who"], line["request"], line["status"]) for line in log],
+           [(f"CN={who}" if who else "", f"{method} {path} HTTP/1.1", wanted) for who, method, path, _, wanted in asked])
+    expect([line["body"] for line in log if line["body"]], [COMMAND.decode()])
 
 
 def choose(shown, field, value, event):

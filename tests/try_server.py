@@ -19,6 +19,7 @@ import time
 from concurrent.futures import ThreadPoolExecutor
 
 import databases
+import panel_examples
 import reports
 import served_lists
 import tables
@@ -461,6 +462,7 @@ TESTS = [
     an_address_that_is_taken_is_told,
     the_number_of_requests_has_to_be_told,
     curl_gets_each_route,
+    *panel_examples.TESTS,
     *reports.TESTS,
     *served_lists.TESTS,
     no_client_holds_the_desk,
