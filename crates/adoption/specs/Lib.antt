@@ -1,0 +1,4 @@
+pub mod Adopted
+pub mod Faults
+pub mod Items
+pub mod Renamed
