@@ -1,3 +1,4 @@
 pub mod ItemLemmas
 pub mod PlaceLemmas
 pub mod RowLemmas
+pub mod SuitLemmas

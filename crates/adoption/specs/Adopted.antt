@@ -5,40 +5,28 @@ use Rattle.std.specs.List.{list_any}
 use Rattle.std.specs.Option.{option_map_or}
 use Rattle.building.specs.Building.{Building}
 use Rattle.building.specs.declared.named_calendar.NamedCalendar.{NamedCalendar}
-use Rattle.building.specs.declared.named_schedule.NamedSchedule.{NamedSchedule}
 use Rattle.points.specs.declared.panel.Panel.{Panel}
 use Rattle.points.specs.declared.point.Point.{Point}
 use Rattle.points.specs.Kind.{lies_in}
-use Rattle.points.specs.Names.{is_among}
 use Rattle.points.specs.PriorityArray.{Places}
-use Rattle.points.specs.Rights.{is_granted, is_granted_at, point_named}
+use Rattle.points.specs.Rights.{point_named}
 use Rattle.points.specs.Run.{Rows}
 use Rattle.store.specs.Tables.{Tables, Text}
+use Rattle.suiting.specs.Findings.{is_written}
 use Rattle.adoption.specs.declared.renaming.Renaming.{Renaming}
 use Rattle.adoption.specs.Renamed.{at_items, former}
 
 -- ---- the places of points
 
--- a schedule of this priority targets the point
-abbrev pub is_scheduled : List NamedSchedule → Text → ℕ → Bool
-is_scheduled schedules point priority =
-    list_any (λ (schedule : NamedSchedule). schedule.priority == priority && is_among point schedule.targets) schedules
-
--- a panel may write to the point at this priority
-abbrev pub is_commanded : List Panel → Text → ℕ → Bool
-is_commanded panels point priority =
-    list_any (λ (panel : Panel). is_granted panel point && is_granted_at panel (pos priority)) panels
-
 -- the value lies in the point's kind, and a schedule or a panel writes to this place
-abbrev pub is_written : Building → Text → ℕ → ℤ → Bool
-is_written building point priority value =
-    option_map_or (λ (it : Point). lies_in it.kind value) (point_named building.points point) false
-    && (is_scheduled building.schedules point priority || is_commanded building.panels point priority)
+abbrev pub suits : Building → Text → ℕ → ℤ → Bool
+suits building point priority value =
+    option_map_or (λ (it : Point). lies_in it.kind value) (point_named building.points point) false && is_written building point priority
 
 -- a value that may stay in a place
 abbrev pub kept_value : Building → Text → ℕ → Option ℤ → Option ℤ
 kept_value building point priority None = None
-kept_value building point priority (Some value) = if is_written building point priority value then Some value else None
+kept_value building point priority (Some value) = if suits building point priority value then Some value else None
 
 -- ---- the rows of panels
 

@@ -6,10 +6,14 @@
 #![tactic(auto)]
 
 pub use adopting::{AdoptFault, adopt};
+pub use laws::adopted_tables_suit;
 pub use renaming::Renaming;
 
 mod adopting;
 mod calendars;
+mod laws;
 mod panels;
 mod places;
 mod renaming;
+#[cfg(test)]
+mod trials;

@@ -1,12 +1,11 @@
 //! The values in the places of points.
-ghost use Rattle.std.specs.Prelude.{◌≡◌, ℕ, if◌then◌else◌, None, IfOk, OnOk, pos};
+ghost use Rattle.std.specs.Prelude.{◌≡◌, ℕ, if◌then◌else◌, None, IfOk, OnOk};
 ghost use Rattle.std.specs.FinMap.{empty, get};
 ghost use Rattle.std.specs.Result.{result_err};
 ghost use Rattle.std.specs.Str.{bytes_eq};
-ghost use Rattle.adoption.specs.Adopted.{is_commanded, is_scheduled, is_written, kept_value, no_places};
+ghost use Rattle.adoption.specs.Adopted.{kept_value, no_places, suits};
 ghost use Rattle.adoption.specs.Items.{or_else};
 ghost use Rattle.adoption.specs.Renamed.{at_items, former};
-ghost use Rattle.points.specs.Rights.{is_granted_at};
 ghost use Rattle.points.specs.declared.point.Point.{Point as a_point};
 ghost use Rattle.store.specs.Change.{IsPlace, with_each, with_place};
 ghost use Rattle.std.specs.List.{All};
@@ -14,44 +13,20 @@ ghost use Rattle.store.specs.Standing.{IsOpen, Reads};
 ghost use Rattle.store.specs.Tables.{Text};
 
 use crate::renaming::{Renaming, former_name};
-use building::{Building, NamedSchedule};
-use points::{LOWEST_PRIORITY, Name, Panel, Point, PriorityArray};
+use building::Building;
+use points::{LOWEST_PRIORITY, Name, PriorityArray};
 use std::alloc::{AllocError, Global};
 use store::{PlaceValue, Store, StoreFault};
-
-fn is_scheduled(schedules: &[NamedSchedule], point: &Name, priority: u8) -> bool
-    ensures { result ≡ is_scheduled schedules.now point.now priority }
-{
-    schedules.iter().any(|schedule| schedule.priority == priority
-        && schedule.targets.contains(point))
-}
-
-fn has_priority(panel: &Panel, priority: u8) -> bool
-    ensures { result ≡ is_granted_at panel.now (pos priority) }
-{
-    panel
-        .priorities
-        .iter()
-        .any(|granted| i64::from(*granted) == i64::from(priority))
-}
-
-fn is_commanded(panels: &[Panel], point: &Name, priority: u8) -> bool
-    ensures { result ≡ is_commanded panels.now point.now priority }
-{
-    panels.iter().any(|panel| panel.points.contains(point) && has_priority(panel, priority))
-}
+use suiting::is_written;
 
 /// Whether a value lies in the point's kind, and a schedule or a panel writes to this place.
-pub fn is_written(building: &Building, point: &Name, priority: u8, value: i64) -> bool
-    ensures { result ≡ is_written building.now point.now priority value }
+fn suits(building: &Building, point: &Name, priority: u8, value: i64) -> bool
+    ensures { result ≡ suits building.now point.now priority value }
 {
-    let admits = match building.find_point(point) {
-        Some(found) => found.kind.admits(value),
+    match building.find_point(point) {
+        Some(found) => found.kind.admits(value) && is_written(building, point, priority),
         None => false,
-    };
-    admits
-        && (is_scheduled(building.schedules(), point, priority)
-            || is_commanded(building.panels(), point, priority))
+    }
 }
 
 /// What stays of a place's value.
@@ -59,7 +34,7 @@ fn kept_value(building: &Building, point: &Name, priority: u8, value: Option<i64
     ensures { result ≡ kept_value building.now point.now priority value }
 {
     match value {
-        Some(found) if is_written(building, point, priority, found) => value,
+        Some(found) if suits(building, point, priority, found) => value,
         _ => None,
     }
 }

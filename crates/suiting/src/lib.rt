@@ -8,6 +8,7 @@
 
 pub use finding::Finding;
 pub use holdings::Holdings;
+pub use places::is_written;
 pub use surveying::{Survey, survey_tables};
 
 mod finding;

@@ -49,8 +49,8 @@ fn a_panel_writes(building: &Building, point: &Name, priority: u8) -> bool
         .any(|panel| may_relinquish(building, panel, point, priority))
 }
 
-// Whether a schedule or a panel of the building writes there.
-fn is_written(building: &Building, point: &Name, priority: u8) -> bool
+/// Whether a schedule writes to the point at this priority, from 1 to 16, or a panel may.
+pub fn is_written(building: &Building, point: &Name, priority: u8) -> bool
     ensures { result ≡ is_written building.now point.now priority }
 {
     a_schedule_writes(building, point, priority) || a_panel_writes(building, point, priority)
