@@ -35,6 +35,7 @@ page: desk
 install: desk panel
 	install -D -m 755 build/desk $(DESTDIR)$(PREFIX)/bin/desk
 	install -D -m 755 build/panel $(DESTDIR)$(PREFIX)/bin/panel
+	install -D -m 755 deploy/desk-backup $(DESTDIR)$(PREFIX)/bin/desk-backup
 	install -D -m 644 -t $(DESTDIR)$(PREFIX)/share/desk/page deploy/page/*
 
 clean:

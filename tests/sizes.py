@@ -94,7 +94,8 @@ def make_with(trial, filler, free):
     run = trial.begin()
     fill(filler, free)
     ended = run.run(trial.program, trial.folder)
-    if ended not in (Ended(run.answer, b"", 0), is_refusal(run), Ended(FAILED, b"", 3)):
+    # The room may end as the database is closed, once the reply was printed.
+    if ended not in (Ended(run.answer, b"", 0), is_refusal(run), Ended(FAILED, b"", 3), Ended(run.answer, FAULT, 3)):
         raise AssertionError(f"with {free} bytes free {ended!r}")
     is_made = ended.printed == run.answer
     filler.unlink()

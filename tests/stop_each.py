@@ -4,7 +4,8 @@ with the half of a write done. And has each such call fail in turn, alone and fr
 
 A page of C put before the C library does both. After each the tables, as SQLite's own library reads them, are whole those
 before the delivery or those with it, and with it where a byte of the answer came; they are compared row for row with
-what the plain slow program says. The same delivery, made again, gets its reply and leaves the tables with it.
+what the plain slow program says. The same delivery, made again, gets its reply and leaves the tables with it. The calls
+by which a run closes its database, after it answered, are among them.
 
 Each test takes the path of the program and a folder of its own. It needs `cc`. The same on a disk in memory that loses
 what was not synced is in crates/database_trials.
@@ -47,11 +48,12 @@ def expect_stopped(ended, run, met):
 
 
 def expect_failed(ended, run, met):
-    """A run over a disk that failed answers whole, or tells the failure by its fault or the response to the request."""
+    """A run over a disk that failed answers whole, or tells the failure by its fault or the response to the request. Where
+    it answered whole and then could not close the database, it tells that by its fault too."""
     if ended == Ended(run.answer, b"", 0):
         return
     told = Ended(b"", FAULT, 3, listened=isinstance(run, ByWords))
-    if not met or ended not in (told, Ended(FAILED, b"", 3)):
+    if not met or ended not in (told, Ended(FAILED, b"", 3), Ended(run.answer, FAULT, 3)):
         raise AssertionError(f"{ended!r}, wanted {run.answer!r} or the fault")
 
 

@@ -1,5 +1,6 @@
 """Tries the program where something fails, or is not as it should be: the worked rows first, then each request for memory
-refused, each write stopped or failing, hostile files and requests, disks and files that can't be had, and descriptors.
+refused, each write stopped or failing, hostile files and requests, disks and files that can't be had, descriptors, and the
+database file at rest.
 
 Usage: try_hostile.py PROGRAM [--sweep]
 
@@ -15,6 +16,7 @@ import subprocess
 import sys
 import tempfile
 
+import at_rest
 import descriptors
 import hostile
 import memory_each
@@ -23,7 +25,7 @@ import sizes
 import stop_each
 from serving import IN_MEMORY
 
-MODULES = (rows_done, memory_each, stop_each, hostile, sizes, descriptors)
+MODULES = (rows_done, memory_each, stop_each, hostile, sizes, descriptors, at_rest)
 
 
 def spent():

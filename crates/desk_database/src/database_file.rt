@@ -5,17 +5,18 @@ ghost use Rattle.sqlite.specs.declared.error.Error.TheVariants.{SqliteFailure};
 ghost use Rattle.sqlite.specs.declared.error.ErrorCode.TheVariants.{OutOfMemory};
 ghost use Rattle.store.specs.declared.open_fault.OpenFault.TheVariants.{Failed, NoMemory};
 
+use crate::closing::closed;
 use crate::connecting::{connected, options};
+use crate::lost_part::{refuse_lost, told_size};
 use sqlite::{
     Alter, Connection, Error, ErrorCode, File, FileFrom, FileStore, Files, Options, Start, Unknown,
 };
 use sqlite_disk::Disk;
 use sqlite_std_file::OpenError;
 use std::alloc::Global;
-use std::fs;
 use std::hash::{BuildHasher, RandomState};
-use std::io::{ErrorKind, Read};
-use store::OpenFault;
+use std::io::ErrorKind;
+use store::{OpenFault, StoreFault};
 use store_sql::SqlStore;
 
 /// Why a database whose files can't be had is not opened: S1 for want of memory, else S2.
@@ -41,9 +42,6 @@ fn files_fault(error: &OpenError) -> OpenFault {
 /// How many pages of a new database are kept in memory: 8 MB.
 const PAGES: usize = 8_000;
 
-/// The length of a database file's header up to the size of its pages.
-const HEADER: usize = 18;
-
 /// How many pages of a size, as the header tells it, are 8 MB: room for them is made when a database is opened. A file that
 /// tells none is a new one.
 fn pages_of(told: u16) -> usize {
@@ -57,18 +55,6 @@ fn pages_of(told: u16) -> usize {
         // 65,536, which two bytes can't tell
         1 => 125,
         _ => PAGES,
-    }
-}
-
-/// How many pages are kept in memory of the database in a file.
-fn pages_at(rt: &HostRuntime, path: &str) -> usize {
-    let mut header = [0u8; HEADER];
-    match fs::open(rt, path) {
-        Ok(mut file) => match file.read_exact(&mut header) {
-            Ok(()) => pages_of(u16::from_be_bytes([header[16], header[17]])),
-            Err(_) => PAGES,
-        },
-        Err(_) => PAGES,
     }
 }
 
@@ -90,19 +76,19 @@ fn files_at<S: Start>(
     }
 }
 
-/// The store over a connection, whose tables are made where there is nothing.
+/// The store over a connection to tables that are there.
 fn store_over<S: Alter + Drop>(
     alloc: Global,
     connection: Connection<S>,
 ) -> Result<SqlStore<S>, OpenFault> {
-    match SqlStore::create_or_open(alloc, connection) {
+    match SqlStore::open(alloc, connection) {
         Ok(store) => Ok(store),
         Err((fault, _connection)) => Err(fault),
     }
 }
 
-/// The store in the database of two files, which is begun where there is none. It is generic over the files, since a call
-/// that ends in more than one way is dear to prove where it names the types of real ones.
+/// The store in the database of two files that hold its tables. It is generic over the files, as are those below, since a
+/// call that ends in more than one way is dear to prove where it names the types of real ones.
 fn store_in<D: Disk + Drop>(
     alloc: Global,
     files: Files<D>,
@@ -117,13 +103,64 @@ fn store_in<D: Disk + Drop>(
     }
 }
 
+/// A store whose tables were just made, closed and opened again. So they stand in the database file before the first
+/// delivery, and it shows whose it is, also without its log.
+fn settled<D: Disk + Drop>(
+    alloc: Global,
+    store: SqlStore<FileStore<D>>,
+    options: Options,
+) -> Result<SqlStore<FileStore<D>>, OpenFault> {
+    match closed(store) {
+        Ok(files) => store_in(alloc, files, options),
+        Err((StoreFault::NoMemory, _left)) => Err(OpenFault::NoMemory),
+        Err((_, _left)) => Err(OpenFault::Failed),
+    }
+}
+
+/// The store over a connection, whose tables are made where there is nothing.
+fn made_or_opened<D: Disk + Drop>(
+    alloc: Global,
+    connection: Connection<FileStore<D>>,
+    options: Options,
+) -> Result<SqlStore<FileStore<D>>, OpenFault> {
+    match SqlStore::create(alloc, connection) {
+        Ok(store) => settled(alloc, store, options),
+        Err((OpenFault::UnknownTables, connection)) => store_over(alloc, connection),
+        Err((fault, _connection)) => Err(fault),
+    }
+}
+
+/// The store in the database of two files, which is begun where there is none.
+fn begun_or_opened<D: Disk + Drop>(
+    alloc: Global,
+    files: Files<D>,
+    options: Options,
+) -> Result<SqlStore<FileStore<D>>, OpenFault>
+    requires log { IsTrue (D.Disk.is_usable files.log) }
+    requires db { IsTrue (D.Disk.is_usable files.db) }
+{
+    match connected(alloc, files, options) {
+        Ok(connection) => made_or_opened(alloc, connection, options),
+        Err((error, _files)) => Err(fault_of(&error)),
+    }
+}
+
 /// The store in the database of a path, whose file and tables are made where there is nothing. A database that another
-/// process holds is not opened.
+/// process holds is not opened, and none is begun where one has lost a part.
 pub fn open_store(rt: &HostRuntime, path: &str) -> Result<SqlStore<FileStore<File>>, OpenFault> {
+    refuse_lost(rt, path)?;
     let files = files_at(rt, path, Unknown)?;
     let Ok(state) = RandomState::new(rt) else {
         return Err(OpenFault::Failed);
     };
-    let options = options(state.hash_one(&0u8), pages_at(rt, path));
-    store_in(rt.alloc(), files, options)
+    let options = options(state.hash_one(&0u8), pages_of(told_size(rt, path)));
+    begun_or_opened(rt.alloc(), files, options)
+}
+
+/// Closes a store (`closed`), and lets its files go.
+pub fn close_store(store: SqlStore<FileStore<File>>) -> Result<(), StoreFault> {
+    match closed(store) {
+        Ok(_files) => Ok(()),
+        Err((fault, _left)) => Err(fault),
+    }
 }

@@ -1,10 +1,10 @@
 //! The runs of the subcommands that take a database.
 use desk_console::{Input, Status};
-use desk_database::open_store;
+use desk_database::{close_store, open_store};
 use std::fs;
 use std::io::{self, BufWriter, Read, Write};
-use store::{OpenFault, Store};
-use store_runs::{Serving, import, report, serve, tick};
+use store::{OpenFault, Store, StoreFault};
+use store_runs::{Ended, Serving, finish, import, report, serve, tick};
 
 /// What is asked of the desk over a database.
 #[derive(Clone, Copy)]
@@ -33,15 +33,9 @@ pub fn run<'a>(
         reader: fs::open(rt, path),
     };
     let opener = || open_store(rt, database);
-    Ok(run_over(
-        rt,
-        file,
-        input_of,
-        opener,
-        asked,
-        &mut out,
-        &mut rt.stderr(),
-    ))
+    let fault = &mut rt.stderr();
+    let ended = run_over(rt, file, input_of, opener, asked, &mut out, fault);
+    Ok(finish(rt.alloc(), ended, close_store, fault))
 }
 
 /// Runs what is asked over the files and the store that these calls open. It is generic over them, since a call that names
@@ -54,7 +48,7 @@ fn run_over<'a, B: Read + Drop, S: Store + Drop, I, O, W: Write, F: Write>(
     asked: &Asked<'a>,
     out: &mut W,
     fault: &mut F,
-) -> Status
+) -> Ended<S>
 where
     I: Fn(&'a str) -> Input<'a, B>,
     O: FnOnce() -> Result<S, OpenFault>,
@@ -72,10 +66,9 @@ where
                 out,
                 fault,
             )
-            .status
         }
-        Asked::Tick { at } => tick(alloc, input_of(file), opener, *at, out, fault).status,
-        Asked::Report { date } => report(alloc, input_of(file), opener, date, out, fault).status,
+        Asked::Tick { at } => tick(alloc, input_of(file), opener, *at, out, fault),
+        Asked::Report { date } => report(alloc, input_of(file), opener, date, out, fault),
         Asked::Serve(serving) => serve(rt, input_of(file), opener, serving, out, fault),
     }
 }

@@ -1,12 +1,8 @@
 -- What is answered, and what follows from it.
-use Rattle.std.proofs.Common.{◌≡◌, Result, Ok, Err, OnOk, subst}
+use Rattle.std.proofs.Common.{Result, Ok, Err}
 use Rattle.std.specs.Prelude.{IfOk}
 
 -- what follows from what an `Ok` tells
 pub if_ok : {A E : Type 0} {P Q : A → Type 0} (r : Result A E) → ((a : A) → P a → Q a) → IfOk r P → IfOk r Q
 if_ok (Ok a) follows p = follows a p
 if_ok (Err e) follows p = tt
-
--- what an `Ok` holds, where the result is one
-pub at_ok : {A E : Type 0} {P : Type 0} (r : Result A E) (a : A) → r ≡ Ok a → OnOk r P → P
-at_ok {A} {E} {P} r a is held = subst (λ (it : Result A E). OnOk it P) is held

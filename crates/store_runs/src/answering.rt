@@ -6,6 +6,7 @@ ghost use Rattle.deliveries.specs.declared.delivery.Delivery.{Delivery as a_deli
 ghost use Rattle.deliveries.specs.Delivered.{Holds};
 ghost use Rattle.store_runs.specs.Answered.{Answers, Opens};
 
+use crate::ended::Stopped;
 use building::Building;
 use deliveries::{Delivery, Reply};
 use delivery_lines::ReplyText;
@@ -37,7 +38,7 @@ pub(crate) fn open_desk<'a, S: Store + Drop, O>(
     alloc: Global,
     building: Building,
     opener: O,
-) -> Result<Desk<S>, RunFault<'a>>
+) -> Result<Desk<S>, Stopped<'a, S>>
 where
     O: FnOnce() -> Result<S, OpenFault>,
     requires { O.IsAlwaysCallable opener }
@@ -48,9 +49,12 @@ where
     match opener() {
         Ok(store) => match Desk::open(alloc, building, store) {
             Ok(desk) => Ok(desk),
-            Err((fault, _store)) => Err(RunFault::from(fault)),
+            Err((fault, store)) => Err(Stopped {
+                fault: RunFault::from(fault),
+                store: Some(store),
+            }),
         },
-        Err(fault) => Err(fault_of(fault)),
+        Err(fault) => Err(Stopped::from(fault_of(fault))),
     }
 }
 
@@ -93,7 +97,7 @@ pub(crate) fn answer<'a, S: Store + Drop, O, W: Write>(
     opener: O,
     delivery: &Delivery,
     out: &mut W,
-) -> Result<Answered<S>, RunFault<'a>>
+) -> Result<Answered<S>, Stopped<'a, S>>
 where
     O: FnOnce() -> Result<S, OpenFault>,
     requires { O.IsAlwaysCallable opener }
@@ -105,6 +109,11 @@ where
     let mut desk = open_desk(alloc, building, opener)?;
     let told = deliver(alloc, &mut desk, delivery, out);
     let store = desk.into_store();
-    let reply = told?;
-    Ok(Answered { reply, store })
+    match told {
+        Ok(reply) => Ok(Answered { reply, store }),
+        Err(fault) => Err(Stopped {
+            fault,
+            store: Some(store),
+        }),
+    }
 }

@@ -5,6 +5,7 @@ ghost use Rattle.desk_console.specs.Input.{bytes_of};
 ghost use Rattle.store_runs.specs.Answered.{IsAnswered, IsImport, IsTick};
 
 use crate::answering::{Answered, answer};
+use crate::ended::{Ended, Stopped};
 use building::Building;
 use deliveries::{Delivery, Reply};
 use desk_console::{Input, RunFault, Status, read_building};
@@ -13,13 +14,6 @@ use listing::Listing;
 use std::alloc::Global;
 use std::io::{Read, Write};
 use store::{OpenFault, Store};
-
-/// How a run ended, and the store that it opened, as it stands then, if the delivery was answered.
-#[derive(Drop)]
-pub struct Ended<S> {
-    pub status: Status,
-    pub store: Option<S>,
-}
 
 /// Delivers a tick at a moment, in hundredths of a second since 1970, to the store that is opened, over the building
 /// of a file, and prints the reply as a line: `desk tick`. The store is opened after the building is read.
@@ -48,13 +42,7 @@ where
             status: status_of(reply),
             store: Some(store),
         },
-        Err(end) => {
-            end.tell(alloc, fault);
-            Ended {
-                status: end.status(),
-                store: None,
-            }
-        }
+        Err(end) => end.tell(alloc, fault),
     }
 }
 
@@ -64,7 +52,7 @@ fn tick_over<'a, B: Read + Drop, S: Store + Drop, O, W: Write>(
     opener: O,
     at: i64,
     out: &mut W,
-) -> Result<Answered<S>, RunFault<'a>>
+) -> Result<Answered<S>, Stopped<'a, S>>
 where
     O: FnOnce() -> Result<S, OpenFault>,
     requires { O.IsAlwaysCallable opener }
@@ -111,13 +99,7 @@ where
             status: Status::Done,
             store: Some(store),
         },
-        Err(end) => {
-            end.tell(alloc, fault);
-            Ended {
-                status: end.status(),
-                store: None,
-            }
-        }
+        Err(end) => end.tell(alloc, fault),
     }
 }
 
@@ -127,7 +109,7 @@ fn import_over<'a, B: Read + Drop, L: Read + Drop, S: Store + Drop, O, W: Write>
     list: Input<'a, L>,
     opener: O,
     out: &mut W,
-) -> Result<Answered<S>, RunFault<'a>>
+) -> Result<Answered<S>, Stopped<'a, S>>
 where
     O: FnOnce() -> Result<S, OpenFault>,
     requires { O.IsAlwaysCallable opener }

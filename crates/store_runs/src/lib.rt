@@ -1,12 +1,14 @@
 //! What do `desk tick`, `desk import`, `desk report` and `desk serve` print, and what do they leave?
 //!
 //! Each reads the building of a file and opens a store. `tick` and `import` deliver one delivery to a desk over it, and
-//! print the reply as a line; `report` prints the report of a day; the store is handed back as it stands then. `serve`
-//! listens on an address and holds many connections at once, in one thread: the request of each is answered (`panel_http`)
-//! as soon as it is whole, and no client holds the others up. A connection is let go 5 seconds after it was taken.
+//! print the reply as a line; `report` prints the report of a day. `serve` listens on an address and holds many
+//! connections at once, in one thread: the request of each is answered (`panel_http`) as soon as it is whole, and no client
+//! holds the others up. A connection is let go 5 seconds after it was taken. Each hands back the store that it opened, as
+//! it stands then, also where a fault ended it; `finish` closes it, and gives the status of the whole run.
 #![tactic(auto)]
 
-pub use clock_run::{Ended, import, tick};
+pub use clock_run::{import, tick};
+pub use ended::{Ended, finish};
 pub use report_run::report;
 pub use server_run::{Serving, serve};
 
@@ -14,6 +16,7 @@ mod answering;
 mod clock_run;
 mod connection;
 mod connections;
+mod ended;
 mod held;
 mod last_response;
 mod machine_clock;

@@ -11,7 +11,7 @@ ghost use Rattle.store_runs.specs.Answered.{Opens};
 ghost use Rattle.store_runs.specs.Reported.{IsReported, Reports};
 
 use crate::answering::open_desk;
-use crate::clock_run::Ended;
+use crate::ended::{Ended, Stopped};
 use building::Building;
 use dates::Day;
 use day_reports::read_day;
@@ -48,13 +48,7 @@ where
             status: Status::Done,
             store: Some(store),
         },
-        Err(end) => {
-            end.tell(alloc, fault);
-            Ended {
-                status: end.status(),
-                store: None,
-            }
-        }
+        Err(end) => end.tell(alloc, fault),
     }
 }
 
@@ -64,7 +58,7 @@ fn report_over<'a, B: Read + Drop, S: Store + Drop, O, W: Write>(
     opener: O,
     date: &str,
     out: &mut W,
-) -> Result<S, RunFault<'a>>
+) -> Result<S, Stopped<'a, S>>
 where
     O: FnOnce() -> Result<S, OpenFault>,
     requires { O.IsAlwaysCallable opener }
@@ -111,7 +105,7 @@ fn print_report<'a, S: Store + Drop, O, W: Write>(
     opener: O,
     day: Day,
     out: &mut W,
-) -> Result<S, RunFault<'a>>
+) -> Result<S, Stopped<'a, S>>
 where
     O: FnOnce() -> Result<S, OpenFault>,
     requires { O.IsAlwaysCallable opener }
@@ -123,6 +117,11 @@ where
     let mut desk = open_desk(alloc, building, opener)?;
     let told = print_day(&mut desk, day, out);
     let store = desk.into_store();
-    told?;
-    Ok(store)
+    match told {
+        Ok(()) => Ok(store),
+        Err(fault) => Err(Stopped {
+            fault,
+            store: Some(store),
+        }),
+    }
 }

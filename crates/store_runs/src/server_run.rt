@@ -1,11 +1,12 @@
 //! A run of the server, from the file of the building on.
 
-ghost use Rattle.std.specs.Prelude.{◌≡◌, IfOk, OnOk, string_bytes};
+ghost use Rattle.std.specs.Prelude.{◌≡◌, IfOk, IsSome, OnOk, string_bytes};
 ghost use Rattle.std.specs.Io.KnownBytes.{Appends, Keeps};
 ghost use Rattle.store_runs.specs.Listening.{listening_line};
 
 use crate::answering::open_desk;
 use crate::connections::{Connections, EVENTS};
+use crate::ended::{Ended, Stopped};
 use desk::Desk;
 use desk_console::{Input, RunFault, Status, print_whole, read_building};
 use mio::Events;
@@ -29,7 +30,7 @@ pub struct Serving<'a> {
 /// Serves the desk of the building of a file over the store that is opened: `desk serve`. The store is opened after the
 /// building is read, then the address is listened on, which is printed as a line, and then connections are taken.
 ///
-/// A fault is told on `fault` as one line. What the store answered stands.
+/// A fault is told on `fault` as one line. What the store answered stands, and it is handed back.
 pub fn serve<'a, B: Read + Drop, S: Store + Drop, O, W: Write, F: Write>(
     rt: &HostRuntime,
     file: Input<'a, B>,
@@ -37,19 +38,17 @@ pub fn serve<'a, B: Read + Drop, S: Store + Drop, O, W: Write, F: Write>(
     serving: &Serving<'a>,
     out: &mut W,
     fault: &mut F,
-) -> Status
+) -> Ended<S>
 where
     O: FnOnce() -> Result<S, OpenFault>,
     requires { O.IsAlwaysCallable opener }
-    ensures listening { result ≡ Status.Done → Appends (W.contents out.old) (W.contents out.new) (listening_line serving.now.address.now) }
-    ensures quiet { result ≡ Status.Done → Keeps (F.contents fault.old) (F.contents fault.new) }
+    ensures held { result.status ≡ Status.Done → IsSome result.store }
+    ensures listening { result.status ≡ Status.Done → Appends (W.contents out.old) (W.contents out.new) (listening_line serving.now.address.now) }
+    ensures quiet { result.status ≡ Status.Done → Keeps (F.contents fault.old) (F.contents fault.new) }
 {
     match serve_over(rt, file, opener, serving, out) {
-        Ok(status) => status,
-        Err(end) => {
-            end.tell(rt.alloc(), fault);
-            end.status()
-        }
+        Ok(ended) => ended,
+        Err(end) => end.tell(rt.alloc(), fault),
     }
 }
 
@@ -59,16 +58,22 @@ fn serve_over<'a, B: Read + Drop, S: Store + Drop, O, W: Write>(
     opener: O,
     serving: &Serving<'a>,
     out: &mut W,
-) -> Result<Status, RunFault<'a>>
+) -> Result<Ended<S>, Stopped<'a, S>>
 where
     O: FnOnce() -> Result<S, OpenFault>,
     requires { O.IsAlwaysCallable opener }
-    ensures { OnOk result (Appends (W.contents out.old) (W.contents out.new) (listening_line serving.now.address.now)) }
+    ensures held { IfOk result (λ ended. IsSome ended.store) }
+    ensures listening { OnOk result (Appends (W.contents out.old) (W.contents out.new) (listening_line serving.now.address.now)) }
 {
     let alloc = rt.alloc();
     let building = read_building(alloc, file)?;
     let mut desk = open_desk(alloc, building, opener)?;
-    listen(rt, &mut desk, serving, out)
+    let told = listen(rt, &mut desk, serving, out);
+    let store = Some(desk.into_store());
+    match told {
+        Ok(status) => Ok(Ended { status, store }),
+        Err(fault) => Err(Stopped { fault, store }),
+    }
 }
 
 /// Listens on the address, prints it as a line, and takes connections.

@@ -4,17 +4,14 @@ use Rattle.deliveries.specs.Reply.{reply}
 use Rattle.delivery_lines.specs.ReplyText.{reply_line}
 use Rattle.building.specs.Building.{Building}
 use Rattle.deliveries.specs.Delivered.{Holds}
-use Rattle.store_runs.proofs.AnsweredLemmas.{at_ok}
 use Rattle.store_runs.proofs.answering.answer.Goals as goal
 
-pub returns : goal.returns
-returns g c = λ earlier opens honest.
+pub returns-in-Ok : goal.returns-in-Ok
+returns-in-Ok g c = λ earlier opens honest.
     let same : c.in_ok-desk.desk.building ≡ c.args.building = c.in_ok-desk.ensures.building in
     let honest_now = subst (λ s. (g.S.Store.standing s).is_honest) c.into_store-store.ensures honest in
-    let held =
-    c.in_ok-desk.ensures.holds earlier opens (at_ok c.deliver-told.result _ c.in_ok-reply.was c.deliver-told.ensures.honest
-    honest_now) in
-    let told = at_ok c.deliver-told.result _ c.in_ok-reply.was c.deliver-told.ensures.answers earlier honest_now
+    let held = c.in_ok-desk.ensures.holds earlier opens (c.in-Ok.ensures.honest honest_now) in
+    let told = c.in-Ok.ensures.answers earlier honest_now
     (subst (λ (b : Building). Holds b earlier (g.S.Store.standing c.in_ok-desk.desk.store)) (sym same) held) in
     record {
       printed =

@@ -1,18 +1,15 @@
 use Rattle.std.proofs.Common.{◌≡◌, sym, subst}
 use Rattle.building.specs.Building.{Building}
 use Rattle.deliveries.specs.Delivered.{Holds}
-use Rattle.store_runs.proofs.AnsweredLemmas.{at_ok}
 use Rattle.store_runs.specs.Reported.{Reports}
 use Rattle.store_runs.proofs.report_run.print_report.Goals as goal
 
-pub returns : goal.returns
-returns g c = λ earlier opens honest.
+pub returns-in-Ok : goal.returns-in-Ok
+returns-in-Ok g c = λ earlier opens honest.
     let same : c.in_ok-desk.desk.building ≡ c.args.building = c.in_ok-desk.ensures.building in
     let honest_now = subst (λ s. (g.S.Store.standing s).is_honest) c.into_store-store.ensures honest in
-    let held =
-    c.in_ok-desk.ensures.holds earlier opens (at_ok c.print_day-told.result _ c.in_ok-told.was c.print_day-told.ensures.honest
-    honest_now) in
-    let told = at_ok c.print_day-told.result _ c.in_ok-told.was c.print_day-told.ensures.reports earlier honest_now
+    let held = c.in_ok-desk.ensures.holds earlier opens (c.in-Ok.ensures.honest honest_now) in
+    let told = c.in-Ok.ensures.reports earlier honest_now
     (subst (λ (b : Building). Holds b earlier (g.S.Store.standing c.in_ok-desk.desk.store)) (sym same) held) in
     subst (λ s. Reports c.args.building earlier c.args.day (g.S.Store.standing s) (g.W.Write.contents c.args.out.now)
     (g.W.Write.contents c.print_day-told.new.out))
