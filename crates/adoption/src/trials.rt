@@ -10,11 +10,11 @@ use std::process::Abort;
 use std::test::Fail;
 use store::{Change, ImportedEntry, KeptRow, NextNumber, PlaceValue, ShownValue, Store};
 
-/// Room R101 is R1 now, and its panel P1 is P7; panel P2, which wrote at 9, is gone.
+/// Point R101 is ROOM-101 now, and its panel EAST is EAST-DOOR; panel WEST, which wrote at 9, is gone.
 const CHANGED: &str = r#"
 zone = "UTC0"
 [[point]]
-name = "R1"
+name = "ROOM-101"
 kind = "analog"
 low = 500
 high = 3500
@@ -24,8 +24,8 @@ name = "LIGHT"
 kind = "binary"
 default = 0
 [[panel]]
-name = "P7"
-points = ["R1", "LIGHT"]
+name = "EAST-DOOR"
+points = ["ROOM-101", "LIGHT"]
 priorities = [8, 10]
 [[calendar]]
 name = "HOLIDAYS"
@@ -33,7 +33,7 @@ entries = []
 [[schedule]]
 name = "DAY"
 priority = 15
-targets = ["R1"]
+targets = ["ROOM-101"]
 default = 1600
 "#;
 
@@ -90,10 +90,10 @@ fn done(panel: &str, number: u64) -> Result<KeptRow, Fail> {
 /// What the tables of the earlier building hold.
 fn earlier(alloc: Global) -> Result<Change, Fail> {
     let mut change = Change::new(alloc);
-    change.nexts.push(next("P1", 3)?)?;
-    change.nexts.push(next("P2", 2)?)?;
-    change.rows.push(done("P1", 2)?)?;
-    change.rows.push(done("P2", 1)?)?;
+    change.nexts.push(next("EAST", 3)?)?;
+    change.nexts.push(next("WEST", 2)?)?;
+    change.rows.push(done("EAST", 2)?)?;
+    change.rows.push(done("WEST", 1)?)?;
     change.places.push(place("R101", 8, 2150)?)?;
     change.places.push(place("R101", 9, 2000)?)?;
     change.places.push(place("R101", 15, 9000)?)?;
@@ -112,7 +112,7 @@ fn earlier(alloc: Global) -> Result<Change, Fail> {
 /// The tables of the changed building.
 fn adopted(rt: &impl Abort, alloc: Global) -> Result<MemStore, Fail> {
     let building = Building::read(alloc, CHANGED.as_bytes())?;
-    let renamings = [renaming("R101", "R1")?, renaming("P1", "P7")?];
+    let renamings = [renaming("R101", "ROOM-101")?, renaming("EAST", "EAST-DOOR")?];
     let mut from = MemStore::new(alloc);
     from.commit(&earlier(alloc)?)?;
     let mut into = MemStore::new(alloc);
@@ -124,7 +124,7 @@ fn adopted(rt: &impl Abort, alloc: Global) -> Result<MemStore, Fail> {
 #[test]
 fn places_that_something_writes_stay(rt: HostRuntime) -> Result<(), Fail> {
     let mut store = adopted(&rt, rt.alloc())?;
-    let room = store.array(&Name::read("R1")?)?;
+    let room = store.array(&Name::read("ROOM-101")?)?;
     assert!(rt; room.value_at(8) == Some(2150), "the room's value of its panel");
     assert!(rt; room.value_at(9).is_none(), "nothing writes at 9");
     assert!(rt; room.value_at(15).is_none(), "90 degrees lie outside the kind");
@@ -138,7 +138,7 @@ fn places_that_something_writes_stay(rt: HostRuntime) -> Result<(), Fail> {
 #[test]
 fn numbers_answers_and_holidays_come_along(rt: HostRuntime) -> Result<(), Fail> {
     let mut store = adopted(&rt, rt.alloc())?;
-    let panel = Name::read("P7")?;
+    let panel = Name::read("EAST-DOOR")?;
     assert!(rt; store.panel_next(&panel)? == 3, "the panel's next number");
     assert!(rt; store.command(&panel, 2)?.is_some(), "the answer to its command");
     assert!(rt; store.entries(&Name::read("HOLIDAYS")?)?.len() == 1, "the imported day");
