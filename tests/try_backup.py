@@ -24,6 +24,7 @@ import time
 import compare
 import databases
 from serving import IN_MEMORY, SECONDS, expect, post, read_all
+from trying import fault_of, tell_each
 from worked import BUILDING, light
 
 BACKUP = pathlib.Path(__file__).resolve().parent.parent / "deploy" / "desk-backup"
@@ -235,22 +236,13 @@ def tried(program, test):
     with tempfile.TemporaryDirectory(prefix="desk-backup-", dir=IN_MEMORY) as folder:
         room = Room(program, pathlib.Path(folder))
         try:
-            test(room)
-        except (AssertionError, OSError, subprocess.SubprocessError) as error:
-            return f"{type(error).__name__}: {error}"
+            return fault_of(lambda: test(room))
         finally:
             room.end()
-    return ""
 
 
 def main(program):
-    failed = 0
-    for test in TESTS:
-        wrong = tried(program, test)
-        failed += bool(wrong)
-        print(f"{'FAILED' if wrong else 'ok'} {test.__name__.replace('_', ' ')}{': ' + wrong if wrong else ''}", flush=True)
-    print(f"{len(TESTS) - failed} passed, {failed} failed")
-    return 1 if failed else 0
+    return tell_each((test, tried(program, test)) for test in TESTS)
 
 
 if __name__ == "__main__":

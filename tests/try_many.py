@@ -14,8 +14,6 @@ import random
 import re
 import resource
 import socket
-import sqlite3
-import subprocess
 import sys
 import tempfile
 import threading
@@ -27,6 +25,7 @@ from compare import toml_of
 from served_lists import members_of, request_of
 from serving import IN_MEMORY, SECONDS, Server, all_rows, answered, expect, get, post, read_all, response, serving
 from slow_desk import Building, Command, Content, Panel, Point, point_text, run_of
+from trying import fault_of, tell_each
 
 # What a connection may take, and how much earlier or later a busy machine may see it let go.
 LIMIT, EARLIER, GRACE = 5, 0.5, 3
@@ -492,21 +491,11 @@ def tried(program, test):
     """What is wrong, or nothing."""
     with tempfile.TemporaryDirectory(prefix="desk-many-", dir=IN_MEMORY) as room:
         (pathlib.Path(room) / "building.toml").write_text(tables.WORKED)
-        try:
-            test(program, pathlib.Path(room))
-        except (AssertionError, OSError, sqlite3.Error, subprocess.TimeoutExpired) as error:
-            return f"{type(error).__name__}: {str(error)[:3000]}"
-    return ""
+        return fault_of(lambda: test(program, pathlib.Path(room)))
 
 
 def main(program):
-    failed = 0
-    for test in TESTS:
-        wrong = tried(program, test)
-        failed += bool(wrong)
-        print(f"{'FAILED' if wrong else 'ok'} {test.__name__.replace('_', ' ')}{': ' + wrong if wrong else ''}", flush=True)
-    print(f"{len(TESTS) - failed} passed, {failed} failed")
-    return 1 if failed else 0
+    return tell_each((test, tried(program, test)) for test in TESTS)
 
 
 if __name__ == "__main__":

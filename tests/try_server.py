@@ -24,6 +24,7 @@ import reports
 import served_lists
 import tables
 from serving import IN_MEMORY, SECONDS, answered, expect, get, post, refused, response, rows, serving
+from trying import fault_of, tell_each
 
 # How many seconds a client may wait for the others.
 PATIENCE = 1
@@ -473,11 +474,7 @@ def tried(program, test):
     """What is wrong, or nothing."""
     with tempfile.TemporaryDirectory(prefix="desk-serve-", dir=IN_MEMORY) as room:
         (pathlib.Path(room) / "building.toml").write_text(tables.WORKED)
-        try:
-            test(program, pathlib.Path(room))
-        except (AssertionError, OSError, subprocess.TimeoutExpired) as error:
-            return f"{type(error).__name__}: {error}"
-    return ""
+        return fault_of(lambda: test(program, pathlib.Path(room)))
 
 
 def all_tried(program):
@@ -489,12 +486,7 @@ def all_tried(program):
 
 
 def main(program):
-    failed = 0
-    for test, wrong in all_tried(program):
-        failed += bool(wrong)
-        print(f"{'FAILED' if wrong else 'ok'} {test.__name__.replace('_', ' ')}{': ' + wrong if wrong else ''}", flush=True)
-    print(f"{len(TESTS) - failed} passed, {failed} failed")
-    return 1 if failed else 0
+    return tell_each(all_tried(program))
 
 
 if __name__ == "__main__":
