@@ -6,6 +6,7 @@ ghost use Rattle.sqlite.specs.declared.error.ErrorCode.TheVariants.{OutOfMemory}
 ghost use Rattle.store.specs.declared.open_fault.OpenFault.TheVariants.{Failed, NoMemory};
 
 use crate::connecting::{connected, options};
+use crate::finding::{is_nothing_at, store_found};
 use sqlite::{
     Alter, Connection, Error, ErrorCode, File, FileFrom, FileStore, Files, Options, Start, Unknown,
 };
@@ -19,7 +20,7 @@ use store::OpenFault;
 use store_sql::SqlStore;
 
 /// Why a database whose files can't be had is not opened: S1 for want of memory, else S2.
-fn fault_of(error: &Error) -> OpenFault
+pub(crate) fn fault_of(error: &Error) -> OpenFault
     ensures no_memory { error.now ≡ SqliteFailure OutOfMemory → result ≡ NoMemory }
     ensures failed { (error.now ≡ SqliteFailure OutOfMemory → ⊥) → result ≡ Failed }
 {
@@ -126,4 +127,21 @@ pub fn open_store(rt: &HostRuntime, path: &str) -> Result<SqlStore<FileStore<Fil
     };
     let options = options(state.hash_one(&0u8), pages_at(rt, path));
     store_in(rt.alloc(), files, options)
+}
+
+/// The store in the database of a path, if there is one. Where nothing stands at the path, or what a stop left of a
+/// beginning, there is none, and none is made; a log that is missing beside a file with content is made.
+pub fn find_store(
+    rt: &HostRuntime,
+    path: &str,
+) -> Result<Option<SqlStore<FileStore<File>>>, OpenFault> {
+    if is_nothing_at(rt, path) {
+        return Ok(None);
+    }
+    let files = files_at(rt, path, Unknown)?;
+    let Ok(state) = RandomState::new(rt) else {
+        return Err(OpenFault::Failed);
+    };
+    let options = options(state.hash_one(&0u8), pages_at(rt, path));
+    store_found(rt.alloc(), files, options)
 }
