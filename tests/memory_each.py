@@ -245,6 +245,18 @@ def a_report_prints_all_or_a_beginning(program, folder):
     try_look(program, folder, ByWords(("report", "building.toml", databases.NAME, str(DAY)), day_told()))
 
 
+def tables_told():
+    tables = databases.tables_after(BUILDING, EACH_KIND)
+    panels = {name for name, _ in tables["panel"]} | {row[0] for row in tables["command"]}
+    points = {point for point, _, _ in tables["place"]}
+    held = (len(panels), len(points), len(tables["shown"]), len(tables["imported"]))
+    return CHECKED + b"tables: %d panels, %d points with values, %d schedules shown, %d imported entries\n" % held
+
+
+def a_check_of_a_database_prints_all_or_a_beginning(program, folder):
+    try_look(program, folder, ByWords(("check", "building.toml", databases.NAME), tables_told()))
+
+
 def a_report_over_http_is_told_or_not(program, folder):
     try_look(program, folder, ByRequest(get(f"/reports/{DAY}"), response(200, day_told(), "text/plain")))
 
@@ -269,6 +281,7 @@ TESTS = (
     a_tick_over_http_is_made_or_not,
     an_import_over_http_is_made_or_not,
     a_report_prints_all_or_a_beginning,
+    a_check_of_a_database_prints_all_or_a_beginning,
     a_report_over_http_is_told_or_not,
     a_point_over_http_is_told_or_not,
 )

@@ -1,5 +1,5 @@
-"""Tries the program: the cases, building files, the tables, its edges, holiday lists, local times, and random lists,
-replayed and straightened, against the plain slow desk.
+"""Tries the program: the cases, building files, the tables, its edges, holiday lists, local times, random lists, replayed
+and straightened, against the plain slow desk, and random databases beside random buildings.
 
 Usage: try_program.py PROGRAM
 
@@ -24,6 +24,7 @@ import sys
 import tempfile
 
 import check_cases
+import checked_databases
 import compare
 import edges
 import holiday_lists
@@ -188,9 +189,11 @@ def main(words):
         if wrong:
             print(f"FAILED {name}: {wrong[:2000]}")
     seed = random.randrange(10**9)
-    for what, agree in (("print what the definitions say", compare.compare), ("are straightened so", straightened.compare_lists)):
+    for what, agree in (("lists print what the definitions say", compare.compare),
+                        ("lists are straightened so", straightened.compare_lists),
+                        ("databases are checked so", checked_databases.compare_checks)):
         agreed, differing = agree(program, seed)
-        print(f"{agreed} random lists {what}, {len(differing)} do not (seed {seed})")
+        print(f"{agreed} random {what}, {len(differing)} do not (seed {seed})")
         for text in differing[:3]:
             print(f"FAILED {text[:4000]}")
         passed, failed = passed + (not differing), failed + bool(differing)

@@ -35,9 +35,13 @@ file_app name = with_rule (new_app name) (needed_rule (codes "file"))
 abbrev pub database_app : Text → Rule → App
 database_app name last = with_rule (with_rule (file_app name) (needed_rule (codes "database"))) last
 
--- `check FILE`
+-- the database that is looked over, which may be missing
+abbrev pub looked_over_rule : Rule
+looked_over_rule = record (new_rule (codes "database")) { value_names = 1 }
+
+-- `check FILE [DB]`
 abbrev pub check_app : App
-check_app = file_app (codes "check")
+check_app = with_rule (file_app (codes "check")) looked_over_rule
 
 -- `describe FILE`
 abbrev pub describe_app : App
@@ -94,7 +98,7 @@ Makes app r = IfOk r (λ c. (app_of c ≡ app) × ((fields_of c).has_globals ≡
 
 -- what a line asks, with the texts that it names
 pub data Asked : Type 0 where
-  Check : (file : Text) → Asked
+  Check : (file : Text) → (database : Option Text) → Asked
   Describe : (file : Text) → Asked
   Replay : (file : Text) → (deliveries : Text) → Asked
   Straighten : (file : Text) → (deliveries : Text) → Asked
@@ -104,7 +108,7 @@ pub data Asked : Type 0 where
   Serve : (file : Text) → (database : Text) → (address : Text) → (requests : ℕ) → (clock : Bool) → Asked
 
 abbrev pub asked_of : Line → Asked
-asked_of (line.Check file) = Check file.now
+asked_of (line.Check file database) = Check file.now (option_map (λ path. path.now) database)
 asked_of (line.Describe file) = Describe file.now
 asked_of (line.Replay file deliveries) = Replay file.now deliveries.now
 asked_of (line.Straighten file deliveries) = Straighten file.now deliveries.now
@@ -133,7 +137,7 @@ is_told (Some text) = bytes_eq text (codes "true")
 is_told None = false
 
 abbrev pub check_in : List Row → Option Asked
-check_in rows = option_map Check (first_of (codes "file") rows)
+check_in rows = option_map (λ file. Check file (first_of (codes "database") rows)) (first_of (codes "file") rows)
 
 abbrev pub describe_in : List Row → Option Asked
 describe_in rows = option_map Describe (first_of (codes "file") rows)

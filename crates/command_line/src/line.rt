@@ -8,7 +8,7 @@ ghost use Rattle.command_line.specs.ArgFault.{IsRefusedBy};
 ghost use Rattle.command_line.specs.Line.{Makes, asked, asked_in, asked_of, check_app, check_in};
 ghost use Rattle.command_line.specs.Line.{clock_rule, count_in, count_of, database_app, deliveries_app};
 ghost use Rattle.command_line.specs.Line.{describe_app, describe_in};
-ghost use Rattle.command_line.specs.Line.{desk_app, file_app, import_app, import_in, is_told, moment_in};
+ghost use Rattle.command_line.specs.Line.{desk_app, file_app, import_app, import_in, is_told, looked_over_rule, moment_in};
 ghost use Rattle.command_line.specs.Line.{needed_rule, replay_app, replay_in, report_app, report_in};
 ghost use Rattle.command_line.specs.Line.{requests_rule, serve_app, serve_in, straighten_app};
 ghost use Rattle.command_line.specs.Line.{straighten_in, tick_app, tick_in};
@@ -21,10 +21,13 @@ use std::alloc::{AllocError, Global};
 /// What the words of a command line ask of the program.
 #[derive(Clone, Copy)]
 pub enum Line<'a> {
-    /// `check FILE`: reads the building of the file, and tells what it has.
+    /// `check FILE [DB]`: reads the building of the file, and tells what it has, or what of the tables in a database does
+    /// not suit it.
     Check {
         /// The path of the building file.
         file: &'a str,
+        /// The path of the database, if it is to be looked over.
+        database: Option<&'a str>,
     },
     /// `describe FILE`: prints the building of the file as one JSON object.
     Describe {
@@ -123,15 +126,13 @@ fn desk_command<'a>(alloc: Global) -> Result<Command<'a>, AllocError>
     with_subcommand(desk, serve_command(alloc))
 }
 
-/// The subcommand `check FILE`.
+/// The subcommand `check FILE [DB]`.
 fn check_command<'a>(alloc: Global) -> Result<Command<'a>, AllocError>
     ensures { Makes check_app result }
 {
-    file_command(
-        alloc,
-        "check",
-        "Reads a building, and tells what it has or its first fault",
-    )
+    let about =
+        "Reads a building, and tells what it has or its first fault, or what of a database does not suit it";
+    with_argument(file_command(alloc, "check", about), looked_over(alloc))
 }
 
 /// The subcommand `describe FILE`.
@@ -286,6 +287,16 @@ fn needed<'a>(alloc: Global, id: &'a str, value_name: &'a str, help: &'a str) ->
         .help(help)
 }
 
+/// The database that is looked over beside a building.
+fn looked_over<'a>(alloc: Global) -> Arg<'a>
+    ensures rule { rule_of result ≡ looked_over_rule }
+    ensures local { result.global ≡ false }
+{
+    Arg::new(alloc, "database")
+        .value_name("DB")
+        .help("The database of the desk, which is only read")
+}
+
 /// The number of connections.
 fn requests_argument<'a>(alloc: Global) -> Arg<'a>
     ensures rule { rule_of result ≡ requests_rule }
@@ -331,7 +342,8 @@ fn check_line<'a>(matches: &ArgMatches<'a>) -> Option<Line<'a>>
     ensures { option_map asked_of result ≡ check_in (rows_of (found_of matches.now)) }
 {
     let file = text_at(matches, "file")?;
-    Some(Line::Check { file })
+    let database = text_at(matches, "database");
+    Some(Line::Check { file, database })
 }
 
 /// What the arguments of `describe` ask.

@@ -1,5 +1,4 @@
 pub mod Replay
-pub mod Check
 pub mod Describe
 pub mod LineAnswer
 pub mod ListLines

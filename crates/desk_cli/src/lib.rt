@@ -1,20 +1,17 @@
 //! What do the runs that use no database print, and how do they end?
 //!
-//! `check` reads the building of a file and prints what it has as one line, and `describe` prints it as one JSON object
-//! (`building_json`). `replay` reads it, runs the deliveries of a
-//! list over it in memory, and prints what each line is answered (`answer_line`) and then the line of each point
+//! `describe` reads the building of a file and prints it as one JSON object (`building_json`). `replay` reads it, runs the
+//! deliveries of a list over it in memory, and prints what each line is answered (`answer_line`) and then the line of each point
 //! (`point_lines`). `answer_line` delivers to a desk what a line tells (`delivery_lines`), and gives the text of the
 //! reply. `straighten` reads the whole list first, and then prints its straight list (`desk_straighten`), a line for each
 //! delivery. What they share with the other subcommands, faults and statuses among it, is `desk_console`'s.
 #![tactic(auto)]
 
-pub use check_run::check;
 pub use describe_run::describe;
 pub use line_answer::answer_line;
 pub use replay_run::replay;
 pub use straighten_run::straighten;
 
-mod check_run;
 mod describe_run;
 mod line_answer;
 mod list_lines;

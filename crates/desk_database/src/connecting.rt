@@ -18,7 +18,7 @@ use sqlite_store::{OpenError, Unopened};
 use std::alloc::{AllocFailed, Global};
 
 /// The bytes of a page of a new database, a quarter of SQLite's own: a command writes five pages whole.
-const PAGE_BYTES: usize = 1024;
+pub(crate) const PAGE_BYTES: usize = 1024;
 
 /// How a database is kept of which so many pages are kept in memory, of those read and of those written, before they are
 /// let go or go to the log; half as many has the log before it is copied into the database file. The seed is a random
@@ -50,7 +50,7 @@ fn made_error(error: OpenError) -> Error
 }
 
 /// Why it could not be told whether there is a database.
-fn probe_error(error: &sqlite_wal::Error) -> Error
+pub(crate) fn probe_error(error: &sqlite_wal::Error) -> Error
     ensures named { IsTrue (is_open_error result) }
     ensures value { result ≡ probed error.now }
 {

@@ -7,6 +7,7 @@ ghost use Rattle.store.specs.declared.open_fault.OpenFault.TheVariants.{Failed, 
 
 use crate::closing::closed;
 use crate::connecting::{connected, options};
+use crate::finding::{is_nothing_at, store_found};
 use crate::lost_part::{refuse_lost, told_size};
 use sqlite::{
     Alter, Connection, Error, ErrorCode, File, FileFrom, FileStore, Files, Options, Start, Unknown,
@@ -20,7 +21,7 @@ use store::{OpenFault, StoreFault};
 use store_sql::SqlStore;
 
 /// Why a database whose files can't be had is not opened: S1 for want of memory, else S2.
-fn fault_of(error: &Error) -> OpenFault
+pub(crate) fn fault_of(error: &Error) -> OpenFault
     ensures no_memory { error.now ≡ SqliteFailure OutOfMemory → result ≡ NoMemory }
     ensures failed { (error.now ≡ SqliteFailure OutOfMemory → ⊥) → result ≡ Failed }
 {
@@ -163,4 +164,23 @@ pub fn close_store(store: SqlStore<FileStore<File>>) -> Result<(), StoreFault> {
         Ok(_files) => Ok(()),
         Err((fault, _left)) => Err(fault),
     }
+}
+
+/// The store in the database of a path, if there is one. Where nothing stands at the path, or what a stop left of a
+/// beginning, there is none, and none is made; a log that is missing beside a file with content is made. Files that have
+/// lost a part are refused.
+pub fn find_store(
+    rt: &HostRuntime,
+    path: &str,
+) -> Result<Option<SqlStore<FileStore<File>>>, OpenFault> {
+    refuse_lost(rt, path)?;
+    if is_nothing_at(rt, path) {
+        return Ok(None);
+    }
+    let files = files_at(rt, path, Unknown)?;
+    let Ok(state) = RandomState::new(rt) else {
+        return Err(OpenFault::Failed);
+    };
+    let options = options(state.hash_one(&0u8), pages_of(told_size(rt, path)));
+    store_found(rt.alloc(), files, options)
 }

@@ -5,15 +5,17 @@
 //! connection then shows, and what a failed one says and leaves, is `specs/Begun.antt`. Files that have lost a part of a
 //! database are refused by their lengths (`specs/Lost.antt`), since one would be begun anew in them. `closed` copies the log
 //! into the database file, which has the tables alone then (`specs/Closed.antt`): at the end of each run, and once the
-//! tables of a new database are made. All that knows the types of a real file stands in `open_store` and `close_store`, so
-//! that what they cost to prove is paid once.
+//! tables of a new database are made. `find_store` has the store of a database that is there, and
+//! makes none (`finding`). All that knows the types of a real file stands in these calls, so that what they cost to prove is
+//! paid once.
 #![tactic(auto)]
 
 pub use closing::closed;
 pub use connecting::{connected, options};
-pub use database_file::{close_store, open_store};
+pub use database_file::{close_store, find_store, open_store};
 
 mod closing;
 mod connecting;
 mod database_file;
+mod finding;
 mod lost_part;

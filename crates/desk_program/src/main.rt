@@ -3,7 +3,8 @@
 
 use crate::runs::Asked;
 use command_line::{ArgFault, Line};
-use desk_cli::{check, describe, replay, straighten};
+use desk_check::check;
+use desk_cli::{describe, replay, straighten};
 use desk_console::{Input, Listed, Status};
 use std::env;
 use std::fs::{self, File};
@@ -12,6 +13,7 @@ use std::os::fd::AsRawFd;
 use std::process::ExitCode;
 use store_runs::Serving;
 
+mod checks;
 mod runs;
 
 /// The null device, opened for reading, where it gets the number of a standard descriptor that is closed. Where no
@@ -125,7 +127,18 @@ fn refuse_unread(rt: &HostRuntime, error: &io::Error) -> Status {
 
 fn run(rt: &HostRuntime, words: &[String]) -> io::Result<Status> {
     match Line::of(rt.alloc(), words) {
-        Ok(Line::Check { file }) => run_check(rt, file),
+        Ok(
+            Line::Check {
+                file,
+                database: None,
+            },
+        ) => run_check(rt, file),
+        Ok(
+            Line::Check {
+                file,
+                database: Some(database),
+            },
+        ) => checks::run(rt, file, database),
         Ok(Line::Describe { file }) => run_describe(rt, file),
         Ok(Line::Replay { file, deliveries }) => run_replay(rt, file, deliveries),
         Ok(Line::Straighten { file, deliveries }) => run_straighten(rt, file, deliveries),

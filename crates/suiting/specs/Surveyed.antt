@@ -1,10 +1,12 @@
 -- What a survey of the tables tells.
-use Rattle.std.specs.Prelude.{◌≡◌, ℕ, List, length}
+use Rattle.std.specs.Prelude.{◌≡◌, ℕ, List, false, length}
 use Rattle.std.specs.List.{AllZip, sum_by}
 use Rattle.building.specs.Building.{Building}
 use Rattle.dates.specs.declared.entry.Entry.{Entry}
 use Rattle.store.specs.declared.names.Names.{Names}
-use Rattle.store.specs.Listed.{AreEntries, AreNames}
+use Rattle.store.specs.Asked.Asked.{AnyName, LastTick, NextOf, ShownBy}
+use Rattle.store.specs.Listed.{AreEntries, AreNames, HasPanel, HasSchedule}
+use Rattle.store.specs.Standing.{Standing}
 use Rattle.store.specs.Tables.{Tables, Text}
 use Rattle.suiting.specs.declared.finding.Finding.{Finding}
 use Rattle.suiting.specs.declared.holdings.Holdings.{Holdings}
@@ -29,3 +31,10 @@ pub record IsSurvey (building : Building) (tables : Tables) (findings : List Fin
   pub are_names : AreNames tables names
   pub found : findings ≡ findings_of building tables.places tables.last_tick names
   pub held : AreHeld tables names holdings
+
+-- of the rows of names, of the last tick, of the panels' next numbers and of what the schedules show each can stand
+pub record HaveStood (standing : Standing) : Type 0 where
+  pub names : standing.cannot_stand AnyName ≡ false
+  pub last : standing.cannot_stand LastTick ≡ false
+  pub nexts : (panel : Text) → HasPanel standing.content.tables panel → standing.cannot_stand (NextOf panel) ≡ false
+  pub shown : (schedule : Text) → HasSchedule standing.content.tables schedule → standing.cannot_stand (ShownBy schedule) ≡ false

@@ -3,7 +3,7 @@ ghost use Rattle.std.specs.Prelude.{◌≡◌, IfOk};
 ghost use Rattle.std.specs.Result.{result_err};
 ghost use Rattle.store.specs.Standing.{IsOpen, Reads};
 ghost use Rattle.suiting.specs.Findings.{findings_of};
-ghost use Rattle.suiting.specs.Surveyed.{AreHeld, IsSurvey};
+ghost use Rattle.suiting.specs.Surveyed.{AreHeld, HaveStood, IsSurvey};
 
 use crate::finding::Finding;
 use crate::holdings::Holdings;
@@ -60,7 +60,8 @@ fn findings_of<S: Store>(
 }
 
 /// Looks over the tables of a store beside a building, and tells exactly what does not suit it. A fault is told as the
-/// store tells it, so a row that is read and cannot stand is S5. The store is only read.
+/// store tells it, so a row that is read and cannot stand is S5; where none is told, those of names, of the last tick, of
+/// next numbers and of what schedules show can stand. The store is only read.
 pub fn survey_tables<S: Store>(
     alloc: Global,
     store: &mut S,
@@ -69,6 +70,7 @@ pub fn survey_tables<S: Store>(
     ensures reads { Reads (result_err result) (S.standing store.old) (S.standing store.new) }
     ensures found { (S.standing store.new).is_honest → IfOk result (λ survey.
         IsSurvey building.now (S.standing store.old).content.tables survey.findings.items survey.holdings) }
+    ensures stood { (S.standing store.new).is_honest → IfOk result (λ survey. HaveStood (S.standing store.old)) }
 {
     let names = store.names()?;
     let last = store.last_tick()?;

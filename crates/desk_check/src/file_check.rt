@@ -6,15 +6,15 @@ ghost use Rattle.building.specs.Building.{contents_of};
 ghost use Rattle.building.specs.BuildingFile.{building_of};
 ghost use Rattle.building.specs.Steps.{result_map};
 ghost use Rattle.desk_console.specs.Input.{bytes_of};
-ghost use Rattle.desk_cli.specs.Check.{Checks, counts_line, ok_line};
+ghost use Rattle.desk_check.specs.FileCheck.{Checks, counts_line, ok_line};
 
 use building::Building;
 use desk_console::{Input, RunFault, Status, flush, print_text, read_building};
 use std::alloc::{AllocError, Global};
 use std::io::{Read, Write};
 
-/// Reads the building of a file, and prints how many points, panels, calendars and schedules it has. A fault
-/// is told on `fault` as one line.
+/// Reads the building of a file, and prints how many points, panels, calendars and schedules it has: `desk check FILE`. A
+/// fault is told on `fault` as one line.
 pub fn check<B: Read + Drop, W: Write, F: Write>(
     alloc: Global,
     file: Input<'_, B>,
@@ -60,7 +60,7 @@ fn print_counts<'a, W: Write>(
 }
 
 /// How many points, panels, calendars and schedules the building has, as a line.
-fn ok_line(alloc: Global, building: &Building) -> Result<String, AllocError>
+pub(crate) fn ok_line(alloc: Global, building: &Building) -> Result<String, AllocError>
     ensures { IfOk result (λ line. string_bytes line ≡ ok_line (contents_of building.now)) }
 {
     counts_line(

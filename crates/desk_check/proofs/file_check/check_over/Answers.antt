@@ -1,7 +1,7 @@
 use Rattle.std.proofs.Common.{Result, Ok, Err}
 use Rattle.std.specs.Prelude.{OnOk}
 use Rattle.building.specs.Building.{contents_of}
-use Rattle.desk_cli.proofs.check_run.check_over.Goals as goal
+use Rattle.desk_check.proofs.file_check.check_over.Goals as goal
 
 on_ok : {T E : Type 0} (r : Result T E) (P Q : Type 0) → (P → Q) → OnOk r P → OnOk r Q
 on_ok {T} {E} (Ok x) P Q f p = f p

@@ -1,4 +1,4 @@
--- What a check prints.
+-- What the check of a building file prints.
 use Rattle.std.specs.Prelude.{◌≡◌, ℕ, List, ◌++◌, codes, decimal, length, Option, Ok}
 use Rattle.std.specs.Io.KnownBytes.{Appends}
 use Rattle.building.specs.BuildingFile.{Contents, building_of}

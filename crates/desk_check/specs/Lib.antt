@@ -1,0 +1,2 @@
+pub mod DatabaseCheck
+pub mod FileCheck
