@@ -19,6 +19,10 @@ stands_at : {A : Type 0} (has : Bool) (here none now : A) → now ≡ cond has h
 stands_at true here none now is stands = refl
 stands_at false here none now is stands = absurd (stands is)
 
+none_at : {A : Type 0} (has : Bool) (here now : Option A) → now ≡ cond has here None → has ≡ false → now ≡ None
+none_at true here now is other = absurd (false≢true (sym other))
+none_at false here now is other = is
+
 nothing : {A : Type 0} (o : Option A) → o ≡ None → IsSome o → ⊥
 nothing o none some = false≢true (sym (ap is_some none) ∙ some)
 
@@ -36,7 +40,7 @@ pub points-known : (building : Building) (renamings : List Renaming) (old new : 
 points-known building renamings old new is name has = elim (cases_Bool (has_point building name)) [
   | inl known ↦ known
   | inr other ↦ absurd (has (same_map nat_cmp_total nat_cmp-IsAntisymmetric (new.places name) empty (λ p.
-      is.places name p ∙ ap (λ b. cond b _ None) other ∙ sym (get-empty nat_cmp p))))
+      none_at (has_point building name) _ (get (new.places name) p) (is.places name p) other ∙ sym (get-empty nat_cmp p))))
 ]
 
 pub schedules-known : (building : Building) (renamings : List Renaming) (old new : Tables) → IsAdopted building renamings old new → (name : Text)

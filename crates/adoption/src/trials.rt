@@ -112,7 +112,10 @@ fn earlier(alloc: Global) -> Result<Change, Fail> {
 /// The tables of the changed building.
 fn adopted(rt: &impl Abort, alloc: Global) -> Result<MemStore, Fail> {
     let building = Building::read(alloc, CHANGED.as_bytes())?;
-    let renamings = [renaming("R101", "ROOM-101")?, renaming("EAST", "EAST-DOOR")?];
+    let renamings = [
+        renaming("R101", "ROOM-101")?,
+        renaming("EAST", "EAST-DOOR")?,
+    ];
     let mut from = MemStore::new(alloc);
     from.commit(&earlier(alloc)?)?;
     let mut into = MemStore::new(alloc);
@@ -125,13 +128,22 @@ fn adopted(rt: &impl Abort, alloc: Global) -> Result<MemStore, Fail> {
 fn places_that_something_writes_stay(rt: HostRuntime) -> Result<(), Fail> {
     let mut store = adopted(&rt, rt.alloc())?;
     let room = store.array(&Name::read("ROOM-101")?)?;
-    assert!(rt; room.value_at(8) == Some(2150), "the room's value of its panel");
+    assert!(rt;
+        room.value_at(8) == Some(2150),
+        "the room's value of its panel"
+    );
     assert!(rt; room.value_at(9).is_none(), "nothing writes at 9");
-    assert!(rt; room.value_at(15).is_none(), "90 degrees lie outside the kind");
+    assert!(rt;
+        room.value_at(15).is_none(),
+        "90 degrees lie outside the kind"
+    );
     let light = store.array(&Name::read("LIGHT")?)?;
     assert!(rt; light.value_at(10) == Some(1), "the light's value");
     let names = store.names()?;
-    assert!(rt; names.points.len() == 2 && names.schedules.is_empty(), "two points, and every schedule is quiet");
+    assert!(rt;
+        names.points.len() == 2 && names.schedules.is_empty(),
+        "two points, and every schedule is quiet"
+    );
     Ok(())
 }
 
@@ -140,10 +152,22 @@ fn numbers_answers_and_holidays_come_along(rt: HostRuntime) -> Result<(), Fail> 
     let mut store = adopted(&rt, rt.alloc())?;
     let panel = Name::read("EAST-DOOR")?;
     assert!(rt; store.panel_next(&panel)? == 3, "the panel's next number");
-    assert!(rt; store.command(&panel, 2)?.is_some(), "the answer to its command");
-    assert!(rt; store.entries(&Name::read("HOLIDAYS")?)?.len() == 1, "the imported day");
-    assert!(rt; store.last_tick()? == Some(174_884_400_000), "the last tick");
+    assert!(rt;
+        store.command(&panel, 2)?.is_some(),
+        "the answer to its command"
+    );
+    assert!(rt;
+        store.entries(&Name::read("HOLIDAYS")?)?.len() == 1,
+        "the imported day"
+    );
+    assert!(rt;
+        store.last_tick()? == Some(174_884_400_000),
+        "the last tick"
+    );
     let names = store.names()?;
-    assert!(rt; names.panels.len() == 1 && names.calendars.len() == 1, "one panel and one calendar");
+    assert!(rt;
+        names.panels.len() == 1 && names.calendars.len() == 1,
+        "one panel and one calendar"
+    );
     Ok(())
 }
