@@ -13,6 +13,8 @@ import tempfile
 import tomllib
 
 ROUNDS = 150
+# The header of a log and that of a frame.
+LEAST_LOG = 32 + 24
 SECONDS = 60
 POINTS = ["AHU-MODE", "LIGHT", "R101", "R101-SET", "r101.a", "STAIR_2"]
 PANELS = ["P1", "P10", "P2", "p1"]
@@ -132,8 +134,9 @@ def wanted(building, held):
 
 
 def content_of(folder):
-    """What each file holds; a log that is made beside a database holds nothing."""
-    return {path.name: path.read_bytes() for path in folder.iterdir() if path.stat().st_size > 0}
+    """What each file holds, but for a log that has no frame, as one that is made beside a database."""
+    held = {path.name: path.read_bytes() for path in folder.iterdir()}
+    return {name: content for name, content in held.items() if not name.endswith("-wal") or len(content) >= LEAST_LOG}
 
 
 def difference(program, rng, folder):

@@ -1,4 +1,4 @@
-use Rattle.std.proofs.Common.{◌≡◌, subst}
+use Rattle.std.proofs.Common.{subst}
 use Rattle.store.specs.Tables.{Tables}
 use Rattle.desk_check.specs.DatabaseCheck.{Tells}
 use Rattle.desk_check.proofs.database_check.check_over.Goals as goal
