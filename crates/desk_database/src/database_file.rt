@@ -154,7 +154,8 @@ pub fn open_store(rt: &HostRuntime, path: &str) -> Result<SqlStore<FileStore<Fil
     let Ok(state) = RandomState::new(rt) else {
         return Err(OpenFault::Failed);
     };
-    let options = options(state.hash_one(&0u8), pages_of(told_size(rt, path)));
+    let pages = pages_of(told_size(rt, path).unwrap_or(0));
+    let options = options(state.hash_one(&0u8), pages);
     begun_or_opened(rt.alloc(), files, options)
 }
 

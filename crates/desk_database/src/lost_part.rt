@@ -15,15 +15,13 @@ const LARGEST_PAGE: u64 = 65_536;
 /// The least length of a log with a frame: its header, and that of a frame.
 const LEAST_LOG: u64 = 32 + 24;
 
-/// What the header of a database file tells of the size of its pages; 0 where there is none.
-pub(crate) fn told_size(rt: &HostRuntime, path: &str) -> u16 {
+/// What the header of a database file tells of the size of its pages; 0 where it has none.
+pub(crate) fn told_size(rt: &HostRuntime, path: &str) -> io::Result<u16> {
     let mut header = [0u8; HEADER];
-    match fs::open(rt, path) {
-        Ok(mut file) => match file.read_exact(&mut header) {
-            Ok(()) => u16::from_be_bytes([header[16], header[17]]),
-            Err(_) => 0,
-        },
-        Err(_) => 0,
+    let mut file = fs::open(rt, path)?;
+    match file.read_exact(&mut header) {
+        Ok(()) => Ok(u16::from_be_bytes([header[16], header[17]])),
+        Err(_) => Ok(0),
     }
 }
 
@@ -66,11 +64,19 @@ fn log_path(rt: &HostRuntime, path: &str) -> io::Result<String> {
     }
 }
 
+/// The bytes of a page at most of a database file of this length.
+fn page_at(rt: &HostRuntime, path: &str, database: u64) -> io::Result<u64> {
+    if database == 0 {
+        return Ok(LARGEST_PAGE);
+    }
+    Ok(page_bytes(told_size(rt, path)?))
+}
+
 /// Whether a part of the database of a path is lost.
 fn lacks_part(rt: &HostRuntime, path: &str) -> io::Result<bool> {
     let database = length_at(rt, path)?.unwrap_or(0);
     let log = length_at(rt, &log_path(rt, path)?)?;
-    Ok(has_lost_part(database, page_bytes(told_size(rt, path)), log))
+    Ok(has_lost_part(database, page_at(rt, path, database)?, log))
 }
 
 /// Refuses the files of a path that have lost a part of a database, before they are opened: that makes what is missing,
