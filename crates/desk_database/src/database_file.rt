@@ -59,6 +59,15 @@ fn pages_of(told: u16) -> usize {
     }
 }
 
+/// How the database of a path is kept, under a random number of its own.
+fn options_at(rt: &HostRuntime, path: &str) -> Result<Options, OpenFault> {
+    let Ok(state) = RandomState::new(rt) else {
+        return Err(OpenFault::Failed);
+    };
+    let pages = pages_of(told_size(rt, path).unwrap_or(0));
+    Ok(options(state.hash_one(&0u8), pages))
+}
+
 /// The two files of a database, which are made where they are missing. A path that SQLite reads as no file's is refused.
 fn files_at<S: Start>(
     rt: &HostRuntime,
@@ -151,12 +160,7 @@ fn begun_or_opened<D: Disk + Drop>(
 pub fn open_store(rt: &HostRuntime, path: &str) -> Result<SqlStore<FileStore<File>>, OpenFault> {
     refuse_lost(rt, path)?;
     let files = files_at(rt, path, Unknown)?;
-    let Ok(state) = RandomState::new(rt) else {
-        return Err(OpenFault::Failed);
-    };
-    let pages = pages_of(told_size(rt, path).unwrap_or(0));
-    let options = options(state.hash_one(&0u8), pages);
-    begun_or_opened(rt.alloc(), files, options)
+    begun_or_opened(rt.alloc(), files, options_at(rt, path)?)
 }
 
 /// Closes a store (`closed`), and lets its files go.
@@ -179,9 +183,5 @@ pub fn find_store(
         return Ok(None);
     }
     let files = files_at(rt, path, Unknown)?;
-    let Ok(state) = RandomState::new(rt) else {
-        return Err(OpenFault::Failed);
-    };
-    let options = options(state.hash_one(&0u8), pages_of(told_size(rt, path)));
-    store_found(rt.alloc(), files, options)
+    store_found(rt.alloc(), files, options_at(rt, path)?)
 }
