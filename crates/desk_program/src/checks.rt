@@ -15,14 +15,7 @@ pub fn run<'a>(rt: &HostRuntime, file: &'a str, database: &'a str) -> io::Result
         reader: fs::open(rt, file),
     };
     let opener = || find_store(rt, database);
-    Ok(run_over(
-        rt,
-        building,
-        database,
-        opener,
-        &mut out,
-        &mut rt.stderr(),
-    ))
+    Ok(run_over(rt, building, database, opener, &mut out, &mut rt.stderr()))
 }
 
 /// The same over the file and the store that is found. It is generic over them, since a call that names their types is dear
