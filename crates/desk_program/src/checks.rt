@@ -3,8 +3,25 @@ use desk_check::check_database;
 use desk_console::{Input, Status};
 use desk_database::find_store;
 use std::fs;
-use std::io::{self, BufWriter, Read, Write};
+use std::io::{self, BufWriter, ErrorKind, Read, Write};
 use store::{OpenFault, Store};
+
+/// Whether there is no file at a path, or an empty one.
+fn is_nothing_at(rt: &HostRuntime, path: &str) -> bool {
+    match fs::metadata(rt, path) {
+        Ok(found) => found.len() == 0,
+        Err(error) => error.kind() == ErrorKind::NotFound,
+    }
+}
+
+/// A store that is found. A database that has no table at all is none that is known.
+fn one_of<S: Drop>(found: Result<Option<S>, OpenFault>) -> Result<S, OpenFault> {
+    match found {
+        Ok(Some(store)) => Ok(store),
+        Ok(None) => Err(OpenFault::UnknownTables),
+        Err(fault) => Err(fault),
+    }
+}
 
 /// Checks the tables in the database of a path beside the building of another. It is an error where memory for the
 /// output's buffer is refused.
@@ -14,8 +31,17 @@ pub fn run<'a>(rt: &HostRuntime, file: &'a str, database: &'a str) -> io::Result
         path: file,
         reader: fs::open(rt, file),
     };
-    let opener = || find_store(rt, database);
-    Ok(run_over(rt, building, database, opener, &mut out, &mut rt.stderr()))
+    let is_missing = is_nothing_at(rt, database);
+    let opener = || one_of(find_store(rt, database));
+    Ok(run_over(
+        rt,
+        building,
+        database,
+        is_missing,
+        opener,
+        &mut out,
+        &mut rt.stderr(),
+    ))
 }
 
 /// The same over the file and the store that is found. It is generic over them, since a call that names their types is dear
@@ -24,13 +50,23 @@ fn run_over<'a, B: Read + Drop, S: Store + Drop, O, W: Write, F: Write>(
     rt: &HostRuntime,
     building: Input<'a, B>,
     database: &'a str,
+    is_missing: bool,
     opener: O,
     out: &mut W,
     fault: &mut F,
 ) -> Status
 where
-    O: FnOnce() -> Result<Option<S>, OpenFault>,
+    O: FnOnce() -> Result<S, OpenFault>,
     requires { O.IsAlwaysCallable opener }
 {
-    check_database(rt.alloc(), building, database, opener, out, fault).status
+    let finder = || {
+        if is_missing {
+            return Ok(None);
+        }
+        match opener() {
+            Ok(store) => Ok(Some(store)),
+            Err(fault) => Err(fault),
+        }
+    };
+    check_database(rt.alloc(), building, database, finder, out, fault).status
 }
