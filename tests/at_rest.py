@@ -242,7 +242,20 @@ def a_beginning_that_was_stopped_is_taken_for_none(program, folder):
         expect_whole(room, "begun", (light(1),))
 
 
+def a_check_begins_nothing(program, folder):
+    """Beside a database of one page without its log it tells S2, and with a log of no length S4; the file stays."""
+    room = building_in(folder / "begun")
+    one_page(room, 1024)
+    page = (room / databases.NAME).read_bytes()
+    expect(run(program, room, "check", "building.toml", databases.NAME), Ended(b"", b"desk: store fault S2\n", 3))
+    expect([path.name for path in room.glob(databases.NAME + "*")], [databases.NAME])
+    (room / f"{databases.NAME}-wal").touch()
+    expect(run(program, room, "check", "building.toml", databases.NAME), Ended(b"", b"desk: store fault S4\n", 3))
+    expect((room / databases.NAME).read_bytes(), page)
+
+
 TESTS = (
+    a_check_begins_nothing,
     a_new_database_is_whole_after_a_report,
     a_tick_and_an_import_leave_it_whole,
     a_server_that_ends_leaves_it_whole,
