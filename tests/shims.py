@@ -47,12 +47,12 @@ class Refusing:
 
 
 class Trouble:
-    """What stops a run at the call of a number that changes its database, or has the call fail with an error."""
+    """What stops a run at the call of a number that changes the files of a database, or has the call fail with an error."""
 
-    def __init__(self, folder, at, error=None, goes_on=False, halves=False):
+    def __init__(self, folder, at, error=None, goes_on=False, halves=False, path="desk.db"):
         self.mark = folder / "met"
         self.mark.unlink(missing_ok=True)
-        settings = {"TROUBLE_AT": at, "TROUBLE_MARK": self.mark, "TROUBLE_PATH": "desk.db"}
+        settings = {"TROUBLE_AT": at, "TROUBLE_MARK": self.mark, "TROUBLE_PATH": path}
         settings |= {"TROUBLE_ERROR": int(error)} if error else {}
         settings |= ({"TROUBLE_ON": 1} if goes_on else {}) | ({"TROUBLE_HALF": 1} if halves else {})
         self.environment = environment("disk_trouble", **settings)

@@ -152,7 +152,7 @@ def the_places_of_a_point_are_told_with_who_may_write_them(program, folder, show
         shown.shows(ROWS, BY_HAND)
         shown.click("#points tr:first-child button")
         writers = {8: "panel P1", 9: "panel P2", 10: "panel P1", 15: f"panel P2, schedule {DAY}"}
-        uses = {1: "Manual Life Safety", 2: "Automatic Life Safety", 5: "Critical Equipment Control", 6: "Minimum On/Off",
+        uses = {1: "Manual-Life Safety", 2: "Automatic-Life Safety", 5: "Critical Equipment Control", 6: "Minimum On/Off",
                 8: "Manual Operator"}
         values = {8: "21.50", 15: "21.00"}
         shown.shows(PLACES, [[str(priority), uses.get(priority, "Available"), values.get(priority, "–"), writers.get(priority, "")]

@@ -7,7 +7,7 @@ const EVERY = 30_000;
 const SECONDS_OF_A_DAY = 86_400;
 const BY_HAND = 8;
 const USES = {
-  1: "Manual Life Safety", 2: "Automatic Life Safety", 5: "Critical Equipment Control",
+  1: "Manual-Life Safety", 2: "Automatic-Life Safety", 5: "Critical Equipment Control",
   6: "Minimum On/Off", 8: "Manual Operator",
 };
 
