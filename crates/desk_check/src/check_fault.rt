@@ -1,18 +1,28 @@
-//! Why a check of a database stopped.
+//! Why a check stopped.
 ghost use Rattle.std.specs.Prelude.{◌≡◌};
 
-use desk_console::{RunFault, Status};
+use building::FileFault;
+use desk_console::{RunFault, Status, print_fault};
 use std::alloc::{AllocError, Global};
+use std::fmt;
 use std::io::Write;
 use store::{OpenFault, StoreFault};
 
-/// Why a check of a database stopped.
-#[derive(Clone, Copy)]
+/// Why a check stopped.
+#[derive(Drop)]
 pub(crate) enum CheckFault<'a> {
     /// As any run stops.
     Run(RunFault<'a>),
+    /// The building file is at fault, and the fault is explained.
+    Explained {
+        fault: FileFault,
+        /// The line after the fault's, without its line end.
+        explanation: String,
+    },
     /// There is no database at this path.
-    NoDatabase { path: &'a str },
+    NoDatabase {
+        path: &'a str,
+    },
 }
 
 impl<'a> CheckFault<'a> {
@@ -32,44 +42,51 @@ impl<'a> CheckFault<'a> {
     {
         match self {
             CheckFault::Run(fault) => fault.status(),
-            CheckFault::NoDatabase { .. } => Status::Fault,
+            CheckFault::Explained { .. } | CheckFault::NoDatabase { .. } => Status::Fault,
         }
     }
 
-    /// Tells the fault as one line.
+    /// Tells the fault as one line, and its explanation as another.
     pub fn tell<F: Write>(&self, alloc: Global, out: &mut F) {
         match self {
             CheckFault::Run(fault) => fault.tell(alloc, out),
-            CheckFault::NoDatabase { path } => tell_none(alloc, path, out),
+            CheckFault::Explained { fault, explanation } => {
+                tell_explained(alloc, *fault, explanation.as_str(), out);
+            }
+            CheckFault::NoDatabase { path } => print_fault(alloc, &NoDatabase { path }, out),
         }
     }
 }
 
-/// A text in which each character that would end or hide a line is written as an escape.
-fn escaped(alloc: Global, text: &str) -> Result<String, AllocError> {
-    let mut escaped = String::new(alloc);
-    for character in text.chars() {
-        if character.is_control() {
-            write!(escaped, "{}", character.escape_default())?;
-        } else {
-            escaped.push(character)?;
+/// Tells a fault and its explanation: in one write, or where memory is refused for that, the fault's line alone.
+fn tell_explained<F: Write>(alloc: Global, fault: FileFault, explanation: &str, out: &mut F) {
+    match explained_lines(alloc, fault, explanation) {
+        Ok(lines) => {
+            let _told = out.write_all(lines.as_bytes());
         }
+        Err(_) => RunFault::Building(fault).tell(alloc, out),
     }
-    Ok(escaped)
 }
 
-/// Tells that there is no database at a path: in one write, or where memory is refused for that, piece by piece and with
-/// the path as it is.
-fn tell_none<F: Write>(alloc: Global, path: &str, out: &mut F) {
-    let _told = match none_line(alloc, path) {
-        Ok(line) => out.write_all(line.as_bytes()),
-        Err(_) => writeln!(out, "desk: no database at {path}"),
-    };
+fn explained_lines(
+    alloc: Global,
+    fault: FileFault,
+    explanation: &str,
+) -> Result<String, AllocError> {
+    let told = RunFault::Building(fault);
+    format!(in alloc; "{told}\n{explanation}\n")
 }
 
-fn none_line(alloc: Global, path: &str) -> Result<String, AllocError> {
-    let path = escaped(alloc, path)?;
-    format!(in alloc; "desk: no database at {path}\n")
+/// That there is no database at a path.
+#[derive(Clone, Copy)]
+struct NoDatabase<'a> {
+    path: &'a str,
+}
+
+impl fmt::Display for NoDatabase<'_> {
+    fn fmt<W: fmt::Write>(&self, f: &mut fmt::Formatter<W>) -> fmt::Result {
+        write!(f, "desk: no database at {}", self.path)
+    }
 }
 
 impl<'a> From<RunFault<'a>> for CheckFault<'a> {

@@ -7,9 +7,11 @@ ghost use Rattle.store.specs.Tables.{Tables};
 ghost use Rattle.desk_check.specs.DatabaseCheck.{Finds, IsChecked, Tells, status_of};
 
 use crate::check_fault::CheckFault;
+use crate::detail::Detail;
+use crate::explained::building_in;
 use crate::survey_text::survey_text;
 use building::Building;
-use desk_console::{Input, RunFault, Status, print_whole, read_building};
+use desk_console::{Input, RunFault, Status, print_whole};
 use std::alloc::Global;
 use std::io::{Read, Write};
 use store::{OpenFault, Store};
@@ -25,10 +27,12 @@ pub struct Checked<S> {
 /// Prints what of the tables of the store that is found does not suit the building of a file, a line each, with
 /// `Status::Fault`; where all suits, what the building has and what the tables hold: `desk check FILE DB`. The store is
 /// looked for after the building is read, and is only read. Where there is none, that is told on `fault` with the path of
-/// the database, as each fault is, as one line.
+/// the database, as each fault is, as one line; in detail a fault of the building file has a second line, which explains
+/// it: `desk check --explain FILE DB`.
 pub fn check_database<'a, B: Read + Drop, S: Store + Drop, O, W: Write, F: Write>(
     alloc: Global,
     file: Input<'a, B>,
+    detail: Detail,
     database: &'a str,
     opener: O,
     out: &mut W,
@@ -42,7 +46,7 @@ where
     ensures unchecked { result.store ≡ None → result.status ≡ Status.Done → ⊥ }
     ensures quiet { result.status ≡ Status.Done → Keeps (F.contents fault.old) (F.contents fault.new) }
 {
-    match check_over(alloc, file, database, opener, out) {
+    match check_over(alloc, file, detail, database, opener, out) {
         Ok((status, store)) => Checked {
             status,
             store: Some(store),
@@ -60,6 +64,7 @@ where
 fn check_over<'a, B: Read + Drop, S: Store + Drop, O, W: Write>(
     alloc: Global,
     file: Input<'a, B>,
+    detail: Detail,
     database: &'a str,
     opener: O,
     out: &mut W,
@@ -70,7 +75,7 @@ where
     ensures { IfOk result (λ told. (bytes : List ℕ) → bytes_of B.remaining file.entry.reader ≡ Some bytes
         → IsChecked S.standing (O.post opener) bytes told.0 told.1 (W.contents out.old) (W.contents out.new)) }
 {
-    let building = read_building(alloc, file)?;
+    let building = building_in(alloc, file, detail)?;
     let mut store = found(database, opener)?;
     let told = print_survey(alloc, &mut store, &building, out);
     let status = told?;

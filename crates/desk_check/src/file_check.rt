@@ -8,16 +8,21 @@ ghost use Rattle.building.specs.Steps.{result_map};
 ghost use Rattle.desk_console.specs.Input.{bytes_of};
 ghost use Rattle.desk_check.specs.FileCheck.{Checks, counts_line, ok_line};
 
+use crate::check_fault::CheckFault;
+use crate::detail::Detail;
+use crate::explained::building_in;
 use building::Building;
-use desk_console::{Input, RunFault, Status, flush, print_text, read_building};
+use desk_console::{Input, RunFault, Status, flush, print_text};
 use std::alloc::{AllocError, Global};
 use std::io::{Read, Write};
 
 /// Reads the building of a file, and prints how many points, panels, calendars and schedules it has: `desk check FILE`. A
-/// fault is told on `fault` as one line.
+/// fault is told on `fault` as one line; in detail a fault of the building file has a second line, which explains it:
+/// `desk check --explain FILE`.
 pub fn check<B: Read + Drop, W: Write, F: Write>(
     alloc: Global,
     file: Input<'_, B>,
+    detail: Detail,
     out: &mut W,
     fault: &mut F,
 ) -> Status
@@ -26,7 +31,7 @@ pub fn check<B: Read + Drop, W: Write, F: Write>(
         → Checks bytes (W.contents out.old) (W.contents out.new) }
     ensures quiet { result ≡ Status.Done → Keeps (F.contents fault.old) (F.contents fault.new) }
 {
-    match check_over(alloc, file, out) {
+    match check_over(alloc, file, detail, out) {
         Ok(()) => Status::Done,
         Err(end) => {
             end.tell(alloc, fault);
@@ -38,13 +43,15 @@ pub fn check<B: Read + Drop, W: Write, F: Write>(
 fn check_over<'a, B: Read + Drop, W: Write>(
     alloc: Global,
     file: Input<'a, B>,
+    detail: Detail,
     out: &mut W,
-) -> Result<(), RunFault<'a>>
+) -> Result<(), CheckFault<'a>>
     ensures { OnOk result ((bytes : List ℕ) → bytes_of B.remaining file.entry.reader ≡ Some bytes
         → Checks bytes (W.contents out.old) (W.contents out.new)) }
 {
-    let building = read_building(alloc, file)?;
-    print_counts(alloc, &building, out)
+    let building = building_in(alloc, file, detail)?;
+    print_counts(alloc, &building, out)?;
+    Ok(())
 }
 
 /// Prints how many points, panels, calendars and schedules the building has.

@@ -3,6 +3,7 @@
 ghost use Rattle.std.specs.Prelude.{◌≡◌};
 
 use crate::Status;
+use crate::fault_line::print_fault;
 use building::{BuildingFault, FileFault};
 use holidays::ImportFault;
 use std::alloc::{AllocError, Global};
@@ -55,29 +56,9 @@ impl<'a> RunFault<'a> {
         }
     }
 
-    /// The fault as one line with its line end (LF): a character in it that would end or hide the line is
-    /// written as an escape.
-    fn line(&self, alloc: Global) -> Result<String, AllocError> {
-        let text = self.to_string(alloc)?;
-        let mut line = String::new(alloc);
-        for character in text.chars() {
-            if character.is_control() {
-                write!(line, "{}", character.escape_default())?;
-            } else {
-                line.push(character)?;
-            }
-        }
-        line.push('\n')?;
-        Ok(line)
-    }
-
-    /// Tells the fault as one line: in one write, or where memory is refused for that, piece by piece and
-    /// with the path as it is.
+    /// Prints the fault as one line (`print_fault`).
     pub fn tell<F: Write>(&self, alloc: Global, out: &mut F) {
-        let _told = match self.line(alloc) {
-            Ok(line) => out.write_all(line.as_bytes()),
-            Err(_) => writeln!(out, "{self}"),
-        };
+        print_fault(alloc, self, out);
     }
 
     /// Why a file of this path is not read.

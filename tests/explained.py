@@ -1,0 +1,558 @@
+"""Tries `desk check --explain` on the building files of check_cases.py and on some of its own.
+
+Usage: explained.py PROGRAM
+
+A file at fault gets two lines: that of `desk check`, and one that names the item and says what is expected there. Of each
+file the item is found by a plain slow reading of its own, by the tables of docs/OPERATING.md; of the cases here the whole
+line is wanted as it is written. Of a file that is no TOML the line and the column are looked at. A good file gets what
+`desk check` prints. The last line is `N passed, M failed`.
+"""
+import datetime
+import pathlib
+import re
+import subprocess
+import sys
+import tempfile
+import tomllib
+from concurrent.futures import ThreadPoolExecutor
+
+import check_cases
+from check_cases import (
+    BINARY, DAY, EXCEPTION, HOLIDAYS, LIGHT, P2, SCHEDULE, SET, WEEK, ZONE, changed, entries, multi, points, targets, time_values,
+)
+from slow_schedules import WEEKDAYS
+from tables import WORKED
+
+DAYS = ["Monday", "Tuesday", "Wednesday", "Thursday", "Friday", "Saturday", "Sunday"]
+MOST_QUOTED = 60
+
+# ---- a plain slow reading that stops at the first fault
+
+
+class Found(Exception):
+    """A fault: its line, and what is said of the item before the colon."""
+
+    def __init__(self, line, item):
+        super().__init__(line)
+        self.line, self.item = line, item
+
+
+def quoted(text):
+    """A text as it is quoted: escaped, and cut where it is very long."""
+    escapes = {'"': '\\"', "\\": "\\\\", "\n": "\\n", "\r": "\\r", "\t": "\\t"}
+
+    def shown(character):
+        is_control = ord(character) < 32 or 127 <= ord(character) < 160
+        return escapes.get(character, f"\\u{{{ord(character):x}}}" if is_control else character)
+
+    return '"' + "".join(map(shown, text[:MOST_QUOTED])) + '"' + (".." if len(text) > MOST_QUOTED else "")
+
+
+def value_text(value):
+    if isinstance(value, bool):
+        return str(value).lower()
+    if isinstance(value, (datetime.date, datetime.time, datetime.datetime)):
+        return value.isoformat()
+    return {str: quoted, list: lambda _: "(a list)", dict: lambda _: "(a table)"}.get(type(value), repr)(value)
+
+
+def key_text(key):
+    return key if re.fullmatch("[A-Za-z0-9_-]+", key) else quoted(key)
+
+
+class Table:
+    """A table of the file, and where it stands."""
+
+    def __init__(self, section, place, table, exception=None):
+        self.section, self.place, self.table = section, place, table
+        self.exception = exception
+
+    def fault(self, cause, key, item):
+        told = key if self.exception is None or key == "?" else "exception"
+        prefix = "" if self.exception is None else f"exception[{self.exception}]."
+        raise Found(f"{cause} {self.section} {self.place} {told}", prefix + item)
+
+    def has_only(self, known):
+        for key in sorted(self.table, key=str.encode):
+            if key not in known.split():
+                self.fault("B2", "?", key_text(key))
+
+    def has_none(self, keys):
+        for key in keys.split():
+            if key in self.table:
+                self.fault("B2", "?", key)
+
+    def value(self, key, wanted):
+        if key not in self.table:
+            self.fault("B3", key, f"{key} is missing")
+        return self.typed(key, key, self.table[key], wanted)
+
+    def typed(self, key, path, value, wanted):
+        if type(value) is not wanted:
+            self.fault("B4", key, f"{path} {value_text(value)}")
+        return value
+
+    def items(self, key, path, value, most, wanted="items"):
+        listed = self.typed(key, path, value, list)
+        if len(listed) > most:
+            self.fault("B13", key, f"{path} has {len(listed)} {wanted}")
+        return listed
+
+    def tables(self, key, most):
+        listed = self.items(key, key, self.table.get(key, []), most, "tables")
+        return [self.typed(key, f"{key}[{at}]", item, dict) for at, item in enumerate(listed, 1)]
+
+
+def number_faults(text, limits):
+    return not (re.fullmatch(r"[0-9]{%d}" % len(str(limits[1])), text) and limits[0] <= int(text) <= limits[1])
+
+
+def date_fault(text):
+    parts = text.split("-")
+    if len(parts) != 3:
+        return "E1"
+    year, month, day = parts
+    if year != "*" and number_faults(year, (1900, 2154)):
+        return "E2"
+    if month not in ("odd", "even", "*") and number_faults(month, (1, 12)):
+        return "E3"
+    return "E4" if day not in ("last", "odd", "even", "*") and number_faults(day, (1, 31)) else None
+
+
+def end_fault(text):
+    if text == "*":
+        return None
+    fault = "E1" if "/" in text else date_fault(text)
+    if fault is None and not re.fullmatch("[0-9-]*", text):
+        fault = "E7"
+    if fault is None:
+        try:
+            datetime.date.fromisoformat(text)
+        except ValueError:
+            fault = "E4"
+    return fault
+
+
+def entry_fault(text):
+    if text.startswith("wnd:"):
+        parts = text[4:].split(":")
+        if len(parts) != 3:
+            return "E1"
+        month, week, weekday = parts
+        if month not in ("odd", "even", "*") and number_faults(month, (1, 12)):
+            return "E3"
+        if not re.fullmatch(r"[1-9]|\*", week):
+            return "E6"
+        return None if weekday in [*WEEKDAYS, "*"] else "E5"
+    if ".." in text:
+        start, end = text.split("..", 1)
+        return end_fault(start) or end_fault(end)
+    date, slash, weekday = text.partition("/")
+    return date_fault(date) or ("E5" if slash and weekday not in WEEKDAYS else None)
+
+
+class Reading:
+    """The building that was read so far."""
+
+    def __init__(self):
+        self.kinds, self.names = {}, {"point": [], "panel": [], "calendar": [], "schedule": []}
+
+    def file(self, tree):
+        top = Table("top", 0, tree)
+        top.has_only("zone point panel calendar schedule")
+        zone = top.value("zone", str)
+        if not re.fullmatch("[A-Za-z]{3,15}-?[0-9].*", zone):
+            top.fault("B12", "zone", f"zone {quoted(zone)}")
+        limits = {"point": 1000, "panel": 200, "calendar": 100, "schedule": 500}
+        tables = {section: top.tables(section, most) for section, most in limits.items()}
+        for section, read in [("point", self.point), ("panel", self.panel), ("calendar", self.calendar), ("schedule", self.schedule)]:
+            for place, table in enumerate(tables[section], 1):
+                read(Table(section, place, table))
+
+    def named(self, table, known):
+        table.has_only("name " + known)
+        name = table.value("name", str)
+        if not re.fullmatch("[A-Za-z0-9_.-]{1,32}", name):
+            table.fault("B5", "name", f"name {quoted(name)}")
+        if name in self.names[table.section]:
+            table.fault("B6", "name", f"name {quoted(name)}")
+        self.names[table.section].append(name)
+        return name
+
+    def point(self, table):
+        name = self.named(table, "kind states low high default")
+        kind = table.value("kind", str)
+        if kind == "binary":
+            table.has_none("states low high")
+            low, high = 0, 1
+        elif kind == "multi":
+            low, high = 1, self.within(table, "states", 1, 1000)
+            table.has_none("low high")
+        elif kind == "analog":
+            table.has_none("states")
+            low, high = (self.within(table, key, -(10**9), 10**9) for key in ("low", "high"))
+        else:
+            table.fault("B4", "kind", f"kind {quoted(kind)}")
+        if low > high:
+            table.fault("B11", "high", f"high {high}")
+        self.kinds[name] = low, high
+        default = table.value("default", int)
+        if not low <= default <= high:
+            table.fault("B11", "default", f"default {default}")
+
+    def within(self, table, key, least, most):
+        number = table.value(key, int)
+        if not least <= number <= most:
+            table.fault("B13", key, f"{key} {number}")
+        return number
+
+    def references(self, table, key, most):
+        listed = table.items(key, key, table.value(key, list), most)
+        for at, item in enumerate(listed, 1):
+            path = f"{key}[{at}] "
+            table.typed(key, path.rstrip(), item, str)
+            if item not in self.kinds:
+                table.fault("B7", key, path + quoted(item))
+            if item in listed[: at - 1]:
+                table.fault("B6", key, path + quoted(item))
+        return listed
+
+    def priority(self, table, key, path, value, refused=()):
+        number = table.typed(key, path, value, int)
+        if not 1 <= number <= 16 or number in refused:
+            table.fault("B10", key, f"{path} {number}")
+
+    def panel(self, table):
+        self.named(table, "points priorities")
+        self.references(table, "points", 10**9)
+        for at, number in enumerate(table.value("priorities", list), 1):
+            self.priority(table, "priorities", f"priorities[{at}]", number, (6,))
+
+    def entry(self, table, key, path, value):
+        fault = entry_fault(table.typed(key, path, value, str))
+        if fault:
+            table.fault(f"B8 {fault}", key, f"{path} {quoted(value)}")
+
+    def calendar(self, table):
+        self.named(table, "entries")
+        for at, entry in enumerate(table.items("entries", "entries", table.value("entries", list), 1000), 1):
+            self.entry(table, "entries", f"entries[{at}]", entry)
+
+    def times(self, table, key, path, value, kinds, day=""):
+        for at, item in enumerate(table.items(key, path + day, value, 100), 1):
+            where = f"{path}[{at}]{day}"
+            text = table.typed(key, where, item, str)
+            if not re.fullmatch(r"([01][0-9]|2[0-3]):[0-5][0-9](:[0-5][0-9](\.[0-9]{2})?)?=(NULL|-?[0-9]{1,11})", text):
+                table.fault("B9", key, f"{where} {quoted(text)}")
+            number = text.partition("=")[2]
+            if number != "NULL" and any(not low <= int(number) <= high for low, high in kinds):
+                table.fault("B11", key, f"{where} {quoted(text)}")
+
+    def schedule(self, table):
+        self.named(table, "period priority targets default weekly exception on_leave")
+        if "period" in table.table:
+            period = table.value("period", str)
+            fault = entry_fault(period) or (None if ".." in period else "E1")
+            if fault:
+                table.fault(f"B8 {fault}", "period", f"period {quoted(period)}")
+        self.priority(table, "priority", "priority", table.value("priority", int), (6,))
+        kinds = [self.kinds[name] for name in self.references(table, "targets", 100)]
+        if "default" in table.table:
+            default = table.value("default", int)
+            if any(not low <= default <= high for low, high in kinds):
+                table.fault("B11", "default", f"default {default}")
+        if "weekly" in table.table:
+            week = table.value("weekly", list)
+            if len(week) != 7:
+                table.fault("B4", "weekly", f"weekly has {len(week)} items")
+            for at, day in enumerate(week, 1):
+                self.times(table, "weekly", f"weekly[{at}]", day, kinds, f" ({DAYS[at - 1]})")
+        for at, exception in enumerate(table.tables("exception", 100), 1):
+            self.exception(Table("schedule", table.place, exception, at), kinds)
+        if "on_leave" in table.table and table.value("on_leave", str) not in ("stay", "release"):
+            table.fault("B4", "on_leave", f"on_leave {quoted(table.table['on_leave'])}")
+
+    def exception(self, table, kinds):
+        table.has_only("priority entry calendar times")
+        self.priority(table, "priority", "priority", table.value("priority", int))
+        if "calendar" not in table.table:
+            self.entry(table, "entry", "entry", table.value("entry", str))
+        elif "entry" in table.table:
+            table.fault("B2", "?", "calendar")
+        elif table.value("calendar", str) not in self.names["calendar"]:
+            table.fault("B7", "calendar", f"calendar {quoted(table.table['calendar'])}")
+        self.times(table, "times", "times", table.value("times", list), kinds)
+
+
+def first_fault(file):
+    """The line of the first fault of a file, and what is said of its item before the colon; None of a file without one."""
+    if len(file) > 1_048_576:
+        return "B13 top 0 -", "the file has more than 1048576 bytes"
+    try:
+        tree = tomllib.loads(file.decode("utf-8-sig").replace("\r\n", "\n"))
+    except (UnicodeDecodeError, tomllib.TOMLDecodeError):
+        return "B1 top 0 -", None
+    try:
+        Reading().file(tree)
+    except Found as found:
+        return found.line, found.item
+    return None
+
+
+# ---- lines that are wanted as they are written
+
+ZONE_RULE = "expected a POSIX rule of a time zone as text, as CET-1CEST,M3.5.0,M10.5.0/3 or UTC0"
+NAME = "expected a text of 1 to 32 ASCII letters, digits, -, _ and ."
+KIND = 'expected "binary", "multi" or "analog"'
+STATES = "expected a whole number from 1 to 1000"
+BOUND = "expected a whole number from -1000000000 to 1000000000"
+WRITTEN = "expected a whole number from 1 to 16, not 6"
+MINIMUM_TIMES = f"6 is for minimum on and off times alone; {WRITTEN}"
+FORMS = "an entry is Y-M-D, Y-M-D/W, A..B or wnd:M:K:W, as 2025-12-25, *-*-last/fri, 2025-12-24..2026-01-06 or wnd:*:1:mon"
+RANGE = "a period is a range A..B, each of A and B a date YYYY-MM-DD or *"
+VALUE = "the value is NULL, or has 1 to 11 digits after an optional -"
+POINT_KEYS = "no key of a point, which takes name, kind, states, low, high and default"
+SCHEDULE_KEYS = "no key of a schedule, which takes name, period, priority, targets, default, weekly, exception and on_leave"
+TIMES = 'times = ["00:00=1500"]'
+ENTRY = "2025-12-25"
+TWO = EXCEPTION.replace('calendar = "HOLIDAYS"', 'entry = "2025-12-24"')
+SECOND_EXCEPTION = [(EXCEPTION, TWO + EXCEPTION)]
+
+
+def second(old, new):
+    """A change in the second of two exceptions, the first of which has an entry."""
+    return [(EXCEPTION, TWO + EXCEPTION.replace(old, new))]
+
+
+def entry(text):
+    """A text as the third entry of a list."""
+    return [(f'entries = ["{ENTRY}"]', f'entries = ["{ENTRY}", "wnd:*:1:mon", "{text}"]')]
+
+
+def monday(text):
+    """A text as the second time value of Monday."""
+    return [('["08:00=2100"]', f'["08:00=2100", "{text}"]')]
+
+
+def period(text):
+    return [(DAY, f'{DAY}\nperiod = "{text}"')]
+
+
+EXPLAINED = [
+    # the top table
+    ("B1 top 0 -", 'line 1, column 8: ', [(ZONE, "zone = ")]),
+    ("B1 top 0 -", "line 2, column 1: duplicate key", [(ZONE, ZONE + "\n" + ZONE)]),
+    ("B2 top 0 ?", "site: no key of the file, which takes zone, point, panel, calendar and schedule", [(ZONE, ZONE + "\nsite = 1")]),
+    ("B2 top 0 ?", '"a \\"b\\" \\u{1b}\\né": no key of the file, which takes zone, point, panel, calendar and schedule',
+     [(ZONE, ZONE + '\n"a \\"b\\" \\u001b\\né" = 1')]),
+    ("B3 top 0 zone", f"zone is missing: {ZONE_RULE}", [(ZONE, "")]),
+    ("B4 top 0 zone", f"zone 1: {ZONE_RULE}", [(ZONE, "zone = 1")]),
+    ("B12 top 0 zone", f'zone "Europe/Berlin": {ZONE_RULE}', [(ZONE, 'zone = "Europe/Berlin"')]),
+    ("B4 top 0 point", "point (a table): expected tables, each under [[point]]", [(WORKED, ZONE + "\n[point]\n")]),
+    ("B4 top 0 point", "point[2] 2: expected a table under [[point]]", [(WORKED, ZONE + "\npoint = [{ name = 1 }, 2]")]),
+    ("B4 top 0 panel", "panel 1: expected tables, each under [[panel]]", [(WORKED, ZONE + "\npanel = 1")]),
+    ("B4 top 0 calendar", "calendar[1] 1: expected a table under [[calendar]]", [(WORKED, ZONE + "\ncalendar = [1]")]),
+    ("B4 top 0 schedule", 'schedule "x": expected tables, each under [[schedule]]', [(WORKED, ZONE + '\nschedule = "x"')]),
+    ("B13 top 0 point", "point has 1001 tables: at most 1000 are allowed", [(WORKED, ZONE + "\n" + points(1001))]),
+    ("B13 top 0 panel", "panel has 201 tables: at most 200 are allowed", [(WORKED, ZONE + "\n" + check_cases.panels(201))]),
+    ("B13 top 0 calendar", "calendar has 101 tables: at most 100 are allowed", [(WORKED, ZONE + "\n" + check_cases.calendars(101))]),
+    ("B13 top 0 schedule", "schedule has 501 tables: at most 500 are allowed", [(WORKED, ZONE + "\n" + check_cases.schedules(501))]),
+    # points
+    ("B2 point 1 ?", f"unit: {POINT_KEYS}", [(SET, SET + "\nunit = 1")]),
+    ("B2 point 2 ?", 'states: no key of a point whose kind is "binary", which takes name, kind and default', [(BINARY, BINARY + "high = 1\nstates = 2\n")]),
+    ("B2 point 2 ?", 'low: no key of a point whose kind is "multi", which takes name, kind, states and default', multi("3\nlow = 1")),
+    ("B2 point 1 ?", 'states: no key of a point whose kind is "analog", which takes name, kind, low, high and default', [("low = 500", "states = 3\nlow = 500")]),
+    ("B3 point 1 name", f"name is missing: {NAME}", [(SET, "[[point]]")]),
+    ("B4 point 1 name", f"name 1: {NAME}", [(SET, "[[point]]\nname = 1")]),
+    ("B5 point 2 name", 'name "": a name has at least one character', [(LIGHT, '[[point]]\nname = ""')]),
+    ("B5 point 2 name", 'name "A B": a name has letters, digits, `-`, `_` and `.` alone', [(LIGHT, '[[point]]\nname = "A B"')]),
+    ("B5 point 2 name", 'name "Zähler \\t\\"1\\" \\\\ \\u{85}\\u{7f}": a name has letters, digits, `-`, `_` and `.` alone',
+     [(LIGHT, '[[point]]\nname = "Zähler \\t\\"1\\" \\\\ \\u0085\\u007f"')]),
+    ("B5 point 2 name", 'name "' + "é" * 60 + '"..: a name has at most 32 characters', [(LIGHT, '[[point]]\nname = "' + "é" * 61 + '"')]),
+    ("B6 point 2 name", 'name "R101-SET": point 1 has this name already', [(LIGHT, SET)]),
+    ("B3 point 2 kind", f"kind is missing: {KIND}", [(BINARY, "")]),
+    ("B4 point 2 kind", f"kind 2: {KIND}", [(BINARY, "kind = 2\n")]),
+    ("B4 point 2 kind", f'kind "Binary": {KIND}', [(BINARY, 'kind = "Binary"\n')]),
+    ("B3 point 2 states", f"states is missing: {STATES}", [(BINARY, 'kind = "multi"\n')]),
+    ("B4 point 2 states", f'states "3": {STATES}', multi('"3"')),
+    ("B13 point 2 states", f"states 1001: {STATES}", multi(1001)),
+    ("B3 point 1 low", f"low is missing: {BOUND}", [("low = 500\n", "")]),
+    ("B4 point 1 low", f"low 5.0: {BOUND}", [("low = 500", "low = 5.0")]),
+    ("B13 point 1 low", f"low -1000000001: {BOUND}", [("low = 500", "low = -1000000001")]),
+    ("B3 point 1 high", f"high is missing: {BOUND}", [("high = 3500\n", "")]),
+    ("B11 point 1 high", "high 499: below low, which is 500", [("high = 3500", "high = 499")]),
+    ("B13 point 1 high", f"high 1000000001: {BOUND}", [("high = 3500", "high = 1000000001")]),
+    ("B3 point 2 default", "default is missing: expected a whole number, a value of the point's kind", [(BINARY + "default = 0", BINARY)]),
+    ("B4 point 2 default", "default false: expected a whole number, a value of the point's kind", [(BINARY + "default = 0", BINARY + "default = false")]),
+    ("B11 point 2 default", "default 2: 2 is outside 0 to 1, the values of LIGHT", [(BINARY + "default = 0", BINARY + "default = 2")]),
+    ("B11 point 2 default", "default 4: 4 is outside 1 to 3, the values of LIGHT", multi(3, 4)),
+    ("B11 point 1 default", "default 3501: 3501 is outside 500 to 3500, the values of R101-SET", [("default = 1800", "default = 3501")]),
+    # panels
+    ("B2 panel 2 ?", "room: no key of a panel, which takes name, points and priorities", [(P2, P2 + "\nroom = 1")]),
+    ("B6 panel 2 name", 'name "P1": panel 1 has this name already', [('"P2"', '"P1"')]),
+    ("B3 panel 2 points", "points is missing: expected a list of names of points", [('points = ["R101-SET"]\n', "")]),
+    ("B4 panel 2 points", "points 1: expected a list of names of points", [('points = ["R101-SET"]', "points = 1")]),
+    ("B4 panel 2 points", "points[2] 1: expected the name of a point as text", [('points = ["R101-SET"]', 'points = ["R101-SET", 1]')]),
+    ("B7 panel 2 points", 'points[2] "R102": no point of the file has this name', [('points = ["R101-SET"]', 'points = ["R101-SET", "R102"]')]),
+    ("B6 panel 2 points", 'points[3] "R101-SET": points[1] has this name already', [('points = ["R101-SET"]', 'points = ["R101-SET", "LIGHT", "R101-SET"]')]),
+    ("B3 panel 2 priorities", "priorities is missing: expected a list of whole numbers from 1 to 16, not 6", [("priorities = [9, 15]\n", "")]),
+    ("B4 panel 2 priorities", "priorities 9: expected a list of whole numbers from 1 to 16, not 6", [("priorities = [9, 15]", "priorities = 9")]),
+    ("B4 panel 2 priorities", f'priorities[2] "15": {WRITTEN}', [("priorities = [9, 15]", 'priorities = [9, "15"]')]),
+    ("B10 panel 2 priorities", f"priorities[2] 6: {MINIMUM_TIMES}", [("priorities = [9, 15]", "priorities = [9, 6]")]),
+    ("B10 panel 2 priorities", f"priorities[1] 17: {WRITTEN}", [("priorities = [9, 15]", "priorities = [17]")]),
+    # calendars
+    ("B2 calendar 1 ?", "year: no key of a calendar, which takes name and entries", [(HOLIDAYS, HOLIDAYS + "\nyear = 2025")]),
+    ("B3 calendar 1 entries", "entries is missing: expected a list of entries, each a text as 2025-12-25", [(f'entries = ["{ENTRY}"]\n', "")]),
+    ("B4 calendar 1 entries", "entries[1] 2025-12-25: expected an entry as text, as 2025-12-25", [(f'["{ENTRY}"]', f"[{ENTRY}]")]),
+    ("B13 calendar 1 entries", "entries has 1001 items: at most 1000 are allowed", [(f'entries = ["{ENTRY}"]', entries(1001))]),
+    ("B8 E1 calendar 1 entries", f'entries[3] "2025-12": {FORMS}', entry("2025-12")),
+    ("B8 E1 calendar 1 entries", 'entries[3] "wnd:1:2": a week of a month is wnd:M:K:W, as wnd:*:1:mon', entry("wnd:1:2")),
+    ("B8 E1 calendar 1 entries", 'entries[3] "2025-06-02..": at the end of the range, a date is YYYY-MM-DD, or * stands in its place', entry("2025-06-02..")),
+    ("B8 E2 calendar 1 entries", 'entries[3] "1899-12-25": a year has four digits, 1900 to 2154, or is *', entry("1899-12-25")),
+    ("B8 E2 calendar 1 entries", 'entries[3] "*..2155-01-01": at the end of the range, a year has four digits, 1900 to 2154', entry("*..2155-01-01")),
+    ("B8 E3 calendar 1 entries", 'entries[3] "2025-2-25": a month has two digits, 01 to 12, or is odd, even or *', entry("2025-2-25")),
+    ("B8 E3 calendar 1 entries", 'entries[3] "wnd:13:1:mon": a month has two digits, 01 to 12, or is odd, even or *', entry("wnd:13:1:mon")),
+    ("B8 E3 calendar 1 entries", 'entries[3] "2025-13-01..1899-01-01": at the start of the range, a month has two digits, 01 to 12', entry("2025-13-01..1899-01-01")),
+    ("B8 E4 calendar 1 entries", 'entries[3] "2025-12-32": a day has two digits, 01 to 31, or is last, odd, even or *', entry("2025-12-32")),
+    ("B8 E4 calendar 1 entries", 'entries[3] "2025-02-01..2025-02-30": at the end of the range, the calendar has no such day', entry("2025-02-01..2025-02-30")),
+    ("B8 E4 calendar 1 entries", 'entries[3] "2025-02-30..*": at the start of the range, the calendar has no such day', entry("2025-02-30..*")),
+    ("B8 E4 calendar 1 entries", 'entries[3] "*..2025-02-0": at the end of the range, a day has two digits, 01 to 31', entry("*..2025-02-0")),
+    ("B8 E5 calendar 1 entries", 'entries[3] "2025-12-25/Thu": a weekday is mon, tue, wed, thu, fri, sat or sun', entry("2025-12-25/Thu")),
+    ("B8 E5 calendar 1 entries", 'entries[3] "wnd:*:1:": a weekday is mon, tue, wed, thu, fri, sat, sun or *', entry("wnd:*:1:")),
+    ("B8 E6 calendar 1 entries", 'entries[3] "wnd:*:0:*": a week is 1 to 9, or *', entry("wnd:*:0:*")),
+    ("B8 E7 calendar 1 entries", 'entries[3] "2025-*-01..*": at the start of the range, year, month and day are each a number; * stands alone', entry("2025-*-01..*")),
+    # schedules
+    ("B2 schedule 1 ?", f"room: {SCHEDULE_KEYS}", [(DAY, DAY + "\nroom = 1")]),
+    ("B4 schedule 1 period", "period 2025: expected a range A..B as text, each of A and B a date YYYY-MM-DD or *", [(DAY, DAY + "\nperiod = 2025")]),
+    ("B8 E1 schedule 1 period", f'period "2025-06-01": {RANGE}', period("2025-06-01")),
+    ("B8 E1 schedule 1 period", f'period "June": {RANGE}', period("June")),
+    ("B8 E4 schedule 1 period", 'period "2025-06-31..*": at the start of the range, the calendar has no such day', period("2025-06-31..*")),
+    ("B3 schedule 1 priority", f"priority is missing: {WRITTEN}", [("priority = 15\n", "")]),
+    ("B4 schedule 1 priority", f'priority "15": {WRITTEN}', [("priority = 15", 'priority = "15"')]),
+    ("B10 schedule 1 priority", f"priority 6: {MINIMUM_TIMES}", [("priority = 15", "priority = 6")]),
+    ("B10 schedule 1 priority", f"priority 0: {WRITTEN}", [("priority = 15", "priority = 0")]),
+    ("B3 schedule 1 targets", "targets is missing: expected a list of names of points", [('targets = ["R101-SET"]\n', "")]),
+    ("B4 schedule 1 targets", 'targets "R101-SET": expected a list of names of points', [('targets = ["R101-SET"]', 'targets = "R101-SET"')]),
+    ("B7 schedule 1 targets", 'targets[2] "R102": no point of the file has this name', [('targets = ["R101-SET"]', 'targets = ["R101-SET", "R102"]')]),
+    ("B6 schedule 1 targets", 'targets[2] "R101-SET": targets[1] has this name already', [('targets = ["R101-SET"]', 'targets = ["R101-SET", "R101-SET"]')]),
+    ("B13 schedule 1 targets", "targets has 101 items: at most 100 are allowed", targets(101)),
+    ("B4 schedule 1 default", 'default "NULL": expected a whole number, a value of each target\'s kind', [("default = 1600", 'default = "NULL"')]),
+    ("B11 schedule 1 default", "default 499: 499 is outside 500 to 3500, the values of R101-SET", [("default = 1600", "default = 499")]),
+    ("B11 schedule 1 default", "default 1600: 1600 is outside 0 to 1, the values of LIGHT", [('targets = ["R101-SET"]', 'targets = ["R101-SET", "LIGHT"]')]),
+    ("B4 schedule 1 weekly", "weekly 1: expected seven lists of time values, Monday's first", [(WEEK, "weekly = 1")]),
+    ("B4 schedule 1 weekly", "weekly has 6 items: expected seven lists of time values, Monday's first", [(WEEK, "weekly = [[], [], [], [], [], []]")]),
+    ("B4 schedule 1 weekly", 'weekly[7] (Sunday) "": expected a list of time values, each a text as 08:00=2100', [(WEEK, 'weekly = [[], [], [], [], [], [], ""]')]),
+    ("B4 schedule 1 weekly", "weekly[7][1] (Sunday) 1: expected a time value as text, as 08:00=2100", [(WEEK, "weekly = [[], [], [], [], [], [], [1]]")]),
+    ("B13 schedule 1 weekly", "weekly[1] (Monday) has 101 items: at most 100 are allowed", [('["08:00=2100"]', time_values(101))]),
+    ("B9 schedule 1 weekly", 'weekly[1][2] (Monday) "8:00": a time value has = between its time and its value, as 08:00=2100', monday("8:00")),
+    ("B9 schedule 1 weekly", 'weekly[1][2] (Monday) "8:00=2100": the hours have two digits, 00 to 23', monday("8:00=2100")),
+    ("B9 schedule 1 weekly", 'weekly[7][1] (Sunday) "24:45=1900": the hours have two digits, 00 to 23', [("02:45=1900", "24:45=1900")]),
+    ("B9 schedule 1 weekly", 'weekly[1][2] (Monday) "08:60=2100": the minutes follow a colon and have two digits, 00 to 59', monday("08:60=2100")),
+    ("B9 schedule 1 weekly", 'weekly[1][2] (Monday) "08:00:60=1": the seconds, if any, follow a colon and have two digits, 00 to 59', monday("08:00:60=1")),
+    ("B9 schedule 1 weekly", 'weekly[1][2] (Monday) "08:00:00.5=1": the hundredths, if any, follow a point and have two digits, before the =', monday("08:00:00.5=1")),
+    ("B9 schedule 1 weekly", f'weekly[1][2] (Monday) "08:00=+1": {VALUE}', monday("08:00=+1")),
+    ("B9 schedule 1 weekly", f'weekly[1][2] (Monday) "08:00=-": {VALUE}', monday("08:00=-")),
+    ("B11 schedule 1 weekly", 'weekly[1][2] (Monday) "08:00=-1": -1 is outside 500 to 3500, the values of R101-SET', monday("08:00=-1")),
+    ("B4 schedule 1 on_leave", 'on_leave "drop": expected "stay" or "release"', [(SCHEDULE, SCHEDULE.replace(EXCEPTION, 'on_leave = "drop"\n'))]),
+    ("B4 schedule 1 on_leave", 'on_leave true: expected "stay" or "release"', [(SCHEDULE, SCHEDULE.replace(EXCEPTION, "on_leave = true\n"))]),
+    # exceptions
+    ("ok", "", SECOND_EXCEPTION),
+    ("B4 schedule 1 exception", "exception 1: expected tables, each under [[schedule.exception]]", [(EXCEPTION, "exception = 1\n")]),
+    ("B4 schedule 1 exception", "exception[2] 1: expected a table under [[schedule.exception]]", [(EXCEPTION, "exception = [{ priority = 17 }, 1]\n")]),
+    ("B13 schedule 1 exception", "exception has 101 tables: at most 100 are allowed", [(EXCEPTION, EXCEPTION * 101)]),
+    ("B2 schedule 1 ?", "exception[2].day: no key of an exception, which takes priority, entry or calendar, and times", second("times", "day = 1\ntimes")),
+    ("B2 schedule 1 ?", "exception[2].calendar: an exception has entry or calendar, not both", second("times", 'entry = "2025-12-24"\ntimes')),
+    ("B3 schedule 1 exception", "exception[2].priority is missing: expected a whole number from 1 to 16", second("priority = 5\n", "")),
+    ("B4 schedule 1 exception", "exception[2].priority 5.0: expected a whole number from 1 to 16", second("priority = 5", "priority = 5.0")),
+    ("B10 schedule 1 exception", "exception[2].priority 17: expected a whole number from 1 to 16", second("priority = 5", "priority = 17")),
+    ("B3 schedule 1 exception", "exception[2].entry is missing: expected an entry as text, as 2025-12-25, or calendar in its place", second('calendar = "HOLIDAYS"\n', "")),
+    ("B4 schedule 1 exception", "exception[2].entry 1: expected an entry as text, as 2025-12-25, or calendar in its place", second('calendar = "HOLIDAYS"', "entry = 1")),
+    ("B8 E3 schedule 1 exception", 'exception[2].entry "2025-00-01": a month has two digits, 01 to 12, or is odd, even or *', second('calendar = "HOLIDAYS"', 'entry = "2025-00-01"')),
+    ("B4 schedule 1 exception", "exception[2].calendar 1: expected the name of a calendar as text", second('"HOLIDAYS"', "1")),
+    ("B7 schedule 1 exception", 'exception[2].calendar "NONE": no calendar of the file has this name', second('"HOLIDAYS"', '"NONE"')),
+    ("B3 schedule 1 exception", "exception[2].times is missing: expected a list of time values, each a text as 08:00=2100", second(TIMES, "")),
+    ("B4 schedule 1 exception", "exception[2].times 1: expected a list of time values, each a text as 08:00=2100", second(TIMES, "times = 1")),
+    ("B4 schedule 1 exception", "exception[2].times[1] 1: expected a time value as text, as 08:00=2100", second(TIMES, "times = [1]")),
+    ("B13 schedule 1 exception", "exception[2].times has 101 items: at most 100 are allowed", second(TIMES, "times = " + time_values(101))),
+    ("B9 schedule 1 exception", 'exception[2].times[1] "8:00=2100": the hours have two digits, 00 to 23', second(TIMES, 'times = ["8:00=2100"]')),
+    ("B11 schedule 1 exception", 'exception[2].times[2] "09:00=4000": 4000 is outside 500 to 3500, the values of R101-SET', second(TIMES, 'times = ["08:00=NULL", "09:00=4000"]')),
+]
+
+# bytes, and the line that is wanted of them or its beginning
+BYTES = [
+    ("line 1, column 1: a byte that is not UTF-8", b"\xff"),
+    ("line 2, column 3: a byte that is not UTF-8", b"zone = 1\n\xc3\xa9 \xff"),
+    ("line 2, column 12: ", 'zone = "UTC0"\nname = "é" x'.encode()),
+    ("line 1, column 6: ", b"\xef\xbb\xbfzone x"),
+    ("line 3, column 4: ", b"a = 1\r\nb = 2\r\nc =\r\n"),
+    ("the file has more than 1048576 bytes: at most 1048576 are allowed", b"#" * 1_048_577),
+]
+
+
+# ---- the program
+
+
+def run(program, words, folder):
+    return subprocess.run([program, "check", *words, "building.toml"], cwd=folder, capture_output=True, timeout=60)
+
+
+def lines_told(program, file):
+    """What `check` and `check --explain` of a file end with and print."""
+    with tempfile.TemporaryDirectory() as folder:
+        (pathlib.Path(folder) / "building.toml").write_bytes(file)
+        return run(program, [], folder), run(program, ["--explain"], folder)
+
+
+def as_found(wanted, file, line):
+    """What the second line says other than what is found here, or nothing."""
+    found, item = first_fault(file)
+    if found != wanted:
+        return f"the slow reading has {found}"
+    if item is None:
+        return "" if re.match(r"line [1-9][0-9]*, column [1-9][0-9]*: .", line) else "no line and column"
+    return "" if line.startswith(f"{item}: ") and len(line) > len(item) + 2 else f"the slow reading has the item {item}"
+
+
+def difference(program, wanted, file, explained):
+    """What is printed other than what is wanted, or nothing."""
+    plain, ran = lines_told(program, file)
+    if wanted.startswith("ok"):
+        expected = [0, plain.stdout, b""]
+        return "" if [ran.returncode, ran.stdout, ran.stderr] == expected and plain.stdout else f"{ran}, wanted {expected}"
+    lines = ran.stderr.decode().split("\n")
+    if [ran.returncode, ran.stdout, lines[0], len(lines), lines[-1]] != [1, b"", f"desk: {wanted}", 3, ""]:
+        return f"{ran}, wanted {wanted} and one line more"
+    if plain.stderr != f"desk: {wanted}\n".encode():
+        return f"without --explain {plain.stderr}"
+    if not lines[1].isprintable():
+        return f"characters that are not printed: {lines[1]!r}"
+    if explained is not None and not (lines[1] == explained or explained.endswith(": ") and lines[1].startswith(explained)):
+        return f"{lines[1]!r}, wanted {explained!r}"
+    return (told := as_found(wanted, file, lines[1])) and f"{lines[1]!r}: {told}"
+
+
+def all_cases():
+    """The fault's line or `ok`, the bytes of the file, the line that explains it where it is written here, and a name."""
+    for wanted, file, told in check_cases.all_cases():
+        yield wanted, file, None, told
+    for wanted, explained, changes in EXPLAINED:
+        yield wanted, changed(changes), explained, explained or wanted
+    for explained, file in BYTES:
+        yield first_fault(file)[0], file, explained, explained
+
+
+def main():
+    program = str(pathlib.Path(sys.argv[1]).resolve())
+    cases = list(all_cases())
+    with ThreadPoolExecutor() as pool:
+        found = list(pool.map(lambda case: difference(program, *case[:3]), cases))
+    for (*_, told), each in zip(cases, found):
+        if each:
+            print(f"FAILED {told}: {each[:2000]}")
+    failed = sum(map(bool, found))
+    print(f"{len(cases) - failed} passed, {failed} failed")
+    sys.exit(bool(failed))
+
+
+if __name__ == "__main__":
+    main()
