@@ -39,9 +39,13 @@ database_app name last = with_rule (with_rule (file_app name) (needed_rule (code
 abbrev pub looked_over_rule : Rule
 looked_over_rule = record (new_rule (codes "database")) { value_names = 1 }
 
--- `check FILE [DB]`
+-- a flag, by its name
+abbrev pub flag_rule : Text → Rule
+flag_rule name = record (new_rule name) { long = Some name; action = Some SetTrue }
+
+-- `check FILE [DB] [--explain]`
 abbrev pub check_app : App
-check_app = with_rule (file_app (codes "check")) looked_over_rule
+check_app = with_rule (with_rule (file_app (codes "check")) looked_over_rule) (flag_rule (codes "explain"))
 
 -- `describe FILE`
 abbrev pub describe_app : App
@@ -51,9 +55,21 @@ describe_app = file_app (codes "describe")
 abbrev pub deliveries_app : Text → App
 deliveries_app name = with_rule (file_app name) (needed_rule (codes "deliveries"))
 
--- `replay FILE DELIVERIES`
+-- a moment up to which a list is read
+abbrev pub until_rule : Rule
+until_rule = record (new_rule (codes "until")) {
+  long = Some (codes "until");
+  parser = Some (vp.Signed (negsuc 9223372036854775807) (pos 9223372036854775807));
+  value_names = 1;
+}
+
+-- `replay FILE DELIVERIES [--until AT]`
 abbrev pub replay_app : App
-replay_app = deliveries_app (codes "replay")
+replay_app = with_rule (deliveries_app (codes "replay")) until_rule
+
+-- `why FILE DELIVERIES POINT [--until AT]`
+abbrev pub why_app : App
+why_app = with_rule (with_rule (deliveries_app (codes "why")) (needed_rule (codes "point"))) until_rule
 
 -- `straighten FILE DELIVERIES`
 abbrev pub straighten_app : App
@@ -71,24 +87,21 @@ tick_app = database_app (codes "tick") (number_rule (codes "at"))
 abbrev pub report_app : App
 report_app = database_app (codes "report") (needed_rule (codes "date"))
 
--- an option with a number from 1 to 1,000,000, and a flag
+-- an option with a number from 1 to 1,000,000
 abbrev pub requests_rule : Rule
 requests_rule = record (needed_rule (codes "requests")) { long = Some (codes "requests"); parser = Some (vp.Unsigned 1 1_000_000) }
-
-abbrev pub clock_rule : Rule
-clock_rule = record (new_rule (codes "clock")) { long = Some (codes "clock"); action = Some SetTrue }
 
 -- `serve FILE DB ADDRESS --requests N [--clock]`
 abbrev pub serve_app : App
 serve_app = with_rule (with_rule
-    (database_app (codes "serve") (needed_rule (codes "address"))) requests_rule) clock_rule
+    (database_app (codes "serve") (needed_rule (codes "address"))) requests_rule) (flag_rule (codes "clock"))
 
 -- `desk`, which needs a subcommand
 abbrev pub desk_app : App
 desk_app =
     with_subcommand (with_subcommand (with_subcommand (with_subcommand (with_subcommand (with_subcommand (with_subcommand
-    (with_subcommand (on_top (λ s. record s { subcommand_required = true }) (new_app (codes "desk"))) check_app.top)
-    describe_app.top) replay_app.top) straighten_app.top) import_app.top) tick_app.top) report_app.top) serve_app.top
+    (with_subcommand (with_subcommand (on_top (λ s. record s { subcommand_required = true }) (new_app (codes "desk"))) check_app.top)
+    describe_app.top) replay_app.top) why_app.top) straighten_app.top) import_app.top) tick_app.top) report_app.top) serve_app.top
 
 -- what is made, if memory is had, is the command `app`, with no argument for its subcommands too
 abbrev pub Makes : {E : Type 0} → App → Result Command E → Type 0
@@ -98,9 +111,10 @@ Makes app r = IfOk r (λ c. (app_of c ≡ app) × ((fields_of c).has_globals ≡
 
 -- what a line asks, with the texts that it names
 pub data Asked : Type 0 where
-  Check : (file : Text) → (database : Option Text) → Asked
+  Check : (file : Text) → (database : Option Text) → (explain : Bool) → Asked
   Describe : (file : Text) → Asked
-  Replay : (file : Text) → (deliveries : Text) → Asked
+  Replay : (file : Text) → (deliveries : Text) → (until : Option ℤ) → Asked
+  Why : (file : Text) → (deliveries : Text) → (point : Text) → (until : Option ℤ) → Asked
   Straighten : (file : Text) → (deliveries : Text) → Asked
   Import : (file : Text) → (database : Text) → (holidays : Text) → Asked
   Tick : (file : Text) → (database : Text) → (at : ℤ) → Asked
@@ -108,9 +122,10 @@ pub data Asked : Type 0 where
   Serve : (file : Text) → (database : Text) → (address : Text) → (requests : ℕ) → (clock : Bool) → Asked
 
 abbrev pub asked_of : Line → Asked
-asked_of (line.Check file database) = Check file.now (option_map (λ path. path.now) database)
+asked_of (line.Check file database explain) = Check file.now (option_map (λ path. path.now) database) explain
 asked_of (line.Describe file) = Describe file.now
-asked_of (line.Replay file deliveries) = Replay file.now deliveries.now
+asked_of (line.Replay file deliveries until) = Replay file.now deliveries.now until
+asked_of (line.Why file deliveries point until) = Why file.now deliveries.now point.now until
 asked_of (line.Straighten file deliveries) = Straighten file.now deliveries.now
 asked_of (line.Import file database holidays) = Import file.now database.now holidays.now
 asked_of (line.Tick file database at) = Tick file.now database.now at
@@ -137,14 +152,22 @@ is_told (Some text) = bytes_eq text (codes "true")
 is_told None = false
 
 abbrev pub check_in : List Row → Option Asked
-check_in rows = option_map (λ file. Check file (first_of (codes "database") rows)) (first_of (codes "file") rows)
+check_in rows = option_map (λ file. Check file (first_of (codes "database") rows) (is_told (first_of (codes "explain") rows)))
+    (first_of (codes "file") rows)
 
 abbrev pub describe_in : List Row → Option Asked
 describe_in rows = option_map Describe (first_of (codes "file") rows)
 
+abbrev pub until_in : List Row → Option ℤ
+until_in rows = option_and_then moment_in (first_of (codes "until") rows)
+
 abbrev pub replay_in : List Row → Option Asked
-replay_in rows = option_and_then (λ file. option_map (λ deliveries. Replay file deliveries)
+replay_in rows = option_and_then (λ file. option_map (λ deliveries. Replay file deliveries (until_in rows))
     (first_of (codes "deliveries") rows)) (first_of (codes "file") rows)
+
+abbrev pub why_in : List Row → Option Asked
+why_in rows = option_and_then (λ file. option_and_then (λ deliveries. option_map (λ point. Why file deliveries point (until_in rows))
+    (first_of (codes "point") rows)) (first_of (codes "deliveries") rows)) (first_of (codes "file") rows)
 
 abbrev pub straighten_in : List Row → Option Asked
 straighten_in rows = option_and_then (λ file. option_map (λ deliveries. Straighten file deliveries)
@@ -178,11 +201,12 @@ asked_in (name, rows) =
     if bytes_eq name (codes "check") then check_in rows
     else (if bytes_eq name (codes "describe") then describe_in rows
     else (if bytes_eq name (codes "replay") then replay_in rows
+    else (if bytes_eq name (codes "why") then why_in rows
     else (if bytes_eq name (codes "straighten") then straighten_in rows
     else (if bytes_eq name (codes "import") then import_in rows
     else (if bytes_eq name (codes "tick") then tick_in rows
     else (if bytes_eq name (codes "report") then report_in rows
-    else (if bytes_eq name (codes "serve") then serve_in rows else None)))))))
+    else (if bytes_eq name (codes "serve") then serve_in rows else None))))))))
 
 -- what the words ask, the program's name first
 abbrev pub asked : List Text → Option Asked

@@ -6,12 +6,12 @@ ghost use Rattle.clap.specs.Words.{App, HasKind, Kinds, fault_of, first_of, foun
 ghost use Rattle.clap.specs.Words.{rows_of, rule_of, subcommand_rows_of, with_rule, with_subcommand};
 ghost use Rattle.command_line.specs.ArgFault.{IsRefusedBy};
 ghost use Rattle.command_line.specs.Line.{Makes, asked, asked_in, asked_of, check_app, check_in};
-ghost use Rattle.command_line.specs.Line.{clock_rule, count_in, count_of, database_app, deliveries_app};
-ghost use Rattle.command_line.specs.Line.{describe_app, describe_in};
+ghost use Rattle.command_line.specs.Line.{count_in, count_of, database_app, deliveries_app};
+ghost use Rattle.command_line.specs.Line.{describe_app, describe_in, flag_rule};
 ghost use Rattle.command_line.specs.Line.{desk_app, file_app, import_app, import_in, is_told, looked_over_rule, moment_in};
 ghost use Rattle.command_line.specs.Line.{needed_rule, replay_app, replay_in, report_app, report_in};
 ghost use Rattle.command_line.specs.Line.{requests_rule, serve_app, serve_in, straighten_app};
-ghost use Rattle.command_line.specs.Line.{straighten_in, tick_app, tick_in};
+ghost use Rattle.command_line.specs.Line.{straighten_in, tick_app, tick_in, until_rule, why_app, why_in};
 
 use crate::ArgFault;
 use clap::error::ErrorKind;
@@ -21,25 +21,41 @@ use std::alloc::{AllocError, Global};
 /// What the words of a command line ask of the program.
 #[derive(Clone, Copy)]
 pub enum Line<'a> {
-    /// `check FILE [DB]`: reads the building of the file, and tells what it has, or what of the tables in a database does
-    /// not suit it.
+    /// `check FILE [DB] [--explain]`: reads the building of the file, and tells what it has, or what of the tables in a
+    /// database does not suit it.
     Check {
         /// The path of the building file.
         file: &'a str,
         /// The path of the database, if it is to be looked over.
         database: Option<&'a str>,
+        /// Whether a fault of the file is explained.
+        explain: bool,
     },
     /// `describe FILE`: prints the building of the file as one JSON object.
     Describe {
         /// The path of the building file.
         file: &'a str,
     },
-    /// `replay FILE DELIVERIES`: runs the deliveries over the building of the file, in memory.
+    /// `replay FILE DELIVERIES [--until AT]`: runs the deliveries over the building of the file, in memory.
     Replay {
         /// The path of the building file.
         file: &'a str,
         /// The path of the list of deliveries.
         deliveries: &'a str,
+        /// Before the first tick that is later than this the list ends, in hundredths of a second since 1970.
+        until: Option<i64>,
+    },
+    /// `why FILE DELIVERIES POINT [--until AT]`: prints what the deliveries leave in the places of a point, and what put it
+    /// there.
+    Why {
+        /// The path of the building file.
+        file: &'a str,
+        /// The path of the list of deliveries.
+        deliveries: &'a str,
+        /// The name of the point.
+        point: &'a str,
+        /// As that of `replay`.
+        until: Option<i64>,
     },
     /// `straighten FILE DELIVERIES`: prints the straight list of the deliveries over the building of the file.
     Straighten {
@@ -119,6 +135,7 @@ fn desk_command<'a>(alloc: Global) -> Result<Command<'a>, AllocError>
     let desk = with_subcommand(Ok(desk), check_command(alloc));
     let desk = with_subcommand(desk, describe_command(alloc));
     let desk = with_subcommand(desk, replay_command(alloc));
+    let desk = with_subcommand(desk, why_command(alloc));
     let desk = with_subcommand(desk, straighten_command(alloc));
     let desk = with_subcommand(desk, import_command(alloc));
     let desk = with_subcommand(desk, tick_command(alloc));
@@ -126,13 +143,17 @@ fn desk_command<'a>(alloc: Global) -> Result<Command<'a>, AllocError>
     with_subcommand(desk, serve_command(alloc))
 }
 
-/// The subcommand `check FILE [DB]`.
+/// The subcommand `check FILE [DB] [--explain]`.
 fn check_command<'a>(alloc: Global) -> Result<Command<'a>, AllocError>
     ensures { Makes check_app result }
 {
     let about =
         "Reads a building, and tells what it has or its first fault, or what of a database does not suit it";
-    with_argument(file_command(alloc, "check", about), looked_over(alloc))
+    let help = "After a fault of the building, prints which item it is, and what is expected there";
+    with_argument(
+        with_argument(file_command(alloc, "check", about), looked_over(alloc)),
+        flag(alloc, "explain", help),
+    )
 }
 
 /// The subcommand `describe FILE`.
@@ -142,12 +163,27 @@ fn describe_command<'a>(alloc: Global) -> Result<Command<'a>, AllocError>
     file_command(alloc, "describe", "Prints a building as one JSON object")
 }
 
-/// The subcommand `replay FILE DELIVERIES`.
+/// The subcommand `replay FILE DELIVERIES [--until AT]`.
 fn replay_command<'a>(alloc: Global) -> Result<Command<'a>, AllocError>
     ensures { Makes replay_app result }
 {
     let about = "Runs deliveries in memory, and prints each reply and then each point";
-    deliveries_command(alloc, "replay", about)
+    with_argument(
+        deliveries_command(alloc, "replay", about),
+        until_argument(alloc),
+    )
+}
+
+/// The subcommand `why FILE DELIVERIES POINT [--until AT]`.
+fn why_command<'a>(alloc: Global) -> Result<Command<'a>, AllocError>
+    ensures { Makes why_app result }
+{
+    let about = "Prints what deliveries leave in the places of a point, and what put it there";
+    let point = needed(alloc, "point", "POINT", "The name of the point");
+    with_argument(
+        with_argument(deliveries_command(alloc, "why", about), point),
+        until_argument(alloc),
+    )
 }
 
 /// The subcommand `straighten FILE DELIVERIES`.
@@ -201,7 +237,11 @@ fn serve_command<'a>(alloc: Global) -> Result<Command<'a>, AllocError>
     let serve = database_command(alloc, "serve", about, address);
     with_argument(
         with_argument(serve, requests_argument(alloc)),
-        clock_argument(alloc),
+        flag(
+            alloc,
+            "clock",
+            "Delivers a tick of the machine's clock before each request",
+        ),
     )
 }
 
@@ -218,7 +258,7 @@ fn deliveries_command<'a>(
     with_argument(file_command(alloc, name, about), deliveries)
 }
 
-/// A subcommand that takes FILE, DB and one argument more.
+/// A subcommand that takes FILE, DB, which is made where there is none, and one argument more.
 fn database_command<'a>(
     alloc: Global,
     name: &'a str,
@@ -308,15 +348,29 @@ fn requests_argument<'a>(alloc: Global) -> Arg<'a>
         .value_parser(clap::value_parser!(u64).range(1..1_000_001))
 }
 
-/// Whether ticks come from the machine's clock.
-fn clock_argument<'a>(alloc: Global) -> Arg<'a>
-    ensures rule { rule_of result ≡ clock_rule }
+/// Where a list of deliveries ends.
+fn until_argument<'a>(alloc: Global) -> Arg<'a>
+    ensures rule { rule_of result ≡ until_rule }
     ensures local { result.global ≡ false }
 {
-    Arg::new(alloc, "clock")
-        .long("clock")
+    Arg::new(alloc, "until")
+        .long("until")
+        .value_name("AT")
+        .value_parser(clap::value_parser!(i64))
+        .help(
+            "Ends the list before its first tick later than this, in hundredths of a second since 1970",
+        )
+}
+
+/// A flag.
+fn flag<'a>(alloc: Global, name: &'a str, help: &'a str) -> Arg<'a>
+    ensures rule { rule_of result ≡ flag_rule name.now }
+    ensures local { result.global ≡ false }
+{
+    Arg::new(alloc, name)
+        .long(name)
         .action(ArgAction::SetTrue)
-        .help("Delivers a tick of the machine's clock before each request")
+        .help(help)
 }
 
 /// What the subcommand that was met asks, or `None` where a value is missing.
@@ -328,6 +382,7 @@ fn line_in<'a>(matches: &ArgMatches<'a>) -> Option<Line<'a>>
         "check" => check_line(inner),
         "describe" => describe_line(inner),
         "replay" => replay_line(inner),
+        "why" => why_line(inner),
         "straighten" => straighten_line(inner),
         "import" => import_line(inner),
         "tick" => tick_line(inner),
@@ -343,7 +398,12 @@ fn check_line<'a>(matches: &ArgMatches<'a>) -> Option<Line<'a>>
 {
     let file = text_at(matches, "file")?;
     let database = text_at(matches, "database");
-    Some(Line::Check { file, database })
+    let explain = is_told(matches, "explain");
+    Some(Line::Check {
+        file,
+        database,
+        explain,
+    })
 }
 
 /// What the arguments of `describe` ask.
@@ -361,7 +421,32 @@ fn replay_line<'a>(matches: &ArgMatches<'a>) -> Option<Line<'a>>
     if let Some(file) = text_at(matches, "file")
         && let Some(deliveries) = text_at(matches, "deliveries")
     {
-        Some(Line::Replay { file, deliveries })
+        let until = moment_at(matches, "until");
+        Some(Line::Replay {
+            file,
+            deliveries,
+            until,
+        })
+    } else {
+        None
+    }
+}
+
+/// What the arguments of `why` ask.
+fn why_line<'a>(matches: &ArgMatches<'a>) -> Option<Line<'a>>
+    ensures { option_map asked_of result ≡ why_in (rows_of (found_of matches.now)) }
+{
+    if let Some(file) = text_at(matches, "file")
+        && let Some(deliveries) = text_at(matches, "deliveries")
+        && let Some(point) = text_at(matches, "point")
+    {
+        let until = moment_at(matches, "until");
+        Some(Line::Why {
+            file,
+            deliveries,
+            point,
+            until,
+        })
     } else {
         None
     }

@@ -1,5 +1,5 @@
 -- The deliveries of one line after another.
-use Rattle.std.proofs.Common.{◌≡◌, ℕ, ◌++◌, true, false, List, [], ◌∷◌, Option, Some, refl, sym, ap, subst, ◌∙◌, append_assoc}
+use Rattle.std.proofs.Common.{◌≡◌, ℕ, ℤ, ◌++◌, true, false, List, [], ◌∷◌, Option, Some, refl, sym, ap, subst, ◌∙◌, append_assoc}
 use Rattle.std.proofs.lemmas.List.{append-nil}
 use Rattle.building.specs.Building.{Building}
 use Rattle.deliveries.specs.declared.delivery.Delivery.{Delivery}
@@ -7,8 +7,8 @@ use Rattle.delivery_lines.specs.declared.told.Told.TheVariants as of
 use Rattle.delivery_lines.specs.DeliveryLine.{told_of}
 use Rattle.holidays.specs.declared.import_fault.ImportFault.{ImportFault}
 use Rattle.desk_cli.specs.ListLines.{Collects, TakesLine}
-use Rattle.desk_cli.specs.Replay.{deliveries_in, is_empty_line, lines_of}
-use Rattle.desk_cli.proofs.LineLemmas.{deliveries_in-append, told_by-append}
+use Rattle.desk_cli.specs.Replay.{deliveries_in, is_empty_line, is_past_until, lines_of, lines_until}
+use Rattle.desk_cli.proofs.LineLemmas.{deliveries_in-append, told_by-append, until-none, until-past, until-within}
 
 -- ---- one line
 
@@ -45,16 +45,16 @@ Collects-Collects b ls ms x y z first more = record {
 }
 
 -- of all the bytes, the deliveries of the lines before those that are left were collected
-pub record Collecting (b : Building) (bytes : List ℕ) (left : Option (List ℕ)) (deliveries : List Delivery) : Type 0 where
+pub record Collecting (b : Building) (until : Option ℤ) (bytes : List ℕ) (left : Option (List ℕ)) (deliveries : List Delivery) : Type 0 where
   pub passed : List (List ℕ)
   pub rest : List ℕ
   pub left_is : left ≡ Some rest
-  pub lines_are : lines_of bytes ≡ passed ++ lines_of rest
+  pub lines_are : lines_until b until (lines_of bytes) ≡ passed ++ lines_until b until (lines_of rest)
   pub collects : Collects b passed [] deliveries
 
-pub Collecting-start : (b : Building) (bytes : List ℕ) (left : Option (List ℕ)) (deliveries : List Delivery) → left ≡ Some bytes
-    → deliveries ≡ [] → Collecting b bytes left deliveries
-Collecting-start b bytes left deliveries left_is none = record {
+pub Collecting-start : (b : Building) (until : Option ℤ) (bytes : List ℕ) (left : Option (List ℕ)) (deliveries : List Delivery) → left ≡ Some bytes
+    → deliveries ≡ [] → Collecting b until bytes left deliveries
+Collecting-start b until bytes left deliveries left_is none = record {
   passed = [];
   rest = bytes;
   left_is = left_is;
@@ -62,24 +62,38 @@ Collecting-start b bytes left deliveries left_is none = record {
   collects = record { read = []; read_is = refl; added = none };
 }
 
-pub Collecting-line : (b : Building) (bytes line : List ℕ) (left after : Option (List ℕ)) (old new : List Delivery)
-    → Collecting b bytes left old → ((rest : List ℕ) → left ≡ Some rest → TakesLine rest true line after)
-    → Collects b (line ∷ []) old new → Collecting b bytes after new
-Collecting-line b bytes line left after old new p takes more =
+pub Collecting-line : (b : Building) (until : Option ℤ) (bytes line : List ℕ) (left after : Option (List ℕ)) (old new : List Delivery)
+    → Collecting b until bytes left old → ((rest : List ℕ) → left ≡ Some rest → TakesLine rest true line after)
+    → is_past_until b until line ≡ false → Collects b (line ∷ []) old new → Collecting b until bytes after new
+Collecting-line b until bytes line left after old new p takes within more =
     let next = takes p.rest p.left_is in
     record {
       passed = p.passed ++ line ∷ [];
       rest = next.0;
       left_is = next.1;
       lines_are =
-          p.lines_are ∙ ap (λ ls. p.passed ++ ls) next.2
-          ∙ sym (append_assoc p.passed (line ∷ []) (lines_of next.0));
+          p.lines_are
+          ∙ ap (λ ls. p.passed ++ ls) (ap (lines_until b until) next.2 ∙ until-within b until line (lines_of next.0) within)
+          ∙ sym (append_assoc p.passed (line ∷ []) (lines_until b until (lines_of next.0)));
       collects = Collects-Collects b p.passed (line ∷ []) [] old new p.collects more;
     }
 
-pub Collecting-end : (b : Building) (bytes line : List ℕ) (left after : Option (List ℕ)) (deliveries : List Delivery)
-    → Collecting b bytes left deliveries → ((rest : List ℕ) → left ≡ Some rest → TakesLine rest false line after)
-    → Collects b (lines_of bytes) [] deliveries
-Collecting-end b bytes line left after deliveries p none =
+pub Collecting-end : (b : Building) (until : Option ℤ) (bytes line : List ℕ) (left after : Option (List ℕ)) (deliveries : List Delivery)
+    → Collecting b until bytes left deliveries → ((rest : List ℕ) → left ≡ Some rest → TakesLine rest false line after)
+    → Collects b (lines_until b until (lines_of bytes)) [] deliveries
+Collecting-end b until bytes line left after deliveries p none =
     subst (λ ls. Collects b ls [] deliveries)
-    (sym (p.lines_are ∙ ap (λ ls. p.passed ++ ls) (none p.rest p.left_is) ∙ append-nil p.passed)) p.collects
+    (sym (p.lines_are
+    ∙ ap (λ ls. p.passed ++ ls) (ap (lines_until b until) (none p.rest p.left_is) ∙ until-none b until)
+    ∙ append-nil p.passed)) p.collects
+
+-- the next line lies past the moment
+pub Collecting-past : (b : Building) (until : Option ℤ) (bytes line : List ℕ) (left after : Option (List ℕ)) (deliveries : List Delivery)
+    → Collecting b until bytes left deliveries → ((rest : List ℕ) → left ≡ Some rest → TakesLine rest true line after)
+    → is_past_until b until line ≡ true → Collects b (lines_until b until (lines_of bytes)) [] deliveries
+Collecting-past b until bytes line left after deliveries p takes past =
+    let next = takes p.rest p.left_is in
+    subst (λ ls. Collects b ls [] deliveries)
+    (sym (p.lines_are
+    ∙ ap (λ ls. p.passed ++ ls) (ap (lines_until b until) next.2 ∙ until-past b until line (lines_of next.0) past)
+    ∙ append-nil p.passed)) p.collects

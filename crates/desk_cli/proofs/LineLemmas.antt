@@ -1,5 +1,5 @@
 -- The lines of a list, one after another.
-use Rattle.std.proofs.Common.{◌≡◌, ℕ, suc, ◌-◌, ◌<◌, ◌==◌, ◌&&◌, ◌++◌, Bool, true, false, List, [], ◌∷◌}
+use Rattle.std.proofs.Common.{◌≡◌, ℕ, ℤ, suc, ◌-◌, ◌<◌, ◌==◌, ◌&&◌, ◌++◌, Bool, true, false, List, [], ◌∷◌}
 use Rattle.std.proofs.Common.{length, take, get_or, Option, Some, None, IfSome, option_map, option_and_then}
 use Rattle.std.proofs.Common.{cond, lt-ltb, refl, sym, ap, subst, ◌∙◌, arith}
 use Rattle.std.proofs.lemmas.Option.{same_Some}
@@ -10,7 +10,8 @@ use Rattle.delivery_lines.specs.declared.told.Told.{Told}
 use Rattle.delivery_lines.specs.declared.told.Told.TheVariants as of
 use Rattle.delivery_lines.specs.DeliveryLine.{told_of}
 use Rattle.desk_cli.specs.ListLines.{TakesLine}
-use Rattle.desk_cli.specs.Replay.{deliveries_in, is_empty_line, lines_of, told_by, with_first}
+use Rattle.desk_cli.specs.Replay.{deliveries_in, is_empty_line, is_past_until, lines_of, lines_until, told_by, with_first}
+use Rattle.std.proofs.lemmas.Bool.{false≢true}
 
 -- ---- what lines tell, one part after another
 
@@ -33,6 +34,22 @@ told_by-append b (l ∷ ls) ms ds es p q =
     step false None rest all e ih = cc
     step false (Some d) None all e ih = cc
     step false (Some d) (Some ts) all e ih = rw (ih ts refl) (ap (λ (xs : List Told). Some (xs ++ es)) (same_Some _ _ e))
+
+-- ---- the lines up to a moment
+
+pub until-none : (b : Building) (until : Option ℤ) → lines_until b until [] ≡ []
+until-none b None = refl
+until-none b (Some until) = refl
+
+pub until-past : (b : Building) (until : Option ℤ) (line : List ℕ) (lines : List (List ℕ)) → is_past_until b until line ≡ true
+    → lines_until b until (line ∷ lines) ≡ []
+until-past b None line lines past = absurd (false≢true past)
+until-past b (Some until) line lines past = rw past refl
+
+pub until-within : (b : Building) (until : Option ℤ) (line : List ℕ) (lines : List (List ℕ)) → is_past_until b until line ≡ false
+    → lines_until b until (line ∷ lines) ≡ line ∷ lines_until b until lines
+until-within b None line lines within = refl
+until-within b (Some until) line lines within = rw within refl
 
 -- ---- the next line
 

@@ -1,5 +1,5 @@
 -- Printing one line after another.
-use Rattle.std.proofs.Common.{◌≡◌, ℕ, ◌+◌, ◌<◌, ◌++◌, true, false, List, [], ◌∷◌}
+use Rattle.std.proofs.Common.{◌≡◌, ℕ, ℤ, ◌+◌, ◌<◌, ◌++◌, true, false, List, [], ◌∷◌}
 use Rattle.std.proofs.Common.{length, take, get_or, Ok, Option, Some}
 use Rattle.std.proofs.Common.{refl, sym, ap, ap₂, subst, ◌∙◌, append_assoc}
 use Rattle.std.proofs.lemmas.Grind.{flat_map-append}
@@ -20,8 +20,9 @@ use Rattle.delivery_lines.specs.declared.told.Told.{Told}
 use Rattle.delivery_lines.specs.declared.told.Told.TheVariants as of
 use Rattle.desk_console.proofs.PrintedLemmas.{Appends-Appends, Appends-Keeps, Appends-nothing}
 use Rattle.desk_cli.specs.ListLines.{TakesLine}
-use Rattle.desk_cli.specs.Replay.{Prints, Replays, answers_to, deliveries_in, line_of_point, lines_of, point_lines, state_line}
-use Rattle.desk_cli.proofs.LineLemmas.{deliveries_in-append, told_by-append}
+use Rattle.desk_cli.specs.Replay.{Prints, Replays, answers_to, deliveries_in, is_past_until, line_of_point, lines_of, lines_until}
+use Rattle.desk_cli.specs.Replay.{point_lines, state_line}
+use Rattle.desk_cli.proofs.LineLemmas.{deliveries_in-append, told_by-append, until-none, until-past, until-within}
 use Rattle.delivery_lines.specs.ReplyText.{refusal_line, reply_line}
 
 -- ---- answers, one part after another
@@ -56,16 +57,17 @@ Prints-Prints b E ls ms w x y t u first more = record {
 -- ---- the way through a reader's bytes
 
 -- of all the bytes, the lines before those that are left were printed
-pub record Progress (b : Building) (E : List Delivery) (bytes : List ℕ) (left old new : Option (List ℕ)) (now : Content) : Type 0 where
+pub record Progress (b : Building) (until : Option ℤ) (E : List Delivery) (bytes : List ℕ) (left old new : Option (List ℕ)) (now : Content) :
+    Type 0 where
   pub passed : List (List ℕ)
   pub rest : List ℕ
   pub left_is : left ≡ Some rest
-  pub lines_are : lines_of bytes ≡ passed ++ lines_of rest
+  pub lines_are : lines_until b until (lines_of bytes) ≡ passed ++ lines_until b until (lines_of rest)
   pub prints : Prints b E passed old new now
 
-pub Progress-start : (b : Building) (E : List Delivery) (bytes : List ℕ) (left old : Option (List ℕ)) (now : Content)
-    → left ≡ Some bytes → now ≡ sound (tables b E) → Progress b E bytes left old old now
-Progress-start b E bytes left old now left_is holds = record {
+pub Progress-start : (b : Building) (until : Option ℤ) (E : List Delivery) (bytes : List ℕ) (left old : Option (List ℕ)) (now : Content)
+    → left ≡ Some bytes → now ≡ sound (tables b E) → Progress b until E bytes left old old now
+Progress-start b until E bytes left old now left_is holds = record {
   passed = [];
   rest = bytes;
   left_is = left_is;
@@ -79,35 +81,53 @@ Progress-start b E bytes left old now left_is holds = record {
       };
 }
 
-pub Progress-end : (b : Building) (E : List Delivery) (bytes line : List ℕ) (left after old new : Option (List ℕ)) (now : Content)
-    → Progress b E bytes left old new now → ((rest : List ℕ) → left ≡ Some rest → TakesLine rest false line after)
-    → Prints b E (lines_of bytes) old new now
-Progress-end b E bytes line left after old new now p none =
+pub Progress-end : (b : Building) (until : Option ℤ) (E : List Delivery) (bytes line : List ℕ) (left after old new : Option (List ℕ))
+    (now : Content)
+    → Progress b until E bytes left old new now → ((rest : List ℕ) → left ≡ Some rest → TakesLine rest false line after)
+    → Prints b E (lines_until b until (lines_of bytes)) old new now
+Progress-end b until E bytes line left after old new now p none =
     subst (λ ls. Prints b E ls old new now)
-    (sym (p.lines_are ∙ ap (λ ls. p.passed ++ ls) (none p.rest p.left_is) ∙ append-nil p.passed)) p.prints
+    (sym (p.lines_are
+    ∙ ap (λ ls. p.passed ++ ls) (ap (lines_until b until) (none p.rest p.left_is) ∙ until-none b until)
+    ∙ append-nil p.passed)) p.prints
+
+-- the next line lies past the moment
+pub Progress-past : (b : Building) (until : Option ℤ) (E : List Delivery) (bytes line : List ℕ) (left after old new : Option (List ℕ))
+    (now : Content)
+    → Progress b until E bytes left old new now → ((rest : List ℕ) → left ≡ Some rest → TakesLine rest true line after)
+    → is_past_until b until line ≡ true → Prints b E (lines_until b until (lines_of bytes)) old new now
+Progress-past b until E bytes line left after old new now p takes past =
+    let next = takes p.rest p.left_is in
+    subst (λ ls. Prints b E ls old new now)
+    (sym (p.lines_are
+    ∙ ap (λ ls. p.passed ++ ls) (ap (lines_until b until) next.2 ∙ until-past b until line (lines_of next.0) past)
+    ∙ append-nil p.passed)) p.prints
 
 -- one more line was read and printed
-pub Progress-line : (b : Building) (E : List Delivery) (bytes line : List ℕ) (left after old mid new : Option (List ℕ)) (now then : Content)
-    → Progress b E bytes left old mid now → ((rest : List ℕ) → left ≡ Some rest → TakesLine rest true line after)
+pub Progress-line : (b : Building) (until : Option ℤ) (E : List Delivery) (bytes line : List ℕ) (left after old mid new : Option (List ℕ))
+    (now then : Content)
+    → Progress b until E bytes left old mid now → ((rest : List ℕ) → left ≡ Some rest → TakesLine rest true line after)
+    → is_past_until b until line ≡ false
     → ((F : List Delivery) → now ≡ sound (tables b F) → Prints b F (line ∷ []) mid new then)
-    → Progress b E bytes after old new then
-Progress-line b E bytes line left after old mid new now then p takes prints =
+    → Progress b until E bytes after old new then
+Progress-line b until E bytes line left after old mid new now then p takes within prints =
     let next = takes p.rest p.left_is in
     record {
       passed = p.passed ++ line ∷ [];
       rest = next.0;
       left_is = next.1;
       lines_are =
-          p.lines_are ∙ ap (λ ls. p.passed ++ ls) next.2
-          ∙ sym (append_assoc p.passed (line ∷ []) (lines_of next.0));
+          p.lines_are
+          ∙ ap (λ ls. p.passed ++ ls) (ap (lines_until b until) next.2 ∙ until-within b until line (lines_of next.0) within)
+          ∙ sym (append_assoc p.passed (line ∷ []) (lines_until b until (lines_of next.0)));
       prints = Prints-Prints b E p.passed (line ∷ []) old mid new now then p.prints
           (prints (E ++ deliveries_in p.prints.told) p.prints.holds);
     }
 
 -- what is printed stays printed
-pub Replays-Keeps : (file list : List ℕ) (old mid new : Option (List ℕ)) → Replays file list old mid → Keeps mid new
-    → Replays file list old new
-Replays-Keeps file list old mid new r kept = record {
+pub Replays-Keeps : (until : Option ℤ) (file list : List ℕ) (old mid new : Option (List ℕ)) → Replays until file list old mid
+    → Keeps mid new → Replays until file list old new
+Replays-Keeps until file list old mid new r kept = record {
   building = r.building;
   told = r.told;
   building_is = r.building_is;
@@ -116,10 +136,11 @@ Replays-Keeps file list old mid new r kept = record {
 }
 
 -- the replies and then the points
-pub Replays-done : (file list : List ℕ) (b b' b'' : Building) (old mid new : Option (List ℕ)) (now : Content)
+pub Replays-done : (until : Option ℤ) (file list : List ℕ) (b b' b'' : Building) (old mid new : Option (List ℕ)) (now : Content)
     → building_of file ≡ Ok (contents_of b) → b' ≡ b
-    → Prints b' [] (lines_of list) old mid now → b'' ≡ b' → Appends mid new (point_lines b'' now.tables) → Replays file list old new
-Replays-done file list b b' b'' old mid new now file_is same prints still points = record {
+    → Prints b' [] (lines_until b' until (lines_of list)) old mid now → b'' ≡ b' → Appends mid new (point_lines b'' now.tables)
+    → Replays until file list old new
+Replays-done until file list b b' b'' old mid new now file_is same prints still points = record {
   building = b';
   told = prints.told;
   building_is = file_is ∙ ap (λ (building : Building). Ok (contents_of building)) (sym same);

@@ -1,5 +1,5 @@
 -- What a run has printed at most, wherever it stops.
-use Rattle.std.proofs.Common.{◌≡◌, ℕ, ◌++◌, true, false, Ok, Vec, List, [], ◌∷◌, Option, None}
+use Rattle.std.proofs.Common.{◌≡◌, ℕ, ℤ, ◌++◌, true, false, Ok, Vec, List, [], ◌∷◌, Option, None}
 use Rattle.std.proofs.Common.{Some, refl, sym, ap, subst, ◌∙◌, inl, inr, ⊎_elim, append_assoc}
 use Rattle.std.proofs.lemmas.List.{append-nil}
 use Rattle.std.specs.declared.alloc.Global.{Global}
@@ -17,9 +17,10 @@ use Rattle.delivery_lines.specs.declared.told.Told.TheVariants as of
 use Rattle.delivery_lines.specs.DeliveryLine.{told_of}
 use Rattle.desk_console.specs.Printed.{AppendsStart}
 use Rattle.desk_console.proofs.PrintedLemmas.{start-Keeps, start-after, start-longer, start-nothing, start-whole}
-use Rattle.desk_cli.specs.Replay.{Prints, PrintsNoMore, PrintsStart, deliveries_in, is_empty_line, lines_of, point_lines}
+use Rattle.desk_cli.specs.Replay.{Prints, PrintsNoMore, PrintsStart, deliveries_in, is_empty_line, is_past_until, lines_of, lines_until}
+use Rattle.desk_cli.specs.Replay.{point_lines}
 use Rattle.delivery_lines.specs.ReplyText.{refusal_line, reply_line}
-use Rattle.desk_cli.proofs.LineLemmas.{told_by-append}
+use Rattle.desk_cli.proofs.LineLemmas.{told_by-append, until-within}
 use Rattle.desk_cli.proofs.ReplayLemmas.{Progress, answers_to-append}
 
 -- ---- the first lines
@@ -130,32 +131,35 @@ first-replied b E line text answered old new now some answers is start = replied
 -- ---- where the reading stops
 
 -- before the next line
-pub Progress-stops : (b : Building) (E : List Delivery) (bytes : List ℕ) (left old new : Option (List ℕ)) (now : Content)
-    → Progress b E bytes left old new now
-    → PrintsStart b E (lines_of bytes) old new
-Progress-stops b E bytes left old new now p =
+pub Progress-stops : (b : Building) (until : Option ℤ) (E : List Delivery) (bytes : List ℕ) (left old new : Option (List ℕ)) (now : Content)
+    → Progress b until E bytes left old new now
+    → PrintsStart b E (lines_until b until (lines_of bytes)) old new
+Progress-stops b until E bytes left old new now p =
     subst (λ ls. PrintsStart b E ls old new) (sym p.lines_are)
-    (first-of_more b E p.passed (lines_of p.rest) old new (first-all b E p.passed old new now p.prints))
+    (first-of_more b E p.passed (lines_until b until (lines_of p.rest)) old new (first-all b E p.passed old new now p.prints))
 
 -- at it
-pub Progress-stops-at : (b : Building) (E : List Delivery) (bytes line : List ℕ) (left after old mid new : Option (List ℕ)) (now : Content)
-    → Progress b E bytes left old mid now → ((rest : List ℕ) → left ≡ Some rest → TakesLine rest true line after)
+pub Progress-stops-at : (b : Building) (until : Option ℤ) (E : List Delivery) (bytes line : List ℕ) (left after old mid new : Option (List ℕ))
+    (now : Content)
+    → Progress b until E bytes left old mid now → ((rest : List ℕ) → left ≡ Some rest → TakesLine rest true line after)
+    → is_past_until b until line ≡ false
     → ((F : List Delivery) → now ≡ sound (tables b F) → PrintsStart b F (line ∷ []) mid new)
-    → PrintsStart b E (lines_of bytes) old new
-Progress-stops-at b E bytes line left after old mid new now p takes stops =
+    → PrintsStart b E (lines_until b until (lines_of bytes)) old new
+Progress-stops-at b until E bytes line left after old mid new now p takes within stops =
     let next = takes p.rest p.left_is in
     subst (λ ls. PrintsStart b E ls old new)
-    (sym (p.lines_are ∙ ap (λ ls. p.passed ++ ls) next.2))
-    (first-after b E p.passed (line ∷ lines_of next.0) old mid new now p.prints
-    (first-of_more b (E ++ deliveries_in p.prints.told) (line ∷ []) (lines_of next.0) mid new
+    (sym (p.lines_are
+    ∙ ap (λ ls. p.passed ++ ls) (ap (lines_until b until) next.2 ∙ until-within b until line (lines_of next.0) within)))
+    (first-after b E p.passed (line ∷ lines_until b until (lines_of next.0)) old mid new now p.prints
+    (first-of_more b (E ++ deliveries_in p.prints.told) (line ∷ []) (lines_until b until (lines_of next.0)) mid new
     (stops (E ++ deliveries_in p.prints.told) p.prints.holds)))
 
 -- ---- the whole run
 
-pub no_more-lines : (file list : List ℕ) (b b' : Building) (old mid new : Option (List ℕ)) → building_of file ≡ Ok (contents_of b)
-    → b' ≡ b → PrintsStart b' [] (lines_of list) old mid
-    → Keeps mid new → PrintsNoMore file list old new
-no_more-lines file list b b' old mid new file_is same part kept = inr (
+pub no_more-lines : (until : Option ℤ) (file list : List ℕ) (b b' : Building) (old mid new : Option (List ℕ)) → building_of file ≡ Ok (contents_of b)
+    → b' ≡ b → PrintsStart b' [] (lines_until b' until (lines_of list)) old mid
+    → Keeps mid new → PrintsNoMore until file list old new
+no_more-lines until file list b b' old mid new file_is same part kept = inr (
   b',
   file_is ∙ ap (λ (building : Building). Ok (contents_of building)) (sym same),
   inl (record {
@@ -168,11 +172,11 @@ no_more-lines file list b b' old mid new file_is same part kept = inr (
   }),
 )
 
-pub no_more-points : (file list : List ℕ) (b b' b'' : Building) (old mid new last : Option (List ℕ)) (now : Content)
+pub no_more-points : (until : Option ℤ) (file list : List ℕ) (b b' b'' : Building) (old mid new last : Option (List ℕ)) (now : Content)
     → building_of file ≡ Ok (contents_of b) → b' ≡ b
-    → Prints b' [] (lines_of list) old mid now → b'' ≡ b' → AppendsStart mid new (point_lines b'' now.tables) → Keeps new last
-    → PrintsNoMore file list old last
-no_more-points file list b b' b'' old mid new last now file_is same prints still points kept = inr (
+    → Prints b' [] (lines_until b' until (lines_of list)) old mid now → b'' ≡ b' → AppendsStart mid new (point_lines b'' now.tables) → Keeps new last
+    → PrintsNoMore until file list old last
+no_more-points until file list b b' b'' old mid new last now file_is same prints still points kept = inr (
   b',
   file_is ∙ ap (λ (building : Building). Ok (contents_of building)) (sym same),
   inr (record {
@@ -191,12 +195,12 @@ Keeps-Keeps (Some xs) (Some ys) None h k = absurd k
 Keeps-Keeps (Some xs) (Some ys) (Some zs) h k = k ∙ h
 
 -- what is printed stays printed
-pub no_more-Keeps : (file list : List ℕ) (old mid new : Option (List ℕ)) → PrintsNoMore file list old mid → Keeps mid new
-    → PrintsNoMore file list old new
-no_more-Keeps file list old mid new said kept = ⊎_elim
+pub no_more-Keeps : (until : Option ℤ) (file list : List ℕ) (old mid new : Option (List ℕ)) → PrintsNoMore until file list old mid
+    → Keeps mid new → PrintsNoMore until file list old new
+no_more-Keeps until file list old mid new said kept = ⊎_elim
     (λ nothing. inl (Keeps-Keeps old mid new nothing kept))
     (λ some. ⊎_elim
-    (λ first. no_more-lines file list some.0 some.0 old mid new some.1 refl first kept)
+    (λ first. no_more-lines until file list some.0 some.0 old mid new some.1 refl first kept)
     (λ all. inr (
       some.0,
       some.1,

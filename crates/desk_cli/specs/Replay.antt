@@ -1,7 +1,8 @@
 -- What a replay prints: what the lines are answered, and then the points.
-use Rattle.std.specs.Prelude.{◌≡◌, ◌⊎◌, ℕ, Bool, ◌||◌, ◌==◌, List, [], ◌∷◌, ◌++◌, Option, Some, None}
+use Rattle.std.specs.Prelude.{◌≡◌, ◌⊎◌, ℕ, ℤ, int_lt, Bool, false, ◌||◌, ◌==◌, List, [], ◌∷◌, ◌++◌, Option, Some, None}
 use Rattle.std.specs.Prelude.{Ok, if◌then◌else◌, option_map}
 use Rattle.std.specs.List.{flat_map}
+use Rattle.std.specs.Option.{option_map_or}
 use Rattle.std.specs.Str.{bytes_eq}
 use Rattle.std.specs.Io.KnownBytes.{Appends, Keeps}
 use Rattle.points.specs.declared.Point.{Point}
@@ -9,6 +10,7 @@ use Rattle.points.specs.Rights.{point_named}
 use Rattle.building.specs.Building.{Building, contents_of}
 use Rattle.building.specs.BuildingFile.{building_of}
 use Rattle.deliveries.specs.declared.delivery.Delivery.{Delivery}
+use Rattle.deliveries.specs.declared.delivery.Delivery.TheVariants as delivery_of
 use Rattle.desk.specs.declared.PointState.{PointState}
 use Rattle.desk.specs.PointState.{state_of}
 use Rattle.deliveries.specs.Reply.{reply}
@@ -37,6 +39,38 @@ lines_of (x ∷ xs) = if x == 10 then [] ∷ lines_of xs else with_first x (line
 -- the line has no bytes, or a CR alone
 abbrev pub is_empty_line : List ℕ → Bool
 is_empty_line line = bytes_eq line [] || bytes_eq line (13 ∷ [])
+
+-- ---- the lines up to a moment
+
+abbrev pub is_tick_past : ℤ → Delivery → Bool
+is_tick_past until (delivery_of.Command panel number content) = false
+is_tick_past until (delivery_of.Skip panel upto) = false
+is_tick_past until (delivery_of.Tick moment) = int_lt until moment
+is_tick_past until (delivery_of.Import rows) = false
+
+abbrev pub is_told_past : ℤ → Told → Bool
+is_told_past until (of.Delivery delivery) = is_tick_past until delivery
+is_told_past until (of.RefusedImport refused) = false
+
+-- the line tells a tick later than a moment
+abbrev pub is_past : Building → ℤ → List ℕ → Bool
+is_past building until line = option_map_or (is_told_past until) (told_of building line) false
+
+abbrev pub is_past_until : Building → Option ℤ → List ℕ → Bool
+is_past_until building None line = false
+is_past_until building (Some until) line = is_past building until line
+
+-- the lines before the first that tells one
+abbrev pub lines_before : Building → ℤ → List (List ℕ) → List (List ℕ)
+lines_before building until [] = []
+lines_before building until (line ∷ lines) = if is_past building until line then [] else line ∷ lines_before building until lines
+
+-- the same, where there is a moment to stop at; else all lines
+abbrev pub lines_until : Building → Option ℤ → List (List ℕ) → List (List ℕ)
+lines_until building None lines = lines
+lines_until building (Some until) lines = lines_before building until lines
+
+-- ---- what they tell
 
 -- what the lines tell, without the empty ones, where each of the others tells something
 abbrev pub told_by : Building → List (List ℕ) → Option (List Told)
@@ -80,13 +114,13 @@ pub record Prints (building : Building) (earlier : List Delivery) (lines : List 
   pub printed : Appends old new (answers_to building earlier told)
   pub holds : now ≡ sound (tables building (earlier ++ deliveries_in told))
 
--- the file is a building, each line of the list tells something, and what was printed is what they are answered
--- and then the points as their deliveries leave them
-pub record Replays (file list : List ℕ) (old new : Option (List ℕ)) : Type 0 where
+-- the file is a building, each line of the list up to a moment tells something, and what was printed is what they are
+-- answered and then the points as their deliveries leave them
+pub record Replays (until : Option ℤ) (file list : List ℕ) (old new : Option (List ℕ)) : Type 0 where
   pub building : Building
   pub told : List Told
   pub building_is : building_of file ≡ Ok (contents_of building)
-  pub told_is : told_by building (lines_of list) ≡ Some told
+  pub told_is : told_by building (lines_until building until (lines_of list)) ≡ Some told
   pub printed : Appends old new
       (answers_to building [] told ++ point_lines building (tables building (deliveries_in told)))
 
@@ -110,11 +144,12 @@ pub record PrintsAllLines (building : Building) (lines : List (List ℕ)) (old n
 
 -- nothing was printed; or the file is a building, and a beginning of what the first lines are answered was
 -- printed, or of what all of them are and the points
-abbrev pub PrintsNoMore : List ℕ → List ℕ → Option (List ℕ) → Option (List ℕ) → Type 0
-PrintsNoMore file list old new =
+abbrev pub PrintsNoMore : Option ℤ → List ℕ → List ℕ → Option (List ℕ) → Option (List ℕ) → Type 0
+PrintsNoMore until file list old new =
     Keeps old new
     ⊎ ((building : Building) × (building_of file ≡ Ok (contents_of building))
-    × (PrintsStart building [] (lines_of list) old new ⊎ PrintsAllLines building (lines_of list) old new))
+    × (PrintsStart building [] (lines_until building until (lines_of list)) old new
+    ⊎ PrintsAllLines building (lines_until building until (lines_of list)) old new))
 
 -- whatever reader a call may open, it has these bytes left
 abbrev pub Opens : {R : Type 0} → (R → Type 0) → (R → Option (List ℕ)) → List ℕ → Type 0

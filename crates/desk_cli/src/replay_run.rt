@@ -12,9 +12,10 @@ ghost use Rattle.deliveries.specs.declared.delivery.Delivery.{Delivery as a_deli
 ghost use Rattle.desk_console.specs.Input.{bytes_of};
 ghost use Rattle.desk_console.specs.Printed.{AppendsStart};
 ghost use Rattle.desk_cli.specs.Replay.{Opens, Prints, PrintsNoMore, PrintsStart, Replays};
-ghost use Rattle.desk_cli.specs.Replay.{lines_of, point_lines, state_line};
+ghost use Rattle.desk_cli.specs.Replay.{lines_of, lines_until, point_lines, state_line};
 
 use crate::line_answer::answer_line;
+use crate::list_end::is_past;
 use crate::list_lines::{is_empty, read_line};
 use delivery_lines::LineFault;
 use desk::Desk;
@@ -30,6 +31,10 @@ use store::Store;
 /// Runs the deliveries of a list over the building of a file, in memory: prints each reply as a line,
 /// and then the POINT line of each point in file order. Empty lines are passed over, also with a CR.
 ///
+/// Where `until` is a moment, in hundredths of a second since 1970-01-01T00:00:00Z, the list ends before its first line
+/// that tells a tick later than it, whatever is wrong with that tick: that line and those after it are not answered, and the
+/// points are as the lines before it leave them.
+///
 /// The building is read, and refused, before the list is opened. A fault is told on `fault` as one line,
 /// in one write, and ends the run: the replies before it stand, and no POINT line follows a line that
 /// tells no delivery. A line of an import whose holiday list is at fault is answered with its refusal, and
@@ -40,6 +45,7 @@ pub fn replay<B: Read + Drop, D: Read + Drop, O, W: Write, F: Write>(
     alloc: Global,
     file: Input<'_, B>,
     deliveries: Listed<'_, O>,
+    until: Option<i64>,
     out: &mut W,
     fault: &mut F,
 ) -> Status
@@ -49,14 +55,14 @@ where
     ensures done { result ≡ Status.Done → (file_bytes list_bytes : List ℕ)
         → bytes_of B.remaining file.entry.reader ≡ Some file_bytes
         → Opens (O.post deliveries.entry.open) (bytes_of (reader_remaining D.remaining)) list_bytes
-        → Replays file_bytes list_bytes (W.contents out.old) (W.contents out.new) }
+        → Replays until file_bytes list_bytes (W.contents out.old) (W.contents out.new) }
     ensures quiet { result ≡ Status.Done → Keeps (F.contents fault.old) (F.contents fault.new) }
     ensures no_more { (file_bytes list_bytes : List ℕ)
         → bytes_of B.remaining file.entry.reader ≡ Some file_bytes
         → Opens (O.post deliveries.entry.open) (bytes_of (reader_remaining D.remaining)) list_bytes
-        → PrintsNoMore file_bytes list_bytes (W.contents out.old) (W.contents out.new) }
+        → PrintsNoMore until file_bytes list_bytes (W.contents out.old) (W.contents out.new) }
 {
-    match replay_over(alloc, file, deliveries, out) {
+    match replay_over(alloc, file, deliveries, until, out) {
         Ok(()) => Status::Done,
         Err(end) => {
             let end = end.after(out.flush());
@@ -70,6 +76,7 @@ fn replay_over<'a, B: Read + Drop, D: Read + Drop, O, W: Write>(
     alloc: Global,
     file: Input<'a, B>,
     deliveries: Listed<'a, O>,
+    until: Option<i64>,
     out: &mut W,
 ) -> Result<(), RunFault<'a>>
 where
@@ -78,15 +85,15 @@ where
     ensures done { OnOk result ((file_bytes list_bytes : List ℕ)
         → bytes_of B.remaining file.entry.reader ≡ Some file_bytes
         → Opens (O.post deliveries.entry.open) (bytes_of (reader_remaining D.remaining)) list_bytes
-        → Replays file_bytes list_bytes (W.contents out.old) (W.contents out.new)) }
+        → Replays until file_bytes list_bytes (W.contents out.old) (W.contents out.new)) }
     ensures no_more { (file_bytes list_bytes : List ℕ)
         → bytes_of B.remaining file.entry.reader ≡ Some file_bytes
         → Opens (O.post deliveries.entry.open) (bytes_of (reader_remaining D.remaining)) list_bytes
-        → PrintsNoMore file_bytes list_bytes (W.contents out.old) (W.contents out.new) }
+        → PrintsNoMore until file_bytes list_bytes (W.contents out.old) (W.contents out.new) }
 {
     let building = read_building(alloc, file)?;
     let mut desk = Desk::new(alloc, building, MemStore::new(alloc));
-    print_list(alloc, &mut desk, deliveries, out)
+    print_list(alloc, &mut desk, deliveries, until, out)
 }
 
 /// Answers each line of the list, and then tells the points. The desk is lent, so that no exit here drops one: at the
@@ -95,6 +102,7 @@ fn print_list<'a, S: Store + Drop, D: Read + Drop, O, W: Write>(
     alloc: Global,
     desk: &mut Desk<S>,
     deliveries: Listed<'a, O>,
+    until: Option<i64>,
     out: &mut W,
 ) -> Result<(), RunFault<'a>>
 where
@@ -104,39 +112,40 @@ where
         → building_of file_bytes ≡ Ok (contents_of desk.old.building)
         → Opens (O.post deliveries.entry.open) (bytes_of (reader_remaining D.remaining)) list_bytes
         → Holds desk.old.building [] (S.standing desk.old.store)
-        → Replays file_bytes list_bytes (W.contents out.old) (W.contents out.new)) }
+        → Replays until file_bytes list_bytes (W.contents out.old) (W.contents out.new)) }
     ensures no_more { (file_bytes list_bytes : List ℕ) → (S.standing desk.new.store).is_honest
         → building_of file_bytes ≡ Ok (contents_of desk.old.building)
         → Opens (O.post deliveries.entry.open) (bytes_of (reader_remaining D.remaining)) list_bytes
         → Holds desk.old.building [] (S.standing desk.old.store)
-        → PrintsNoMore file_bytes list_bytes (W.contents out.old) (W.contents out.new) }
+        → PrintsNoMore until file_bytes list_bytes (W.contents out.old) (W.contents out.new) }
 {
     let Listed { path, open } = deliveries;
     match open() {
-        Ok(reader) => print_replies(alloc, desk, path, reader, out)?,
+        Ok(reader) => print_replies(alloc, desk, path, reader, until, out)?,
         Err(error) => return Err(RunFault::of_read(&error, path)),
     }
     print_points(alloc, desk, out)?;
     flush(out)
 }
 
-/// Answers each line that the reader has left.
+/// Answers each line that the reader has left, up to a moment.
 fn print_replies<'a, S: Store + Drop, D: Read + Drop, W: Write>(
     alloc: Global,
     desk: &mut Desk<S>,
     path: &'a str,
     mut reader: BufReader<D>,
+    until: Option<i64>,
     out: &mut W,
 ) -> Result<(), RunFault<'a>>
     ensures prints { OnOk result ((bytes : List ℕ) (earlier : List a_delivery) → (S.standing desk.new.store).is_honest
         → reader_remaining D.remaining reader ≡ Some bytes
         → Holds desk.old.building earlier (S.standing desk.old.store)
-        → Prints desk.old.building earlier (lines_of bytes) (W.contents out.old) (W.contents out.new)
+        → Prints desk.old.building earlier (lines_until desk.old.building until (lines_of bytes)) (W.contents out.old) (W.contents out.new)
         (S.standing desk.new.store).content) }
     ensures no_more { (bytes : List ℕ) (earlier : List a_delivery) → (S.standing desk.new.store).is_honest
         → reader_remaining D.remaining reader ≡ Some bytes
         → Holds desk.old.building earlier (S.standing desk.old.store)
-        → PrintsStart desk.old.building earlier (lines_of bytes) (W.contents out.old) (W.contents out.new) }
+        → PrintsStart desk.old.building earlier (lines_until desk.old.building until (lines_of bytes)) (W.contents out.old) (W.contents out.new) }
     ensures honest { (S.standing desk.new.store).is_honest → (S.standing desk.old.store).is_honest }
     ensures building { desk.new.building ≡ desk.old.building }
 {
@@ -145,6 +154,10 @@ fn print_replies<'a, S: Store + Drop, D: Read + Drop, W: Write>(
     for number in 1..u64::MAX {
         let is_line = read_line(path, &mut reader, &mut line)?;
         if !is_line {
+            return Ok(());
+        }
+        let is_past = is_past(alloc, &mut scratch, desk.building(), until, line.as_slice())?;
+        if is_past {
             return Ok(());
         }
         let waits = reader.buffer().is_empty();

@@ -15,8 +15,8 @@ returns-clause-done g c =
     of_any c.flush.result _ (λ file_bytes list_bytes honest file list holds.
     let list_is : reader_remaining g.D.Read.remaining c.in-Ok.reader ≡ Some list_bytes = list (Ok c.in-Ok.reader) c.in-Ok.ensures in
     let prints = c.in_ok-print_replies-in-Ok.ensures.prints list_bytes [] (c.in_ok-print_points.ensures.honest honest) list_is holds in
-    Replays-Keeps file_bytes list_bytes _ _ _
-    (Replays-done file_bytes list_bytes c.args.desk.now.building c.args.desk.now.building c.print_replies.new.desk.building _ _ _ _
+    Replays-Keeps c.args.until file_bytes list_bytes _ _ _
+    (Replays-done c.args.until file_bytes list_bytes c.args.desk.now.building c.args.desk.now.building c.print_replies.new.desk.building _ _ _ _
     file refl prints
     c.in_ok-print_replies-in-Ok.ensures.building (c.in_ok-print_points.ensures.whole honest)) c.flush.ensures)
 
@@ -24,7 +24,7 @@ pub returns-clause-no_more : goal.returns-clause-no_more
 returns-clause-no_more g c = λ file_bytes list_bytes honest file list holds.
     let list_is : reader_remaining g.D.Read.remaining c.in-Ok.reader ≡ Some list_bytes = list (Ok c.in-Ok.reader) c.in-Ok.ensures in
     let prints = c.in_ok-print_replies-in-Ok.ensures.prints list_bytes [] (c.print_points.ensures.honest honest) list_is holds in
-    no_more-points file_bytes list_bytes c.args.desk.now.building c.args.desk.now.building c.print_replies.new.desk.building _ _ _ _ _
+    no_more-points c.args.until file_bytes list_bytes c.args.desk.now.building c.args.desk.now.building c.print_replies.new.desk.building _ _ _ _ _
     file refl prints
     c.in_ok-print_replies-in-Ok.ensures.building (c.print_points.ensures.no_more honest) c.flush.ensures
 
@@ -32,12 +32,12 @@ pub returns-in_err-print_points-clause-no_more : goal.returns-in_err-print_point
 returns-in_err-print_points-clause-no_more g c = λ file_bytes list_bytes honest file list holds.
     let list_is : reader_remaining g.D.Read.remaining c.in-Ok.reader ≡ Some list_bytes = list (Ok c.in-Ok.reader) c.in-Ok.ensures in
     let prints = c.in_ok-print_replies-in-Ok.ensures.prints list_bytes [] (c.print_points.ensures.honest honest) list_is holds in
-    no_more-points file_bytes list_bytes c.args.desk.now.building c.args.desk.now.building c.print_replies.new.desk.building _ _ _ _ _
+    no_more-points c.args.until file_bytes list_bytes c.args.desk.now.building c.args.desk.now.building c.print_replies.new.desk.building _ _ _ _ _
     file refl prints
     c.in_ok-print_replies-in-Ok.ensures.building (c.print_points.ensures.no_more honest) (Keeps-same _)
 
 pub returns-in_err-print_replies-in-Ok-clause-no_more : goal.returns-in_err-print_replies-in-Ok-clause-no_more
 returns-in_err-print_replies-in-Ok-clause-no_more g c = λ file_bytes list_bytes honest file list holds.
     let list_is : reader_remaining g.D.Read.remaining c.in-Ok.reader ≡ Some list_bytes = list (Ok c.in-Ok.reader) c.in-Ok.ensures in
-    no_more-lines file_bytes list_bytes c.args.desk.now.building c.args.desk.now.building _ _ _
+    no_more-lines c.args.until file_bytes list_bytes c.args.desk.now.building c.args.desk.now.building _ _ _
     file refl (c.print_replies.ensures.no_more list_bytes [] honest list_is holds) (Keeps-same _)

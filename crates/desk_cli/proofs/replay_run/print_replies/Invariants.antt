@@ -12,7 +12,7 @@ invariant-loop-number g l = record {
   so_far : (bytes : List ℕ) (E : List Delivery) → (g.S.Store.standing l.desk.store).is_honest
       → reader_remaining g.D.Read.remaining l.initial.reader ≡ Some bytes
       → Holds l.initial.desk.building E (g.S.Store.standing l.initial.desk.store)
-      → Progress l.initial.desk.building E bytes (reader_remaining g.D.Read.remaining l.reader) (g.W.Write.contents l.initial.out)
+      → Progress l.initial.desk.building l.until E bytes (reader_remaining g.D.Read.remaining l.reader) (g.W.Write.contents l.initial.out)
       (g.W.Write.contents l.out)
       (g.S.Store.standing l.desk.store).content;
 }

@@ -1,6 +1,6 @@
 use Rattle.std.proofs.Common.{rules}
 use Rattle.desk_cli.proofs.CollectLemmas.{collects_delivery, collects_empty, collects_refused}
-use Rattle.desk_cli.proofs.straighten_run.collect_line.Goals as goal
+use Rattle.desk_cli.proofs.list_reading.collect_line.Goals as goal
 
 pub returns-then-is_empty : goal.returns-then-is_empty
 returns-then-is_empty c = collects_empty _ _ _ (search rules)

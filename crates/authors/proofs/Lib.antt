@@ -1,0 +1,5 @@
+pub mod LawLemmas
+pub mod EventLemmas
+pub mod RunLemmas
+pub mod SettleLemmas
+pub mod TurnLemmas

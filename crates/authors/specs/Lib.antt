@@ -1,0 +1,4 @@
+pub mod Settling
+pub mod Authors
+pub mod Turns
+pub mod Laws

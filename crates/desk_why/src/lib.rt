@@ -1,0 +1,12 @@
+//! Why does a point have its value?
+//!
+//! `why` reads the building of a file and the deliveries of a list, up to a moment, and prints what the point presents then
+//! and what put each value in its places (`authors`, `why_lines`).
+#![tactic(auto)]
+
+pub use why_run::why;
+
+#[cfg(test)]
+mod trials;
+mod why_fault;
+mod why_run;

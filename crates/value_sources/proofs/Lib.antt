@@ -1,0 +1,2 @@
+pub mod HeardLemmas
+pub mod SameLemmas
