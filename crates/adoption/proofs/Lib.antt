@@ -2,3 +2,4 @@ pub mod ItemLemmas
 pub mod PlaceLemmas
 pub mod RowLemmas
 pub mod SuitLemmas
+mod RenamingLemmas

@@ -1,4 +1,6 @@
 pub mod Adopted
 pub mod Faults
 pub mod Items
+pub mod NoteLine
+pub mod Notes
 pub mod Renamed

@@ -7,13 +7,17 @@
 
 pub use adopting::{AdoptFault, adopt};
 pub use laws::adopted_tables_suit;
+pub use notes::{Notes, adoption_notes};
+pub use renamed_name::{NameKind, RenamedName};
 pub use renaming::Renaming;
 
 mod adopting;
 mod calendars;
 mod laws;
+mod notes;
 mod panels;
 mod places;
+mod renamed_name;
 mod renaming;
 #[cfg(test)]
 mod trials;

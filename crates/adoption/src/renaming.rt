@@ -1,8 +1,10 @@
 //! Names that changed.
-ghost use Rattle.std.specs.Prelude.{◌≡◌, find, option_copied};
+ghost use Rattle.std.specs.Prelude.{◌≡◌, ◌++◌, ◌∷◌, find, IfSome, MatchOption, None, option_copied};
 ghost use Rattle.std.specs.List.{list_any};
 ghost use Rattle.std.specs.Str.{bytes_eq};
 ghost use Rattle.adoption.specs.Renamed.{former_name};
+ghost use Rattle.points.specs.Name.{IsName};
+ghost use Rattle.store.specs.Tables.{Text};
 
 use points::Name;
 
@@ -11,6 +13,39 @@ use points::Name;
 pub struct Renaming {
     pub old: Name,
     pub new: Name,
+}
+
+/// The text before the first `=`, and the text after it.
+fn cut_at_equals(text: &str) -> Option<(&str, &str)>
+    ensures whole { IfSome result (λ cut. text.now ≡ cut.0.now ++ 61 ∷ cut.1.now) }
+    ensures parts { (old new : Text) → IsName old → text.now ≡ old ++ 61 ∷ new
+        → MatchOption result ⊥ (λ cut. (cut.0.now ≡ old) × (cut.1.now ≡ new)) }
+{
+    text.split_once("=")
+}
+
+/// The renaming of two texts, if both are names.
+fn renaming_of(old: &str, new: &str) -> Option<Renaming>
+    ensures named { IfSome result (λ it. (it.old ≡ old.now) × (it.new ≡ new.now)) }
+    ensures none { result ≡ None → IsName old.now → IsName new.now → ⊥ }
+{
+    match (Name::read(old), Name::read(new)) {
+        (Ok(old), Ok(new)) => Some(Renaming { old, new }),
+        _ => None,
+    }
+}
+
+impl Renaming {
+    /// Reads a renaming `OLD=NEW` of two names, or nothing where the text is none.
+    pub fn read(text: &str) -> Option<Renaming>
+        ensures read { IfSome result (λ it. text.now ≡ it.old ++ 61 ∷ it.new) }
+        ensures none { result ≡ None → (old new : Text) → IsName old → IsName new → text.now ≡ old ++ 61 ∷ new → ⊥ }
+    {
+        match cut_at_equals(text) {
+            Some((old, new)) => renaming_of(old, new),
+            None => None,
+        }
+    }
 }
 
 fn renaming_to<'a>(renamings: &'a [Renaming], name: &Name) -> Option<&'a Renaming>

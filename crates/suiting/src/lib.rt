@@ -8,7 +8,7 @@
 
 pub use finding::Finding;
 pub use holdings::Holdings;
-pub use places::is_written;
+pub use places::{add_places, is_written};
 pub use surveying::{Survey, survey_tables};
 
 mod finding;

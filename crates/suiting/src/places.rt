@@ -98,8 +98,8 @@ fn add_place(
     }
 }
 
-// Adds what is found of the places of a point of the building.
-fn add_places(
+/// Adds what is found of the places of a point of the building, from 1 to 16.
+pub fn add_places(
     findings: &mut Vec<Finding>,
     building: &Building,
     point: &Point,

@@ -1,0 +1,2 @@
+pub mod AdoptionRun
+pub mod Renamings
