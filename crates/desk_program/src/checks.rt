@@ -1,5 +1,5 @@
 //! The check of a building file and a database beside it.
-use desk_check::check_database;
+use desk_check::{Detail, check_database};
 use desk_console::{Input, Status};
 use desk_database::find_store;
 use std::fs;
@@ -25,7 +25,12 @@ fn one_of<S: Drop>(found: Result<Option<S>, OpenFault>) -> Result<S, OpenFault> 
 
 /// Checks the tables in the database of a path beside the building of another. It is an error where memory for the
 /// output's buffer is refused.
-pub fn run<'a>(rt: &HostRuntime, file: &'a str, database: &'a str) -> io::Result<Status> {
+pub fn run<'a>(
+    rt: &HostRuntime,
+    file: &'a str,
+    database: &'a str,
+    detail: Detail,
+) -> io::Result<Status> {
     let mut out = BufWriter::new(rt.alloc(), io::writer(rt))?;
     let building = Input {
         path: file,
@@ -36,6 +41,7 @@ pub fn run<'a>(rt: &HostRuntime, file: &'a str, database: &'a str) -> io::Result
     Ok(run_over(
         rt,
         building,
+        detail,
         database,
         is_missing,
         opener,
@@ -49,6 +55,7 @@ pub fn run<'a>(rt: &HostRuntime, file: &'a str, database: &'a str) -> io::Result
 fn run_over<'a, B: Read + Drop, S: Store + Drop, O, W: Write, F: Write>(
     rt: &HostRuntime,
     building: Input<'a, B>,
+    detail: Detail,
     database: &'a str,
     is_missing: bool,
     opener: O,
@@ -68,5 +75,5 @@ where
             Err(fault) => Err(fault),
         }
     };
-    check_database(rt.alloc(), building, database, finder, out, fault).status
+    check_database(rt.alloc(), building, detail, database, finder, out, fault).status
 }

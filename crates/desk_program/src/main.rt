@@ -3,9 +3,10 @@
 
 use crate::runs::Asked;
 use command_line::{ArgFault, Line};
-use desk_check::check;
+use desk_check::{Detail, check};
 use desk_cli::{describe, replay, straighten};
 use desk_console::{Input, Listed, Status};
+use desk_why::why;
 use std::env;
 use std::fs::{self, File};
 use std::io::{self, BufReader, BufWriter, Write};
@@ -66,11 +67,19 @@ fn building_at<'a>(rt: &HostRuntime, path: &'a str) -> Input<'a, File> {
     }
 }
 
-fn run_check(rt: &HostRuntime, file: &str) -> io::Result<Status> {
+fn run_check<'a>(
+    rt: &HostRuntime,
+    file: &'a str,
+    database: Option<&'a str>,
+    detail: Detail,
+) -> io::Result<Status> {
+    if let Some(database) = database {
+        return checks::run(rt, file, database, detail);
+    }
     let alloc = rt.alloc();
     let mut out = BufWriter::new(alloc, io::writer(rt))?;
     let building = building_at(rt, file);
-    Ok(check(alloc, building, &mut out, &mut rt.stderr()))
+    Ok(check(alloc, building, detail, &mut out, &mut rt.stderr()))
 }
 
 fn run_describe(rt: &HostRuntime, file: &str) -> io::Result<Status> {
@@ -80,7 +89,12 @@ fn run_describe(rt: &HostRuntime, file: &str) -> io::Result<Status> {
     Ok(describe(alloc, building, &mut out, &mut rt.stderr()))
 }
 
-fn run_replay(rt: &HostRuntime, file: &str, deliveries: &str) -> io::Result<Status> {
+fn run_replay(
+    rt: &HostRuntime,
+    file: &str,
+    deliveries: &str,
+    until: Option<i64>,
+) -> io::Result<Status> {
     let alloc = rt.alloc();
     let mut out = BufWriter::new(alloc, io::writer(rt))?;
     let building = building_at(rt, file);
@@ -88,7 +102,32 @@ fn run_replay(rt: &HostRuntime, file: &str, deliveries: &str) -> io::Result<Stat
         path: deliveries,
         open: || open_list(rt, deliveries),
     };
-    Ok(replay(alloc, building, list, &mut out, &mut rt.stderr()))
+    Ok(replay(alloc, building, list, until, &mut out, &mut rt.stderr()))
+}
+
+fn run_why(
+    rt: &HostRuntime,
+    file: &str,
+    deliveries: &str,
+    point: &str,
+    until: Option<i64>,
+) -> io::Result<Status> {
+    let alloc = rt.alloc();
+    let mut out = BufWriter::new(alloc, io::writer(rt))?;
+    let building = building_at(rt, file);
+    let list = Listed {
+        path: deliveries,
+        open: || open_list(rt, deliveries),
+    };
+    Ok(why(
+        alloc,
+        building,
+        list,
+        point,
+        until,
+        &mut out,
+        &mut rt.stderr(),
+    ))
 }
 
 fn run_straighten(rt: &HostRuntime, file: &str, deliveries: &str) -> io::Result<Status> {
@@ -130,17 +169,33 @@ fn run(rt: &HostRuntime, words: &[String]) -> io::Result<Status> {
         Ok(
             Line::Check {
                 file,
-                database: None,
+                database,
+                explain,
             },
-        ) => run_check(rt, file),
-        Ok(
-            Line::Check {
-                file,
-                database: Some(database),
-            },
-        ) => checks::run(rt, file, database),
+        ) => {
+            let detail = if explain {
+                Detail::Explained
+            } else {
+                Detail::Line
+            };
+            run_check(rt, file, database, detail)
+        }
         Ok(Line::Describe { file }) => run_describe(rt, file),
-        Ok(Line::Replay { file, deliveries }) => run_replay(rt, file, deliveries),
+        Ok(
+            Line::Replay {
+                file,
+                deliveries,
+                until,
+            },
+        ) => run_replay(rt, file, deliveries, until),
+        Ok(
+            Line::Why {
+                file,
+                deliveries,
+                point,
+                until,
+            },
+        ) => run_why(rt, file, deliveries, point, until),
         Ok(Line::Straighten { file, deliveries }) => run_straighten(rt, file, deliveries),
         Ok(
             Line::Import {
