@@ -1,14 +1,15 @@
 -- What the words of a command line ask of the program, by `clap`'s own reading of them.
 use Rattle.std.specs.Prelude.{◌&&◌, false, true, Bool, ℕ, ℤ, negsuc, pos, List, Option, None, Some, codes}
-use Rattle.std.specs.Prelude.{if◌then◌else◌, option_and_then, option_map}
+use Rattle.std.specs.Prelude.{if◌then◌else◌, [], map, option_and_then, option_map, unwrap_or}
+use Rattle.std.specs.Borrow.{Bor}
 use Rattle.std.specs.Str.{bytes_eq}
 use Rattle.std.specs.Str.Parse.{signed_digits_value, without_leading_sign}
 use Rattle.clap.specs.ValueTests.{fits_i64, is_numeral}
-use Rattle.clap.specs.declared.builder.action.ArgAction.TheVariants.{SetTrue}
+use Rattle.clap.specs.declared.builder.action.ArgAction.TheVariants.{Append, SetTrue}
 use Rattle.std.specs.Prelude.{◌≡◌, IfOk, Result}
 use Rattle.clap.specs.declared.builder.command.Command.{Command}
 use Rattle.clap.specs.declared.builder.command.Command.TheViews.{out-Command as fields_of}
-use Rattle.clap.specs.Words.{App, Row, Rule, Text, app_of, first_of, new_app, new_rule, subcommand_of}
+use Rattle.clap.specs.Words.{App, Row, Rule, Text, all_of, app_of, first_of, new_app, new_rule, subcommand_of}
 use Rattle.clap.specs.Words.{with_rule, with_subcommand}
 use Rattle.clap.specs.Simple.{on_top}
 use Rattle.clap.specs.declared.builder.value_parser.ValueParser.TheVariants as vp
@@ -43,9 +44,21 @@ looked_over_rule = record (new_rule (codes "database")) { value_names = 1 }
 abbrev pub flag_rule : Text → Rule
 flag_rule name = record (new_rule name) { long = Some name; action = Some SetTrue }
 
--- `check FILE [DB] [--explain]`
+-- the path of a record
+abbrev pub record_rule : Rule
+record_rule = record (new_rule (codes "record")) { long = Some (codes "record"); value_names = 1 }
+
+-- `check FILE [DB] [--explain] [--record PATH]`
 abbrev pub check_app : App
-check_app = with_rule (with_rule (file_app (codes "check")) looked_over_rule) (flag_rule (codes "explain"))
+check_app = with_rule (with_rule (with_rule (file_app (codes "check")) looked_over_rule) (flag_rule (codes "explain"))) record_rule
+
+-- an option that may stand many times, each with a value
+abbrev pub rename_rule : Rule
+rename_rule = record (new_rule (codes "rename")) { long = Some (codes "rename"); action = Some Append; value_names = 1 }
+
+-- `adopt FILE DB NEW [--rename OLD=NEW].. [--dry-run]`
+abbrev pub adopt_app : App
+adopt_app = with_rule (with_rule (database_app (codes "adopt") (needed_rule (codes "made"))) rename_rule) (flag_rule (codes "dry-run"))
 
 -- `describe FILE`
 abbrev pub describe_app : App
@@ -75,13 +88,13 @@ why_app = with_rule (with_rule (deliveries_app (codes "why")) (needed_rule (code
 abbrev pub straighten_app : App
 straighten_app = deliveries_app (codes "straighten")
 
--- `import FILE DB CSV`
+-- `import FILE DB CSV [--record PATH]`
 abbrev pub import_app : App
-import_app = database_app (codes "import") (needed_rule (codes "holidays"))
+import_app = with_rule (database_app (codes "import") (needed_rule (codes "holidays"))) record_rule
 
--- `tick FILE DB AT`
+-- `tick FILE DB AT [--record PATH]`
 abbrev pub tick_app : App
-tick_app = database_app (codes "tick") (number_rule (codes "at"))
+tick_app = with_rule (database_app (codes "tick") (number_rule (codes "at"))) record_rule
 
 -- `report FILE DB DATE`
 abbrev pub report_app : App
@@ -91,17 +104,18 @@ report_app = database_app (codes "report") (needed_rule (codes "date"))
 abbrev pub requests_rule : Rule
 requests_rule = record (needed_rule (codes "requests")) { long = Some (codes "requests"); parser = Some (vp.Unsigned 1 1_000_000) }
 
--- `serve FILE DB ADDRESS --requests N [--clock]`
+-- `serve FILE DB ADDRESS --requests N [--clock] [--record PATH]`
 abbrev pub serve_app : App
-serve_app = with_rule (with_rule
-    (database_app (codes "serve") (needed_rule (codes "address"))) requests_rule) (flag_rule (codes "clock"))
+serve_app = with_rule (with_rule (with_rule
+    (database_app (codes "serve") (needed_rule (codes "address"))) requests_rule) (flag_rule (codes "clock"))) record_rule
 
 -- `desk`, which needs a subcommand
 abbrev pub desk_app : App
 desk_app =
     with_subcommand (with_subcommand (with_subcommand (with_subcommand (with_subcommand (with_subcommand (with_subcommand
-    (with_subcommand (with_subcommand (on_top (λ s. record s { subcommand_required = true }) (new_app (codes "desk"))) check_app.top)
-    describe_app.top) replay_app.top) why_app.top) straighten_app.top) import_app.top) tick_app.top) report_app.top) serve_app.top
+    (with_subcommand (with_subcommand (with_subcommand (on_top (λ s. record s { subcommand_required = true }) (new_app (codes "desk")))
+    check_app.top) describe_app.top) replay_app.top) why_app.top) straighten_app.top) import_app.top) tick_app.top) report_app.top)
+    serve_app.top) adopt_app.top
 
 -- what is made, if memory is had, is the command `app`, with no argument for its subcommands too
 abbrev pub Makes : {E : Type 0} → App → Result Command E → Type 0
@@ -111,26 +125,34 @@ Makes app r = IfOk r (λ c. (app_of c ≡ app) × ((fields_of c).has_globals ≡
 
 -- what a line asks, with the texts that it names
 pub data Asked : Type 0 where
-  Check : (file : Text) → (database : Option Text) → (explain : Bool) → Asked
+  Check : (file : Text) → (database : Option Text) → (explain : Bool) → (of : Option Text) → Asked
+  Adopt : (file : Text) → (database : Text) → (made : Text) → (renamings : List Text) → (dry_run : Bool) → Asked
   Describe : (file : Text) → Asked
   Replay : (file : Text) → (deliveries : Text) → (until : Option ℤ) → Asked
   Why : (file : Text) → (deliveries : Text) → (point : Text) → (until : Option ℤ) → Asked
   Straighten : (file : Text) → (deliveries : Text) → Asked
-  Import : (file : Text) → (database : Text) → (holidays : Text) → Asked
-  Tick : (file : Text) → (database : Text) → (at : ℤ) → Asked
+  Import : (file : Text) → (database : Text) → (holidays : Text) → (kept : Option Text) → Asked
+  Tick : (file : Text) → (database : Text) → (at : ℤ) → (kept : Option Text) → Asked
   Report : (file : Text) → (database : Text) → (date : Text) → Asked
-  Serve : (file : Text) → (database : Text) → (address : Text) → (requests : ℕ) → (clock : Bool) → Asked
+  Serve : (file : Text) → (database : Text) → (address : Text) → (requests : ℕ) → (clock : Bool) → (kept : Option Text) → Asked
+
+-- the path that was among the words, if one was
+abbrev pub path_of : Option (Bor Text) → Option Text
+path_of path = option_map (λ it. it.now) path
 
 abbrev pub asked_of : Line → Asked
-asked_of (line.Check file database explain) = Check file.now (option_map (λ path. path.now) database) explain
+asked_of (line.Check file database explain of) = Check file.now (path_of database) explain (path_of of)
+asked_of (line.Adopt file database made renamings dry_run) =
+    Adopt file.now database.now made.now (map (λ text. text.now) renamings.items) dry_run
 asked_of (line.Describe file) = Describe file.now
 asked_of (line.Replay file deliveries until) = Replay file.now deliveries.now until
 asked_of (line.Why file deliveries point until) = Why file.now deliveries.now point.now until
 asked_of (line.Straighten file deliveries) = Straighten file.now deliveries.now
-asked_of (line.Import file database holidays) = Import file.now database.now holidays.now
-asked_of (line.Tick file database at) = Tick file.now database.now at
+asked_of (line.Import file database holidays kept) = Import file.now database.now holidays.now (path_of kept)
+asked_of (line.Tick file database at kept) = Tick file.now database.now at (path_of kept)
 asked_of (line.Report file database date) = Report file.now database.now date.now
-asked_of (line.Serve file database address requests clock) = Serve file.now database.now address.now requests clock
+asked_of (line.Serve file database address requests clock kept) =
+    Serve file.now database.now address.now requests clock (path_of kept)
 
 -- the number that a text writes in decimal digits, if it is an i64
 abbrev pub moment_in : Text → Option ℤ
@@ -152,8 +174,17 @@ is_told (Some text) = bytes_eq text (codes "true")
 is_told None = false
 
 abbrev pub check_in : List Row → Option Asked
-check_in rows = option_map (λ file. Check file (first_of (codes "database") rows) (is_told (first_of (codes "explain") rows)))
-    (first_of (codes "file") rows)
+check_in rows = option_map (λ file. Check file (first_of (codes "database") rows) (is_told (first_of (codes "explain") rows))
+    (first_of (codes "record") rows)) (first_of (codes "file") rows)
+
+-- the values of an option that may stand many times
+abbrev pub values_in : Text → List Row → List Text
+values_in id rows = unwrap_or (all_of id rows) []
+
+abbrev pub adopt_in : List Row → Option Asked
+adopt_in rows = option_and_then (λ file. option_and_then (λ database.
+    option_map (λ made. Adopt file database made (values_in (codes "rename") rows) (is_told (first_of (codes "dry-run") rows)))
+    (first_of (codes "made") rows)) (first_of (codes "database") rows)) (first_of (codes "file") rows)
 
 abbrev pub describe_in : List Row → Option Asked
 describe_in rows = option_map Describe (first_of (codes "file") rows)
@@ -175,12 +206,12 @@ straighten_in rows = option_and_then (λ file. option_map (λ deliveries. Straig
 
 abbrev pub import_in : List Row → Option Asked
 import_in rows = option_and_then (λ file. option_and_then (λ database.
-    option_map (λ holidays. Import file database holidays)
+    option_map (λ holidays. Import file database holidays (first_of (codes "record") rows))
     (first_of (codes "holidays") rows)) (first_of (codes "database") rows)) (first_of (codes "file") rows)
 
 abbrev pub tick_in : List Row → Option Asked
 tick_in rows = option_and_then (λ file. option_and_then (λ database.
-    option_map (λ at. Tick file database at)
+    option_map (λ at. Tick file database at (first_of (codes "record") rows))
     (option_and_then moment_in (first_of (codes "at") rows)))
     (first_of (codes "database") rows)) (first_of (codes "file") rows)
 
@@ -191,14 +222,16 @@ report_in rows = option_and_then (λ file. option_and_then (λ database.
 
 abbrev pub serve_in : List Row → Option Asked
 serve_in rows = option_and_then (λ file. option_and_then (λ database. option_and_then (λ address.
-    option_map (λ requests. Serve file database address requests (is_told (first_of (codes "clock") rows)))
+    option_map (λ requests. Serve file database address requests (is_told (first_of (codes "clock") rows))
+    (first_of (codes "record") rows))
     (option_and_then count_in (first_of (codes "requests") rows)))
     (first_of (codes "address") rows)) (first_of (codes "database") rows)) (first_of (codes "file") rows)
 
 -- what a subcommand's name and the rows of its arguments ask
 abbrev pub asked_in : Text × List Row → Option Asked
 asked_in (name, rows) =
-    if bytes_eq name (codes "check") then check_in rows
+    if bytes_eq name (codes "adopt") then adopt_in rows
+    else (if bytes_eq name (codes "check") then check_in rows
     else (if bytes_eq name (codes "describe") then describe_in rows
     else (if bytes_eq name (codes "replay") then replay_in rows
     else (if bytes_eq name (codes "why") then why_in rows
@@ -206,7 +239,7 @@ asked_in (name, rows) =
     else (if bytes_eq name (codes "import") then import_in rows
     else (if bytes_eq name (codes "tick") then tick_in rows
     else (if bytes_eq name (codes "report") then report_in rows
-    else (if bytes_eq name (codes "serve") then serve_in rows else None))))))))
+    else (if bytes_eq name (codes "serve") then serve_in rows else None)))))))))
 
 -- what the words ask, the program's name first
 abbrev pub asked : List Text → Option Asked

@@ -1,17 +1,18 @@
 //! What the words of a command line ask.
 
-ghost use Rattle.std.specs.Prelude.{◌≡◌, [], IfErr, IfOk, false, map, option_and_then};
-ghost use Rattle.std.specs.Prelude.{option_map, string_bytes};
+ghost use Rattle.std.specs.Prelude.{◌≡◌, [], IfErr, IfOk, IfSome, Some, codes, false, map, option_and_then};
+ghost use Rattle.std.specs.Prelude.{option_map, string_bytes, unwrap_or};
+ghost use Rattle.std.specs.Str.{bytes_eq};
 ghost use Rattle.clap.specs.Words.{App, HasKind, Kinds, fault_of, first_of, found_of};
 ghost use Rattle.clap.specs.Words.{rows_of, rule_of, subcommand_rows_of, with_rule, with_subcommand};
 ghost use Rattle.command_line.specs.ArgFault.{IsRefusedBy};
-ghost use Rattle.command_line.specs.Line.{Makes, asked, asked_in, asked_of, check_app, check_in};
+ghost use Rattle.command_line.specs.Line.{Makes, adopt_app, adopt_in, asked, asked_in, asked_of, check_app, check_in};
 ghost use Rattle.command_line.specs.Line.{count_in, count_of, database_app, deliveries_app};
 ghost use Rattle.command_line.specs.Line.{describe_app, describe_in, flag_rule};
 ghost use Rattle.command_line.specs.Line.{desk_app, file_app, import_app, import_in, is_told, looked_over_rule, moment_in};
-ghost use Rattle.command_line.specs.Line.{needed_rule, replay_app, replay_in, report_app, report_in};
+ghost use Rattle.command_line.specs.Line.{needed_rule, record_rule, rename_rule, replay_app, replay_in, report_app, report_in};
 ghost use Rattle.command_line.specs.Line.{requests_rule, serve_app, serve_in, straighten_app};
-ghost use Rattle.command_line.specs.Line.{straighten_in, tick_app, tick_in, until_rule, why_app, why_in};
+ghost use Rattle.command_line.specs.Line.{straighten_in, tick_app, tick_in, until_rule, values_in, why_app, why_in};
 
 use crate::ArgFault;
 use clap::error::ErrorKind;
@@ -19,10 +20,10 @@ use clap::{Arg, ArgAction, ArgMatches, Command};
 use std::alloc::{AllocError, Global};
 
 /// What the words of a command line ask of the program.
-#[derive(Clone, Copy)]
+#[derive(Drop)]
 pub enum Line<'a> {
-    /// `check FILE [DB] [--explain]`: reads the building of the file, and tells what it has, or what of the tables in a
-    /// database does not suit it.
+    /// `check FILE [DB] [--explain] [--record PATH]`: reads the building of the file, and tells what it has, or what of the
+    /// tables in a database does not suit it, or whether they are those of a record.
     Check {
         /// The path of the building file.
         file: &'a str,
@@ -30,6 +31,22 @@ pub enum Line<'a> {
         database: Option<&'a str>,
         /// Whether a fault of the file is explained.
         explain: bool,
+        /// The path of the record, if the tables are to be compared with it.
+        record: Option<&'a str>,
+    },
+    /// `adopt FILE DB NEW [--rename OLD=NEW].. [--dry-run]`: makes a database that suits the building of the file, from
+    /// the tables of another one.
+    Adopt {
+        /// The path of the building file.
+        file: &'a str,
+        /// The path of the database, which is only read.
+        database: &'a str,
+        /// The path of the one that is made.
+        made: &'a str,
+        /// The renamings, as they were given.
+        renamings: Vec<&'a str>,
+        /// Whether nothing is made.
+        dry_run: bool,
     },
     /// `describe FILE`: prints the building of the file as one JSON object.
     Describe {
@@ -64,7 +81,7 @@ pub enum Line<'a> {
         /// The path of the list of deliveries.
         deliveries: &'a str,
     },
-    /// `import FILE DB CSV`: delivers the import of a holiday list to the desk of a database.
+    /// `import FILE DB CSV [--record PATH]`: delivers the import of a holiday list to the desk of a database.
     Import {
         /// The path of the building file.
         file: &'a str,
@@ -72,8 +89,10 @@ pub enum Line<'a> {
         database: &'a str,
         /// The path of the holiday list.
         holidays: &'a str,
+        /// The path of the record, if one is kept.
+        record: Option<&'a str>,
     },
-    /// `tick FILE DB AT`: delivers a tick to the desk of a database.
+    /// `tick FILE DB AT [--record PATH]`: delivers a tick to the desk of a database.
     Tick {
         /// The path of the building file.
         file: &'a str,
@@ -81,6 +100,8 @@ pub enum Line<'a> {
         database: &'a str,
         /// The moment, in hundredths of a second since 1970.
         at: i64,
+        /// The path of the record, if one is kept.
+        record: Option<&'a str>,
     },
     /// `report FILE DB DATE`: tells a day of the desk of a database.
     Report {
@@ -91,7 +112,7 @@ pub enum Line<'a> {
         /// The day, as `YYYY-MM-DD`.
         date: &'a str,
     },
-    /// `serve FILE DB ADDRESS --requests N [--clock]`: answers requests to the desk of a database.
+    /// `serve FILE DB ADDRESS --requests N [--clock] [--record PATH]`: answers requests to the desk of a database.
     Serve {
         /// The path of the building file.
         file: &'a str,
@@ -103,6 +124,8 @@ pub enum Line<'a> {
         requests: u64,
         /// Whether a tick of the machine's clock comes before each request.
         clock: bool,
+        /// The path of the record, if one is kept.
+        record: Option<&'a str>,
     },
 }
 
@@ -119,7 +142,7 @@ impl<'a> Line<'a> {
     {
         let desk = desk_command(alloc)?;
         match desk.try_get_matches_from(words) {
-            Ok(matches) => line_in(&matches).ok_or(ArgFault::NoMemory),
+            Ok(matches) => line_in(alloc, &matches).ok_or(ArgFault::NoMemory),
             Err(error) => Err(fault_in(error)),
         }
     }
@@ -140,19 +163,46 @@ fn desk_command<'a>(alloc: Global) -> Result<Command<'a>, AllocError>
     let desk = with_subcommand(desk, import_command(alloc));
     let desk = with_subcommand(desk, tick_command(alloc));
     let desk = with_subcommand(desk, report_command(alloc));
-    with_subcommand(desk, serve_command(alloc))
+    let desk = with_subcommand(desk, serve_command(alloc));
+    with_subcommand(desk, adopt_command(alloc))
 }
 
-/// The subcommand `check FILE [DB] [--explain]`.
+/// The subcommand `adopt FILE DB NEW [--rename OLD=NEW].. [--dry-run]`.
+fn adopt_command<'a>(alloc: Global) -> Result<Command<'a>, AllocError>
+    ensures { Makes adopt_app result }
+{
+    let about =
+        "Makes a database that suits a building, from the tables of another one, which stays as it is";
+    let database = needed(
+        alloc,
+        "database",
+        "DB",
+        "The database of the desk, which is only read",
+    );
+    let made = needed(alloc, "made", "NEW", "The database that is made");
+    let adopt = with_argument(file_command(alloc, "adopt", about), database);
+    with_argument(
+        with_argument(with_argument(adopt, made), rename_argument(alloc)),
+        flag(
+            alloc,
+            "dry-run",
+            "Prints what would be taken along, and makes nothing",
+        ),
+    )
+}
+
+/// The subcommand `check FILE [DB] [--explain] [--record PATH]`.
 fn check_command<'a>(alloc: Global) -> Result<Command<'a>, AllocError>
     ensures { Makes check_app result }
 {
     let about =
         "Reads a building, and tells what it has or its first fault, or what of a database does not suit it";
     let help = "After a fault of the building, prints which item it is, and what is expected there";
+    let check = with_argument(file_command(alloc, "check", about), looked_over(alloc));
+    let compared = "A record, whose tables those of the database are to be";
     with_argument(
-        with_argument(file_command(alloc, "check", about), looked_over(alloc)),
-        flag(alloc, "explain", help),
+        with_argument(check, flag(alloc, "explain", help)),
+        record_argument(alloc, compared),
     )
 }
 
@@ -194,28 +244,30 @@ fn straighten_command<'a>(alloc: Global) -> Result<Command<'a>, AllocError>
     deliveries_command(alloc, "straighten", about)
 }
 
-/// The subcommand `import FILE DB CSV`.
+/// The subcommand `import FILE DB CSV [--record PATH]`.
 fn import_command<'a>(alloc: Global) -> Result<Command<'a>, AllocError>
     ensures { Makes import_app result }
 {
     let about = "Adds a list of holidays to the calendars of a database, and prints the reply";
     let help = "The holidays, as CSV with the header calendar,entry";
-    database_command(
-        alloc,
-        "import",
-        about,
-        needed(alloc, "holidays", "CSV", help),
+    let holidays = needed(alloc, "holidays", "CSV", help);
+    with_argument(
+        database_command(alloc, "import", about, holidays),
+        record_argument(alloc, KEPT),
     )
 }
 
-/// The subcommand `tick FILE DB AT`.
+/// The subcommand `tick FILE DB AT [--record PATH]`.
 fn tick_command<'a>(alloc: Global) -> Result<Command<'a>, AllocError>
     ensures { Makes tick_app result }
 {
     let about = "Settles the schedules in a database at a moment, and prints the reply";
     let help = "The moment, in hundredths of a second since 1970-01-01T00:00:00Z";
     let at = needed(alloc, "at", "AT", help).value_parser(clap::value_parser!(i64));
-    database_command(alloc, "tick", about, at)
+    with_argument(
+        database_command(alloc, "tick", about, at),
+        record_argument(alloc, KEPT),
+    )
 }
 
 /// The subcommand `report FILE DB DATE`.
@@ -227,21 +279,19 @@ fn report_command<'a>(alloc: Global) -> Result<Command<'a>, AllocError>
     database_command(alloc, "report", about, needed(alloc, "date", "DATE", help))
 }
 
-/// The subcommand `serve FILE DB ADDRESS --requests N [--clock]`.
+/// The subcommand `serve FILE DB ADDRESS --requests N [--clock] [--record PATH]`.
 fn serve_command<'a>(alloc: Global) -> Result<Command<'a>, AllocError>
     ensures { Makes serve_app result }
 {
     let about = "Answers the requests of wall panels and of who asks, over HTTP";
     let help = "The address to listen on, with its port, as 127.0.0.1:8080";
     let address = needed(alloc, "address", "ADDRESS", help);
+    let clock = "Delivers a tick of the machine's clock before each request";
     let serve = database_command(alloc, "serve", about, address);
+    let serve = with_argument(serve, requests_argument(alloc));
     with_argument(
-        with_argument(serve, requests_argument(alloc)),
-        flag(
-            alloc,
-            "clock",
-            "Delivers a tick of the machine's clock before each request",
-        ),
+        with_argument(serve, flag(alloc, "clock", clock)),
+        record_argument(alloc, KEPT),
     )
 }
 
@@ -362,6 +412,33 @@ fn until_argument<'a>(alloc: Global) -> Arg<'a>
         )
 }
 
+/// What is said of a record that is kept.
+const KEPT: &str =
+    "Writes each delivery down at the end of this list, on the disk before it is made";
+
+/// The path of a record.
+fn record_argument<'a>(alloc: Global, help: &'a str) -> Arg<'a>
+    ensures rule { rule_of result ≡ record_rule }
+    ensures local { result.global ≡ false }
+{
+    Arg::new(alloc, "record")
+        .long("record")
+        .value_name("PATH")
+        .help(help)
+}
+
+/// A renaming, of which there may be many.
+fn rename_argument<'a>(alloc: Global) -> Arg<'a>
+    ensures rule { rule_of result ≡ rename_rule }
+    ensures local { result.global ≡ false }
+{
+    Arg::new(alloc, "rename")
+        .long("rename")
+        .action(ArgAction::Append)
+        .value_name("OLD=NEW")
+        .help("A name of the tables, and the one that the building has for it")
+}
+
 /// A flag.
 fn flag<'a>(alloc: Global, name: &'a str, help: &'a str) -> Arg<'a>
     ensures rule { rule_of result ≡ flag_rule name.now }
@@ -373,11 +450,22 @@ fn flag<'a>(alloc: Global, name: &'a str, help: &'a str) -> Arg<'a>
         .help(help)
 }
 
-/// What the subcommand that was met asks, or `None` where a value is missing.
-fn line_in<'a>(matches: &ArgMatches<'a>) -> Option<Line<'a>>
-    ensures { option_map asked_of result ≡ option_and_then asked_in (subcommand_rows_of matches.now) }
+/// What the subcommand that was met asks, or `None` where a value is missing or memory was refused.
+fn line_in<'a>(alloc: Global, matches: &ArgMatches<'a>) -> Option<Line<'a>>
+    ensures { IfSome result (λ line. option_and_then asked_in (subcommand_rows_of matches.now) ≡ Some (asked_of line)) }
 {
     let (name, inner) = matches.subcommand()?;
+    match name {
+        "adopt" => adopt_line(alloc, inner),
+        _ => line_without_list(name, inner),
+    }
+}
+
+/// What a subcommand asks whose arguments have one value each, or `None` where a value is missing.
+fn line_without_list<'a>(name: &str, inner: &ArgMatches<'a>) -> Option<Line<'a>>
+    ensures { bytes_eq name.now (codes "adopt") ≡ false
+        → option_map asked_of result ≡ asked_in (name.now, rows_of (found_of inner.now)) }
+{
     match name {
         "check" => check_line(inner),
         "describe" => describe_line(inner),
@@ -392,6 +480,51 @@ fn line_in<'a>(matches: &ArgMatches<'a>) -> Option<Line<'a>>
     }
 }
 
+/// What the arguments of `adopt` ask; nothing too where memory was refused.
+fn adopt_line<'a>(alloc: Global, matches: &ArgMatches<'a>) -> Option<Line<'a>>
+    ensures { IfSome result (λ line. adopt_in (rows_of (found_of matches.now)) ≡ Some (asked_of line)) }
+{
+    if let Some(file) = text_at(matches, "file")
+        && let Some(database) = text_at(matches, "database")
+        && let Some(made) = text_at(matches, "made")
+    {
+        let renamings = texts_at(alloc, matches, "rename").ok()?;
+        let dry_run = is_told(matches, "dry-run");
+        Some(Line::Adopt {
+            file,
+            database,
+            made,
+            renamings,
+            dry_run,
+        })
+    } else {
+        None
+    }
+}
+
+/// The values of an argument.
+fn texts_at<'a>(
+    alloc: Global,
+    matches: &ArgMatches<'a>,
+    id: &str,
+) -> Result<Vec<&'a str>, AllocError>
+    ensures { IfOk result (λ texts. map (λ s. s.now) texts.items ≡ values_in id.now (rows_of (found_of matches.now))) }
+{
+    copied(alloc, matches.get_strs(id))
+}
+
+/// The texts of a slice, if there is one.
+fn copied<'a>(alloc: Global, values: Option<&[&'a str]>) -> Result<Vec<&'a str>, AllocError>
+    ensures { IfOk result (λ texts. map (λ s. s.now) texts.items
+        ≡ unwrap_or (option_map (λ them. map (λ s. s.now) them.now) values.entry) []) }
+{
+    let mut texts = Vec::new(alloc);
+    if let Some(values) = values {
+        texts.extend_from_slice(values)?;
+    }
+    Ok(texts)
+}
+
 /// What the arguments of `check` ask.
 fn check_line<'a>(matches: &ArgMatches<'a>) -> Option<Line<'a>>
     ensures { option_map asked_of result ≡ check_in (rows_of (found_of matches.now)) }
@@ -399,10 +532,12 @@ fn check_line<'a>(matches: &ArgMatches<'a>) -> Option<Line<'a>>
     let file = text_at(matches, "file")?;
     let database = text_at(matches, "database");
     let explain = is_told(matches, "explain");
+    let record = text_at(matches, "record");
     Some(Line::Check {
         file,
         database,
         explain,
+        record,
     })
 }
 
@@ -473,10 +608,12 @@ fn import_line<'a>(matches: &ArgMatches<'a>) -> Option<Line<'a>>
         && let Some(database) = text_at(matches, "database")
         && let Some(holidays) = text_at(matches, "holidays")
     {
+        let record = text_at(matches, "record");
         Some(Line::Import {
             file,
             database,
             holidays,
+            record,
         })
     } else {
         None
@@ -491,7 +628,13 @@ fn tick_line<'a>(matches: &ArgMatches<'a>) -> Option<Line<'a>>
         && let Some(database) = text_at(matches, "database")
         && let Some(at) = moment_at(matches, "at")
     {
-        Some(Line::Tick { file, database, at })
+        let record = text_at(matches, "record");
+        Some(Line::Tick {
+            file,
+            database,
+            at,
+            record,
+        })
     } else {
         None
     }
@@ -525,12 +668,14 @@ fn serve_line<'a>(matches: &ArgMatches<'a>) -> Option<Line<'a>>
         && let Some(requests) = count_at(matches, "requests")
     {
         let clock = is_told(matches, "clock");
+        let record = text_at(matches, "record");
         Some(Line::Serve {
             file,
             database,
             address,
             requests,
             clock,
+            record,
         })
     } else {
         None

@@ -1,7 +1,7 @@
 use Rattle.std.proofs.Common.{◌≡◌, ◌∙◌, List, [], Result, Ok, Err, map, string_bytes, sym, ap, subst}
-use Rattle.std.specs.Prelude.{IfOk, Some, option_and_then, option_map}
+use Rattle.std.specs.Prelude.{IfOk, IfSome, Option, Some, option_and_then}
 use Rattle.std.specs.Result.{result_ok}
-use Rattle.clap.specs.Words.{App, Text, app_of, fault_of, is_simple, is_simple_and_free, subcommand_of, subcommand_rows_of}
+use Rattle.clap.specs.Words.{App, Row, Text, app_of, fault_of, is_simple, is_simple_and_free, subcommand_of, subcommand_rows_of}
 use Rattle.command_line.specs.ArgFault.{IsRefusedBy}
 use Rattle.command_line.specs.declared.arg_fault.ArgFault.{ArgFault}
 use Rattle.command_line.specs.declared.line.Line.{Line}
@@ -14,10 +14,10 @@ of_any {T} {E} (Ok x) P p = p
 of_any {T} {E} (Err e) P p = tt
 
 -- what is asked by the line, if there is one
-of_told : (words : List Text) (r : Result Line ArgFault) → option_map asked_of (result_ok r) ≡ asked words
+of_line : (words : List Text) (r : Result Line ArgFault) → IfSome (result_ok r) (λ line. asked words ≡ Some (asked_of line))
     → IfOk r (λ line. asked words ≡ Some (asked_of line))
-of_told words (Ok line) is = sym is
-of_told words (Err fault) is = tt
+of_line words (Ok line) is = is
+of_line words (Err fault) is = tt
 
 pub returns-in-Ok-clause-takes : goal.returns-in-Ok-clause-takes
 returns-in-Ok-clause-takes c =
@@ -32,8 +32,11 @@ returns-in-Ok-clause-asks c =
     let words : List Text = map string_bytes c.args.words.now in
     let rows : subcommand_rows_of c.in-Ok.matches ≡ subcommand_of desk_app words =
     (c.in-Ok.ensures.matches (ap is_simple app_is)).1 ∙ ap (λ (app : App). subcommand_of app words) app_is in
-    of_told words c.ok_or.result (ap (option_map asked_of) (sym c.ok_or.ensures.ok_part) ∙ c.line_in.ensures
-    ∙ ap (option_and_then asked_in) rows)
+    let is : IfSome c.line_in.result (λ line. asked words ≡ Some (asked_of line)) =
+    subst (λ (it : Option (Text × List Row)). IfSome c.line_in.result (λ line. option_and_then asked_in it ≡ Some (asked_of line)))
+    rows c.line_in.ensures in
+    of_line words c.ok_or.result
+    (subst (λ (it : Option Line). IfSome it (λ line. asked words ≡ Some (asked_of line))) c.ok_or.ensures.ok_part is)
 
 pub returns-in-Err-clause-refuses : goal.returns-in-Err-clause-refuses
 returns-in-Err-clause-refuses c =
