@@ -8,15 +8,16 @@ ghost use Rattle.store.specs.declared.open_fault.OpenFault.TheVariants.{Failed, 
 use crate::closing::closed;
 use crate::connecting::{connected, options};
 use crate::finding::{is_nothing_at, store_found};
-use crate::lost_part::{refuse_lost, told_size};
+use crate::lost_part::{log_path, refuse_lost, told_size};
 use sqlite::{
     Alter, Connection, Error, ErrorCode, File, FileFrom, FileStore, Files, Options, Start, Unknown,
 };
 use sqlite_disk::Disk;
 use sqlite_std_file::OpenError;
 use std::alloc::Global;
+use std::fs;
 use std::hash::{BuildHasher, RandomState};
-use std::io::ErrorKind;
+use std::io::{self, ErrorKind};
 use store::{OpenFault, StoreFault};
 use store_sql::SqlStore;
 
@@ -155,16 +156,19 @@ fn begun_or_opened<D: Disk + Drop>(
     }
 }
 
+/// The store in a database of real files.
+pub type DeskStore = SqlStore<FileStore<File>>;
+
 /// The store in the database of a path, whose file and tables are made where there is nothing. A database that another
 /// process holds is not opened, and none is begun where one has lost a part.
-pub fn open_store(rt: &HostRuntime, path: &str) -> Result<SqlStore<FileStore<File>>, OpenFault> {
+pub fn open_store(rt: &HostRuntime, path: &str) -> Result<DeskStore, OpenFault> {
     refuse_lost(rt, path)?;
     let files = files_at(rt, path, Unknown)?;
     begun_or_opened(rt.alloc(), files, options_at(rt, path)?)
 }
 
 /// Closes a store (`closed`), and lets its files go.
-pub fn close_store(store: SqlStore<FileStore<File>>) -> Result<(), StoreFault> {
+pub fn close_store(store: DeskStore) -> Result<(), StoreFault> {
     match closed(store) {
         Ok(_files) => Ok(()),
         Err((fault, _left)) => Err(fault),
@@ -174,14 +178,31 @@ pub fn close_store(store: SqlStore<FileStore<File>>) -> Result<(), StoreFault> {
 /// The store in the database of a path, if there is one. Where nothing stands at the path, or what a stop left of a
 /// beginning, there is none, and none is made; a log that is missing beside a file with content is made. Files that have
 /// lost a part are refused.
-pub fn find_store(
-    rt: &HostRuntime,
-    path: &str,
-) -> Result<Option<SqlStore<FileStore<File>>>, OpenFault> {
+pub fn find_store(rt: &HostRuntime, path: &str) -> Result<Option<DeskStore>, OpenFault> {
     refuse_lost(rt, path)?;
     if is_nothing_at(rt, path) {
         return Ok(None);
     }
     let files = files_at(rt, path, Unknown)?;
     store_found(rt.alloc(), files, options_at(rt, path)?)
+}
+
+/// A real file of a record.
+pub type RecordFile = File;
+
+/// Removes the log that was made beside a file that has none, where it has nothing in it.
+fn remove_empty_log(rt: &HostRuntime, path: &str) -> io::Result<()> {
+    let log = log_path(rt, path)?;
+    if fs::metadata(rt, log.as_str())?.len() == 0 {
+        fs::remove_file(rt, log.as_str())?;
+    }
+    Ok(())
+}
+
+/// The file of a record, which is made where there is none. A file that another process holds is not opened. It is opened as
+/// that of a database is, since the kit has its contract for such files alone; the log that is made beside it is removed.
+pub fn open_record(rt: &HostRuntime, path: &str) -> Result<RecordFile, OpenFault> {
+    let Files { db, log: _log } = files_at(rt, path, Unknown)?;
+    let _removed = remove_empty_log(rt, path);
+    Ok(db)
 }

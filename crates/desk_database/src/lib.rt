@@ -6,13 +6,13 @@
 //! database are refused by their lengths (`specs/Lost.antt`), since one would be begun anew in them. `closed` copies the log
 //! into the database file, which has the tables alone then (`specs/Closed.antt`): at the end of each run, and once the
 //! tables of a new database are made. `find_store` has the store of a database that is there, and
-//! makes none (`finding`). All that knows the types of a real file stands in these calls, so that what they cost to prove is
-//! paid once.
+//! makes none (`finding`). `open_record` has the file of a record. All that knows the types of a real file stands in these
+//! calls, so that what they cost to prove is paid once.
 #![tactic(auto)]
 
 pub use closing::closed;
 pub use connecting::{connected, options};
-pub use database_file::{close_store, find_store, open_store};
+pub use database_file::{DeskStore, RecordFile, close_store, find_store, open_record, open_store};
 
 mod closing;
 mod connecting;

@@ -54,7 +54,7 @@ fn length_at(rt: &HostRuntime, path: &str) -> io::Result<Option<u64>> {
 }
 
 /// The path of the log of a database, which lies where a link leads.
-fn log_path(rt: &HostRuntime, path: &str) -> io::Result<String> {
+pub(crate) fn log_path(rt: &HostRuntime, path: &str) -> io::Result<String> {
     match fs::canonicalize(rt, path) {
         Ok(real) => Ok(format!(in rt.alloc(); "{}-wal", real.as_str())?),
         Err(error) if error.kind() == ErrorKind::NotFound => {
