@@ -1,0 +1,115 @@
+-- A file of which the last whole line tells a delivery, or which has no line.
+use Rattle.std.proofs.Common.{◌≡◌, ℕ, ◌≤◌, List, [], ◌∷◌, ◌++◌, Option, Some, None, Result, Ok, Err, length, length-append, take, sym, ap, ◌∙◌, subst, append_assoc, arith, inl, inr}
+use Rattle.std.proofs.Math.Seq.{take-append_seam}
+use Rattle.std.proofs.lemmas.List.{append-nil}
+use Rattle.std.specs.Result.{OnErr}
+use Rattle.building.specs.Building.{Building}
+use Rattle.deliveries.specs.declared.delivery.Delivery.{Delivery}
+use Rattle.deliveries.specs.Tables.{tables}
+use Rattle.desk_record.specs.LastLine.{TellsLast}
+use Rattle.desk_record.specs.Lines.{IsLine, IsWhole, whole_lines}
+use Rattle.desk_record.specs.Recorded.{Follows, HasTables, IsBehind, IsLineOf, listed}
+use Rattle.desk_record.specs.Resuming.{IsMended, KeepsLines}
+use Rattle.desk_record.proofs.DiskLemmas.{cut-done}
+use Rattle.desk_record.proofs.InStepLemmas.{listed-put, listed-same}
+use Rattle.desk_record.proofs.LineLemmas.{IsWhole-more, whole-append, whole_lines-none}
+use Rattle.sqlite_disk.specs.Disk.{Cut, Only}
+use Rattle.store.specs.Standing.{Content, Standing, sound}
+
+pub on-err : {T E : Type 0} (result : Result T E) (X : Type 0) → X → OnErr result X
+on-err (Ok answer) X said = tt
+on-err (Err error) X said = said
+
+-- the lines behind which the rest stands, with the last one
+parted : (before line after : List ℕ) → before ++ (line ++ 10 ∷ after) ≡ (before ++ (line ++ 10 ∷ [])) ++ after
+parted before line after =
+    ap (λ rest. before ++ rest) (sym (append_assoc line (10 ∷ []) after)) ∙ sym (append_assoc before (line ++ 10 ∷ []) after)
+
+listed-cut : (b : Building) (bytes after : List ℕ) → IsWhole bytes → IsLine after → listed b (bytes ++ after) ≡ listed b bytes
+listed-cut b bytes after whole none =
+    listed-same b bytes (bytes ++ after)
+    (whole-append bytes after whole ∙ ap (λ lines. whole_lines bytes ++ lines) (whole_lines-none after none) ∙ append-nil (whole_lines bytes))
+
+listed-none : (b : Building) (file : List ℕ) → IsLine file → listed b file ≡ []
+unfolding listed
+listed-none b file none = listed-same b [] file (whole_lines-none file none)
+
+pub listed-last : (b : Building) (file before line after : List ℕ) (d : Delivery) → file ≡ before ++ (line ++ 10 ∷ after)
+    → IsWhole before → IsLineOf b d line → IsLine after → listed b file ≡ listed b before ++ d ∷ []
+listed-last b file before line after d is whole tells none =
+    ap (listed b) (is ∙ parted before line after)
+    ∙ listed-cut b (before ++ (line ++ 10 ∷ [])) after (IsWhole-more before line) none
+    ∙ listed-put b d before line whole tells
+
+-- ---- what is left of the file
+
+record IsCut (b : Building) (file : List ℕ) (whole : ℕ) : Type 0 where
+  within : whole ≤ length file
+  ended : IsWhole (take whole file)
+  lists : listed b (take whole file) ≡ listed b file
+
+cut-of : (b : Building) (file : List ℕ) (whole : ℕ) (delivery : Option Delivery) → TellsLast b file whole delivery → IsCut b file whole
+cut-of b file whole None (start, none) = record {
+  within = omega (arith, start);
+  ended = inl (ap (λ n. take n file) start);
+  lists = ap (λ n. listed b (take n file)) start ∙ sym (listed-same b [] file (whole_lines-none file none));
+}
+cut-of b file whole (Some d) (before, line, after, is, size, first, tells, none) =
+    let front = before ++ (line ++ 10 ∷ []) in
+    let all = is ∙ parted before line after in
+    let cut : take whole file ≡ front = ap (λ n. take n file) (sym size) ∙ ap (take (length front)) all ∙ take-append_seam front after in
+    record {
+      within = omega (arith, size, ap length all, length-append front after);
+      ended = subst IsWhole (sym cut) (IsWhole-more before line);
+      lists = ap (listed b) cut ∙ sym (ap (listed b) all ∙ listed-cut b front after (IsWhole-more before line) none);
+    }
+
+module _ (b : Building) (file new : List ℕ) (whole : ℕ) (delivery : Option Delivery) (tells : TellsLast b file whole delivery)
+    (cut : Cut whole file new) where
+  pub keeps-lines : KeepsLines b file new
+  keeps-lines = inr (whole, (cut-of b file whole delivery tells).lists, cut)
+
+  pub is-mended : (may_leave : List ℕ → Type 0) → length new ≡ whole → Only new may_leave → IsMended b file new may_leave
+  is-mended may_leave size only =
+      let left = cut-of b file whole delivery tells in
+      let is = cut-done file new whole left.within cut size in
+      record {
+        whole = subst IsWhole (sym is) left.ended;
+        lists = ap (listed b) is ∙ left.lists;
+        on_disk = only;
+      }
+
+-- ---- the store
+
+no-last : (list earlier : List Delivery) (last : Delivery) → list ≡ [] → list ≡ earlier ++ last ∷ [] → ⊥
+no-last list [] last none some = let both : [] ≡ last ∷ [] = sym none ∙ some in cc
+no-last list (first ∷ earlier) last none some = let both : [] ≡ first ∷ (earlier ++ last ∷ []) = sym none ∙ some in cc
+
+only-whole : (b : Building) (list : List Delivery) (content : Content) → list ≡ [] → Follows b list content → content ≡ sound (tables b list)
+only-whole b list content none (inl whole) = whole
+only-whole b list content none (inr (earlier, last, is, held)) = absurd (no-last list earlier last none is)
+
+pub has-none : (b : Building) (file : List ℕ) (whole : ℕ) (delivery : Option Delivery) (store : Standing) → delivery ≡ None
+    → TellsLast b file whole delivery → IsBehind b (listed b file) store → HasTables b (listed b file) store
+has-none b file whole None store is (start, none) behind = record {
+  holds = λ opened. only-whole b (listed b file) store.content (listed-none b file none) (behind.holds opened);
+  leaves = λ content left. only-whole b (listed b file) content (listed-none b file none) (behind.leaves content left);
+}
+has-none b file whole (Some d) store is tells behind = absurd (let no : ⊥ = cc in no)
+
+module _ (b : Building) (file : List ℕ) (whole : ℕ) (d : Delivery) (old new : Standing) where
+  pub has-last : (delivery : Option Delivery) → delivery ≡ Some d → TellsLast b file whole delivery
+      → ((earlier : List Delivery) → IsBehind b (earlier ++ d ∷ []) old → HasTables b (earlier ++ d ∷ []) new)
+      → IsBehind b (listed b file) old → HasTables b (listed b file) new
+  has-last delivery is tells made behind =
+      let (before, line, after, all, size, first, told, none) = subst (TellsLast b file whole) is tells in
+      let lists = listed-last b file before line after d all first told none in
+      subst (λ list. HasTables b list new) (sym lists) (made (listed b before) (subst (λ list. IsBehind b list old) lists behind))
+
+  pub stays-behind : (delivery : Option Delivery) → delivery ≡ Some d → TellsLast b file whole delivery
+      → ((earlier : List Delivery) → IsBehind b (earlier ++ d ∷ []) old → IsBehind b (earlier ++ d ∷ []) new)
+      → IsBehind b (listed b file) old → IsBehind b (listed b file) new
+  stays-behind delivery is tells kept behind =
+      let (before, line, after, all, size, first, told, none) = subst (TellsLast b file whole) is tells in
+      let lists = listed-last b file before line after d all first told none in
+      subst (λ list. IsBehind b list new) (sym lists) (kept (listed b before) (subst (λ list. IsBehind b list old) lists behind))

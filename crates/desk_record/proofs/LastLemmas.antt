@@ -1,0 +1,91 @@
+-- The last line of bytes, and of a file that they end.
+use Rattle.std.proofs.Common.{◌≡◌, ℕ, ◌+◌, ◌==◌, false, List, [], ◌∷◌, ◌++◌, length, take, drop, ◌-◌, Option, Some, None, refl, sym, ap, ◌∙◌, subst, append_assoc, arith, inl, inr, length-append}
+use Rattle.std.proofs.lemmas.List.{append-nil}
+use Rattle.std.proofs.lemmas.List.Folds.{list_any-append}
+use Rattle.std.proofs.Math.Seq.{drop-append_seam, take-append_seam}
+use Rattle.building.specs.Building.{Building}
+use Rattle.deliveries.specs.declared.delivery.Delivery.{Delivery}
+use Rattle.delivery_lines.specs.declared.told.Told.TheVariants as told
+use Rattle.delivery_lines.specs.DeliveryLine.{told_of}
+use Rattle.desk_record.specs.declared.last_line.LastLine.{LastLine}
+use Rattle.desk_record.specs.LastLine.{HasLastLine, IsLastEnd, IsWholeBehind, TellsLast}
+use Rattle.desk_record.specs.Lines.{IsLine, IsWhole}
+
+IsLine-push : (bytes : List ℕ) (byte : ℕ) → IsLine bytes → (byte == 10) ≡ false → IsLine (bytes ++ byte ∷ [])
+IsLine-push bytes byte none other =
+    list_any-append (λ b. b == 10) bytes (byte ∷ []) ∙ rw (none, other) refl
+
+-- a byte more that is a line end, or none
+pub last-here : (bytes : List ℕ) (byte place : ℕ) → byte ≡ 10 → length bytes ≡ place → IsLastEnd (Some place) (bytes ++ byte ∷ [])
+last-here bytes byte place is size = (bytes, [], ap (λ b. bytes ++ b ∷ []) is, size, refl)
+
+pub last-stays : (last : Option ℕ) (bytes : List ℕ) (byte : ℕ) → (byte == 10) ≡ false → IsLastEnd last bytes
+    → IsLastEnd last (bytes ++ byte ∷ [])
+last-stays None bytes byte other none = IsLine-push bytes byte none other
+last-stays (Some place) bytes byte other (before, after, is, size, none) =
+    (before, after ++ byte ∷ [], ap (λ b. b ++ byte ∷ []) is ∙ append_assoc before (10 ∷ after) (byte ∷ []), size, IsLine-push after byte none other)
+
+-- what stands before the last line end
+front-of : (bytes before after : List ℕ) (end : ℕ) → bytes ≡ before ++ 10 ∷ after → length before ≡ end → take end bytes ≡ before
+front-of bytes before after end is size =
+    ap (λ n. take n bytes) (sym size) ∙ ap (take (length before)) is ∙ take-append_seam before (10 ∷ after)
+
+pub last-of : (from : ℕ) (bytes part : List ℕ) (end place : ℕ) → part ≡ take end bytes → IsLastEnd (Some end) bytes
+    → IsLastEnd (Some place) part → HasLastLine from bytes (Some (record { start = place + 1; end = end }))
+last-of from bytes part end place same (before, after, is, size, none) (first, line, is_part, at, one) =
+    let split : before ≡ first ++ 10 ∷ line = sym (front-of bytes before after end is size) ∙ sym same ∙ is_part in
+    let ended : first ++ 10 ∷ line ≡ (first ++ 10 ∷ []) ++ line = sym (append_assoc first (10 ∷ []) line) in (
+      first ++ 10 ∷ [],
+      line,
+      after,
+      is ∙ ap (λ front. front ++ 10 ∷ after) (split ∙ ended) ∙ append_assoc (first ++ 10 ∷ []) line (10 ∷ after),
+      length-append first (10 ∷ []) ∙ ap (λ n. n + 1) at,
+      ap length (sym ended) ∙ ap length (sym split) ∙ size,
+      inr (first, refl),
+      one,
+      none,
+    )
+
+pub first-of : (from : ℕ) (bytes part : List ℕ) (end : ℕ) → from ≡ 0 → part ≡ take end bytes → IsLastEnd (Some end) bytes
+    → IsLastEnd None part → HasLastLine from bytes (Some (record { start = 0; end = end }))
+first-of from bytes part end start same (before, after, is, size, none) one =
+    ([], before, after, is, refl, size, inl (start, refl), subst IsLine (same ∙ front-of bytes before after end is size) one, none)
+
+-- ---- in the whole file
+
+empty-of : (front : List ℕ) → length front ≡ 0 → front ≡ []
+empty-of [] size = refl
+empty-of (byte ∷ front) size = absurd (omega (arith, size))
+
+IsWhole-behind : (from : ℕ) (front before : List ℕ) → length front ≡ from → IsWholeBehind from before → IsWhole (front ++ before)
+IsWhole-behind from front before size (inl (start, none)) =
+    inl (ap (λ rest. front ++ rest) none ∙ append-nil front ∙ empty-of front (size ∙ start))
+IsWhole-behind from front before size (inr (first, ended)) =
+    inr (front ++ first, ap (λ rest. front ++ rest) ended ∙ sym (append_assoc front first (10 ∷ [])))
+
+line-of : (bytes before line after : List ℕ) (start end : ℕ) → bytes ≡ before ++ (line ++ 10 ∷ after) → length before ≡ start
+    → length (before ++ line) ≡ end → take (end - start) (drop start bytes) ≡ line
+line-of bytes before line after start end is from to =
+    let sum : end ≡ start + length line = sym to ∙ length-append before line ∙ ap (λ n. n + length line) from in
+    let size : end - start ≡ length line = omega (arith, sum) in
+    let rest : drop start bytes ≡ line ++ 10 ∷ after =
+    ap (λ n. drop n bytes) (sym from) ∙ ap (drop (length before)) is ∙ drop-append_seam before (line ++ 10 ∷ after) in
+    ap (λ n. take n (drop start bytes)) size ∙ ap (take (length line)) rest ∙ take-append_seam line (10 ∷ after)
+
+pub tells-last : (b : Building) (d : Delivery) (from : ℕ) (bytes : List ℕ) (last : LastLine) → HasLastLine from bytes (Some last)
+    → told_of b (take (last.end - last.start) (drop last.start bytes)) ≡ Some (told.Delivery d)
+    → (file front : List ℕ) → file ≡ front ++ bytes → length front ≡ from → TellsLast b file (from + last.end + 1) (Some d)
+tells-last b d from bytes last (before, line, after, is, start, end, whole, one, none) tells file front joined size =
+    let same = line-of bytes before line after last.start last.end is start end in (
+      front ++ before,
+      line,
+      after,
+      joined ∙ ap (λ rest. front ++ rest) is ∙ sym (append_assoc front before (line ++ 10 ∷ after)),
+      sized,
+      IsWhole-behind from front before size whole,
+      record { one = one; tells = subst (λ text. told_of b text ≡ Some (told.Delivery d)) same tells },
+      none,
+    )
+  where
+    sized : length ((front ++ before) ++ (line ++ 10 ∷ [])) ≡ from + last.end + 1
+    sized = simp length-append (omega (arith, size, end, length-append before line))

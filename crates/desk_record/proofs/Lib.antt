@@ -1,0 +1,10 @@
+pub mod AskedAgain
+pub mod DeliveredAgain
+pub mod DiskLemmas
+pub mod EndingLemmas
+pub mod FileLemmas
+pub mod ImportedAgain
+pub mod InStepLemmas
+pub mod LastLemmas
+pub mod LineLemmas
+pub mod ResumeLemmas

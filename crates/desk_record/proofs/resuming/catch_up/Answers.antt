@@ -1,0 +1,55 @@
+use Rattle.std.proofs.Common.{subst}
+use Rattle.sqlite_disk.specs.Disk.{Cut}
+use Rattle.std.specs.Bool.{IsTrue}
+use Rattle.desk_record.specs.Recorded.{IsBehind, listed}
+use Rattle.desk_record.specs.Resuming.{KeepsLines}
+use Rattle.desk_record.proofs.EndingLemmas.{is-mended, keeps-lines, on-err}
+use Rattle.desk_record.proofs.resuming.catch_up.Goals as goal
+
+pub returns-in_err-mend-clause-keeps : goal.returns-in_err-mend-clause-keeps
+returns-in_err-mend-clause-keeps g c = on-err _ (IsTrue (g.D.Disk.is_clean c.mend.new.disk)
+    → KeepsLines c.args.desk.now.building (g.D.Disk.seen c.args.disk.now) (g.D.Disk.seen c.mend.new.disk)) (λ now.
+    let file = g.D.Disk.seen c.args.disk.now in
+    let (front, joined, size) = c.in_ok-end.ensures.end (c.mend.ensures.clean now) in
+    let tells = rw (c.building.ensures, c.deref.ensures.value) at c.in_ok-ending.ensures in
+    keeps-lines c.args.desk.now.building file (g.D.Disk.seen c.mend.new.disk) c.in_ok-ending.ending.whole c.in_ok-ending.ending.delivery
+    (tells file front joined size)
+    (subst (λ bytes. Cut c.in_ok-ending.ending.whole bytes (g.D.Disk.seen c.mend.new.disk)) c.read_end.ensures.seen c.mend.ensures.cut))
+
+pub returns-in_err-catch_up_store-clause-keeps : goal.returns-in_err-catch_up_store-clause-keeps
+returns-in_err-catch_up_store-clause-keeps g c = on-err _ (IsTrue (g.D.Disk.is_clean c.mend.new.disk)
+    → KeepsLines c.args.desk.now.building (g.D.Disk.seen c.args.disk.now) (g.D.Disk.seen c.mend.new.disk)) (λ now.
+    let file = g.D.Disk.seen c.args.disk.now in
+    let (front, joined, size) = c.in_ok-end.ensures.end (c.mend.ensures.clean now) in
+    let tells = rw (c.building.ensures, c.deref.ensures.value) at c.in_ok-ending.ensures in
+    keeps-lines c.args.desk.now.building file (g.D.Disk.seen c.mend.new.disk) c.in_ok-ending.ending.whole c.in_ok-ending.ending.delivery
+    (tells file front joined size)
+    (subst (λ bytes. Cut c.in_ok-ending.ending.whole bytes (g.D.Disk.seen c.mend.new.disk)) c.read_end.ensures.seen c.mend.ensures.cut))
+
+pub returns-in_err-catch_up_store-clause-behind : goal.returns-in_err-catch_up_store-clause-behind
+returns-in_err-catch_up_store-clause-behind g c = on-err _ ((g.S.Store.standing c.catch_up_store.new.desk.store).is_honest
+    → IsTrue (g.D.Disk.is_clean c.mend.new.disk)
+    → IsBehind c.args.desk.now.building (listed c.args.desk.now.building (g.D.Disk.seen c.args.disk.now)) (g.S.Store.standing c.args.desk.now.store)
+    → IsBehind c.args.desk.now.building (listed c.args.desk.now.building (g.D.Disk.seen c.args.disk.now))
+    (g.S.Store.standing c.catch_up_store.new.desk.store)) (λ honest now behind.
+    let file = g.D.Disk.seen c.args.disk.now in
+    let (front, joined, size) = c.in_ok-end.ensures.end (c.mend.ensures.clean now) in
+    let tells = rw (c.building.ensures, c.deref.ensures.value) at c.in_ok-ending.ensures in
+    c.in_err-catch_up_store.ensures.behind file honest (tells file front joined size) behind)
+
+pub returns-clause-mended : goal.returns-clause-mended
+returns-clause-mended g c = λ now.
+    let file = g.D.Disk.seen c.args.disk.now in
+    let (front, joined, size) = c.in_ok-end.ensures.end (c.mend.ensures.clean now) in
+    let tells = rw (c.building.ensures, c.deref.ensures.value) at c.in_ok-ending.ensures in
+    is-mended c.args.desk.now.building file (g.D.Disk.seen c.mend.new.disk) c.in_ok-ending.ending.whole c.in_ok-ending.ending.delivery
+    (tells file front joined size)
+    (subst (λ bytes. Cut c.in_ok-ending.ending.whole bytes (g.D.Disk.seen c.mend.new.disk)) c.read_end.ensures.seen c.mend.ensures.cut)
+    (g.D.Disk.may_leave c.mend.new.disk) c.in_ok-mend.ensures.len c.in_ok-mend.ensures.on_disk
+
+pub returns-clause-caught_up : goal.returns-clause-caught_up
+returns-clause-caught_up g c = λ honest now behind.
+    let file = g.D.Disk.seen c.args.disk.now in
+    let (front, joined, size) = c.in_ok-end.ensures.end (c.mend.ensures.clean now) in
+    let tells = rw (c.building.ensures, c.deref.ensures.value) at c.in_ok-ending.ensures in
+    c.in_ok-catch_up_store.ensures.caught_up file honest (tells file front joined size) behind

@@ -1,0 +1,10 @@
+pub mod Again
+pub mod Delivering
+pub mod DiskLines
+pub mod LastLine
+pub mod LineFile
+pub mod Lines
+pub mod RecordStanding
+pub mod Recorded
+pub mod Recording
+pub mod Resuming

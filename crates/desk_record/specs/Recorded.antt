@@ -1,0 +1,60 @@
+-- What a record tells, and how a store follows it.
+use Rattle.std.specs.Prelude.{◌≡◌, ◌⊎◌, ℕ, false, List, [], ◌∷◌, ◌++◌, Option, Some, None}
+use Rattle.std.specs.List.{flat_map}
+use Rattle.building.specs.Building.{Building}
+use Rattle.deliveries.specs.declared.delivery.Delivery.{Delivery}
+use Rattle.deliveries.specs.Delivered.{Holds}
+use Rattle.deliveries.specs.Tables.{tables}
+use Rattle.delivery_lines.specs.declared.told.Told.{Told}
+use Rattle.delivery_lines.specs.declared.told.Told.TheVariants as told
+use Rattle.delivery_lines.specs.DeliveryLine.{told_of}
+use Rattle.desk_record.specs.Lines.{IsLine, IsWhole, whole_lines}
+use Rattle.desk_record.specs.RecordStanding.{IsOnDisk, RecordStanding}
+use Rattle.store.specs.Standing.{Content, Standing, sound}
+
+-- the delivery that a line tells, or none
+abbrev pub deliveries_in : Option Told → List Delivery
+deliveries_in None = []
+deliveries_in (Some (told.Delivery delivery)) = delivery ∷ []
+deliveries_in (Some (told.RefusedImport fault)) = []
+
+-- the deliveries that the whole lines of a record tell
+unfoldable pub listed : Building → List ℕ → List Delivery
+listed building bytes = flat_map (λ line. deliveries_in (told_of building line)) (whole_lines bytes)
+
+-- a line, without its end, that tells a delivery
+pub record IsLineOf (building : Building) (delivery : Delivery) (line : List ℕ) : Type 0 where
+  pub one : IsLine line
+  pub tells : told_of building line ≡ Some (told.Delivery delivery)
+
+-- tables of the deliveries, or of all but the last, which was written down and not made
+abbrev pub Follows : Building → List Delivery → Content → Type 0
+Follows building deliveries content =
+    (content ≡ sound (tables building deliveries))
+    ⊎ ((earlier : List Delivery) × (last : Delivery) × (deliveries ≡ earlier ++ last ∷ []) × (content ≡ sound (tables building earlier)))
+
+-- a store that follows a list: while it is open, and as a stop leaves it
+pub record IsBehind (building : Building) (deliveries : List Delivery) (store : Standing) : Type 0 where
+  pub holds : store.is_shut ≡ false → Follows building deliveries store.content
+  pub leaves : (content : Content) → store.may_leave content → Follows building deliveries content
+
+-- a store that has the tables of a list: while it is open, and as a stop leaves it
+pub record HasTables (building : Building) (deliveries : List Delivery) (store : Standing) : Type 0 where
+  pub holds : store.is_shut ≡ false → Holds building deliveries store
+  pub leaves : (content : Content) → store.may_leave content → content ≡ sound (tables building deliveries)
+
+-- a record that is open: its bytes are whole lines, and a stop leaves just them; the store has the tables of their
+-- deliveries, while it is open and as a stop leaves it
+pub record AreLevel (building : Building) (record_now : RecordStanding) (store : Standing) : Type 0 where
+  pub whole : IsWhole record_now.bytes
+  pub on_disk : IsOnDisk record_now
+  pub holds : store.is_shut ≡ false → Holds building (listed building record_now.bytes) store
+  pub leaves : (content : Content) → store.may_leave content → content ≡ sound (tables building (listed building record_now.bytes))
+
+-- a record and a store: level while the record is open; what an open store holds, and what a stop leaves of it, follows whatever
+-- a stop leaves of the record
+pub record InStep (building : Building) (record_now : RecordStanding) (store : Standing) : Type 0 where
+  pub level : record_now.is_shut ≡ false → AreLevel building record_now store
+  pub held : store.is_shut ≡ false → (bytes : List ℕ) → record_now.may_leave bytes → Follows building (listed building bytes) store.content
+  pub left : (bytes : List ℕ) (content : Content) → record_now.may_leave bytes → store.may_leave content
+      → Follows building (listed building bytes) content

@@ -1,0 +1,18 @@
+//! Why a record is not taken up again.
+
+use store::StoreFault;
+
+/// Why a record is not taken up again.
+#[derive(Clone, Copy, Debug)]
+pub enum ResumeFault {
+    /// The record can't be read.
+    NotRead,
+    /// What stands after its last line can't be taken off.
+    NotWritten,
+    /// Memory was refused.
+    NoMemory,
+    /// The last line is no delivery, or is longer than 1 MiB; nothing has changed.
+    NotDelivery,
+    /// The last line was not delivered once more.
+    Store(StoreFault),
+}
