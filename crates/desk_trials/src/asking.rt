@@ -2,6 +2,7 @@
 //! prove beside other code, so each of them stands in a function of its own.
 use crate::ends::{Page, Pieces};
 use desk::Desk;
+use desk_record::NoRecord;
 use panel_http::{Counted, Routes, Served, serve_one};
 use std::alloc::Global;
 use std::fmt::Display;
@@ -44,7 +45,7 @@ pub(crate) fn served<S: Store + Drop, R: Read, W: Write>(
     writer: &mut Counted<W>,
 ) -> Served {
     match Routes::new(alloc) {
-        Ok(routes) => serve_one(alloc, &routes, reader, writer, desk),
+        Ok(routes) => serve_one(alloc, &routes, reader, writer, desk, &mut NoRecord),
         Err(_) => Served::NoReply,
     }
 }

@@ -3,6 +3,7 @@ use crate::asking::{Got, assert_got, command, done};
 use crate::desks::desk_over;
 use crate::ends::Halting;
 use desk::Desk;
+use desk_record::NoRecord;
 use mem_store::MemStore;
 use panel_http::{Counted, Gathered, Routes, Served, StatusCode, gather, serve_come};
 use std::alloc::Global;
@@ -43,7 +44,7 @@ fn gathered(alloc: Global, routes: &Routes, text: &[u8], size: usize) -> Come {
 /// What the bytes that have come get, without what is promised of it.
 fn served<S: Store + Drop>(alloc: Global, routes: &Routes, desk: &mut Desk<S>, come: &[u8]) -> Got {
     let mut writer = Counted::new(Vec::new(alloc));
-    let served = serve_come(alloc, routes, come, &mut writer, desk);
+    let served = serve_come(alloc, routes, come, &mut writer, desk, &mut NoRecord);
     let has_failed = writer.failures() > 0;
     Got {
         served,

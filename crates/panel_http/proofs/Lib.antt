@@ -1,3 +1,4 @@
 pub mod GatheringLemmas
+pub mod LookingLemmas
 pub mod MoreLemmas
 pub mod ServingLemmas

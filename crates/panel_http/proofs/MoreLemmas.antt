@@ -23,12 +23,14 @@ tells-more b e bytes more code text old new whole (inl it) = inl (record {
   holds = it.holds;
 })
 tells-more b e bytes more code text old new whole (inr (inl it)) = inr (inl (record { is_told = it.is_told; holds = it.holds }))
-tells-more b e bytes more code text old new whole (inr (inr it)) = inr (inr (record {
+tells-more b e bytes more code text old new whole (inr (inr (inl it))) =
+    inr (inr (inl (record { is_told = it.is_told; holds = it.holds })))
+tells-more b e bytes more code text old new whole (inr (inr (inr it))) = inr (inr (inr (record {
   request = it.request;
   is_request = (whole.steady it.request more).0 it.is_request;
   is_told = it.is_told;
   ends = it.ends;
-}))
+})))
 
 whole-serves : (b : Building) (e : List Delivery) (bytes more : Text) (r s : ℕ) (held holds : Option Text) (before now : ℕ)
     (old new : Standing) (served : Served) → IsWhole b bytes → Serves b e bytes r s held holds before now old new served

@@ -39,13 +39,15 @@ tells b earlier bytes request (Ok response) old now status text is answers told 
     })
 tells b earlier bytes request (Err unanswered.NoMemory) old now status text is answers told =
     inr (inl (record { is_told = (sym (ap (status_or status) told), sym (ap (text_or text) told)); holds = answers }))
+tells b earlier bytes request (Err unanswered.NotRecorded) old now status text is answers told =
+    inr (inr (inl (record { is_told = (sym (ap (status_or status) told), sym (ap (text_or text) told)); holds = answers })))
 tells b earlier bytes request (Err unanswered.Store) old now status text is answers told =
-    inr (inr (record {
+    inr (inr (inr (record {
       request = request;
       is_request = is;
       is_told = (sym (ap (status_or status) told), sym (ap (text_or text) told));
       ends = answers;
-    }))
+    })))
 tells b earlier bytes request (Err unanswered.NoReply) old now status text is answers told = absurd (cc told)
 
 silent : (b : Building) (earlier : List Delivery) (bytes : Text) (request : Request) (answer : Result Response Unanswered)
@@ -53,6 +55,7 @@ silent : (b : Building) (earlier : List Delivery) (bytes : Text) (request : Requ
     → IsRequest b bytes request → Answers b earlier request answer old now → written answer ≡ None → IsSilent b earlier bytes now
 silent b earlier bytes request (Ok response) old now is answers told = absurd (cc told)
 silent b earlier bytes request (Err unanswered.NoMemory) old now is answers told = absurd (cc told)
+silent b earlier bytes request (Err unanswered.NotRecorded) old now is answers told = absurd (cc told)
 silent b earlier bytes request (Err unanswered.Store) old now is answers told = absurd (cc told)
 silent b earlier bytes request (Err unanswered.NoReply) old now is answers told =
     record { request = request; is_request = is; holds = answers }

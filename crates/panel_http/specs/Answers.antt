@@ -25,7 +25,9 @@ use Rattle.store.specs.Tables.{Tables, Text}
 use Rattle.store.specs.declared.fault.StoreFault.{StoreFault}
 use Rattle.store.specs.declared.fault.StoreFault.TheVariants as fault
 use Rattle.panel_http.specs.declared.unanswered.Unanswered.{Unanswered}
-use Rattle.panel_http.specs.declared.unanswered.Unanswered.TheVariants.{NoMemory, NoReply, Store}
+use Rattle.desk_record.specs.declared.delivering.Undelivered.{Undelivered}
+use Rattle.desk_record.specs.declared.delivering.Undelivered.TheVariants as undelivered
+use Rattle.panel_http.specs.declared.unanswered.Unanswered.TheVariants.{NoMemory, NoReply, NotRecorded, Store}
 
 -- ---- what is said
 
@@ -81,10 +83,16 @@ of_fault fault.Failed = Store
 of_fault fault.Shut = Store
 of_fault fault.BadRow = Store
 
+abbrev pub of_undelivered : Undelivered → Unanswered
+of_undelivered undelivered.NoMemory = NoMemory
+of_undelivered undelivered.NotRecorded = NotRecorded
+of_undelivered (undelivered.Store fault) = of_fault fault
+
 -- without an answer
 abbrev pub Leaves : Building → List Delivery → List Delivery → Unanswered → Standing → Standing → Type 0
 Leaves building earlier later NoMemory old now = Holds building earlier now
 Leaves building earlier later NoReply old now = Holds building later now
+Leaves building earlier later NotRecorded old now = Holds building earlier now
 Leaves building earlier later Store old now = StoreEnds building earlier later old now
 
 -- a request is answered

@@ -1,3 +1,4 @@
 pub mod Answers
 pub mod Gathering
+pub mod Looking
 pub mod Serving

@@ -42,6 +42,12 @@ pub record LacksMemory (building : Building) (earlier : List Delivery) (code : S
   pub is_told : IsOf no_memory_said code text
   pub holds : Holds building earlier now
 
+-- the record can't be written, and nothing is delivered
+pub record LacksRecord (building : Building) (earlier : List Delivery) (code : Status) (text : Text)
+    (now : Standing) : Type 0 where
+  pub is_told : IsOf store_said code text
+  pub holds : Holds building earlier now
+
 -- the store failed in this call, or was shut
 pub record LacksStore (building : Building) (earlier : List Delivery) (bytes : Text) (code : Status) (text : Text)
     (old now : Standing) : Type 0 where
@@ -53,7 +59,8 @@ pub record LacksStore (building : Building) (earlier : List Delivery) (bytes : T
 abbrev pub Tells : Building → List Delivery → Text → Status → Text → Standing → Standing → Type 0
 Tells building earlier bytes code text old now =
     Responds building earlier bytes code text now
-    ⊎ (LacksMemory building earlier code text now ⊎ LacksStore building earlier bytes code text old now)
+    ⊎ (LacksMemory building earlier code text now
+    ⊎ (LacksRecord building earlier code text now ⊎ LacksStore building earlier bytes code text old now))
 
 -- nothing is told, and the tables are those with what the bytes deliver
 pub record IsSilent (building : Building) (earlier : List Delivery) (bytes : Text) (now : Standing) : Type 0 where
@@ -84,6 +91,7 @@ Serves building earlier bytes read_before read_after held holds before now old n
 abbrev pub written : Result Response Unanswered → Option (Status × Text)
 written (Ok response) = Some (response.status, string_bytes response.text)
 written (Err unanswered.NoMemory) = Some (no_memory_said.status, response_text no_memory_said)
+written (Err unanswered.NotRecorded) = Some (store_said.status, response_text store_said)
 written (Err unanswered.Store) = Some (store_said.status, response_text store_said)
 written (Err unanswered.NoReply) = None
 

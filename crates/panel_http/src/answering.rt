@@ -3,6 +3,7 @@
 ghost use Rattle.std.specs.Prelude.{◌≡◌, List};
 ghost use Rattle.deliveries.specs.declared.delivery.Delivery.{Delivery as a_delivery};
 ghost use Rattle.deliveries.specs.Delivered.{Holds};
+ghost use Rattle.desk_record.specs.Recorded.{InStep};
 ghost use Rattle.panel_http.specs.Answers.{Answers};
 ghost use Rattle.request_reading.specs.declared.told.BodyTold.TheVariants as told;
 ghost use Rattle.request_reading.specs.declared.request.Request.TheVariants as asked;
@@ -11,45 +12,56 @@ use crate::looking::{point_answer, report_answer};
 use crate::unanswered::Unanswered;
 use deliveries::{Delivery, Reply};
 use desk::Desk;
+use desk_record::{Recorder, deliver};
 use request_reading::{BodyTold, Request};
 use response_texts::{Response, import_refused_response, reply_response};
 use std::alloc::Global;
 use store::Store;
 
 /// Answers a request: delivers what it tells, or looks at what it asks for.
-pub(crate) fn answer<S: Store + Drop>(
+pub(crate) fn answer<S: Store + Drop, K: Recorder>(
     alloc: Global,
     desk: &mut Desk<S>,
+    recorder: &mut K,
     request: &Request,
 ) -> Result<Response, Unanswered>
     ensures answers { (earlier : List a_delivery) → (S.standing desk.new.store).is_honest
         → Holds desk.old.building earlier (S.standing desk.old.store)
         → Answers desk.old.building earlier request.now result (S.standing desk.old.store) (S.standing desk.new.store) }
     ensures honest { (S.standing desk.new.store).is_honest → (S.standing desk.old.store).is_honest }
+    ensures recorded { (S.standing desk.new.store).is_honest → (K.standing recorder.new).is_honest
+        → InStep desk.old.building (K.standing recorder.old) (S.standing desk.old.store)
+        → InStep desk.old.building (K.standing recorder.new) (S.standing desk.new.store) }
+    ensures honest_record { (K.standing recorder.new).is_honest → (K.standing recorder.old).is_honest }
     ensures building { desk.new.building ≡ desk.old.building }
 {
     match request {
         Request::Refused(refusal) => refusal.response(alloc).or(Err(Unanswered::NoMemory)),
-        Request::Told(told) => told_answer(alloc, desk, told),
+        Request::Told(told) => told_answer(alloc, desk, recorder, told),
         Request::Point(name) => point_answer(alloc, desk, *name),
         Request::Report(day) => report_answer(alloc, desk, *day),
     }
 }
 
 /// Answers what a body tells.
-fn told_answer<S: Store + Drop>(
+fn told_answer<S: Store + Drop, K: Recorder>(
     alloc: Global,
     desk: &mut Desk<S>,
+    recorder: &mut K,
     told: &BodyTold,
 ) -> Result<Response, Unanswered>
     ensures answers { (earlier : List a_delivery) → (S.standing desk.new.store).is_honest
         → Holds desk.old.building earlier (S.standing desk.old.store)
         → Answers desk.old.building earlier (asked.Told told.now) result (S.standing desk.old.store) (S.standing desk.new.store) }
     ensures honest { (S.standing desk.new.store).is_honest → (S.standing desk.old.store).is_honest }
+    ensures recorded { (S.standing desk.new.store).is_honest → (K.standing recorder.new).is_honest
+        → InStep desk.old.building (K.standing recorder.old) (S.standing desk.old.store)
+        → InStep desk.old.building (K.standing recorder.new) (S.standing desk.new.store) }
+    ensures honest_record { (K.standing recorder.new).is_honest → (K.standing recorder.old).is_honest }
     ensures building { desk.new.building ≡ desk.old.building }
 {
     match told {
-        BodyTold::Delivery(delivery) => delivery_answer(alloc, desk, delivery),
+        BodyTold::Delivery(delivery) => delivery_answer(alloc, desk, recorder, delivery),
         BodyTold::NoPanel => reply_response(alloc, Reply::NoPanel).or(Err(Unanswered::NoMemory)),
         BodyTold::RefusedImport(fault) => {
             import_refused_response(alloc, *fault).or(Err(Unanswered::NoMemory))
@@ -58,17 +70,22 @@ fn told_answer<S: Store + Drop>(
 }
 
 /// Carries out a delivery, and answers its reply.
-fn delivery_answer<S: Store + Drop>(
+fn delivery_answer<S: Store + Drop, K: Recorder>(
     alloc: Global,
     desk: &mut Desk<S>,
+    recorder: &mut K,
     delivery: &Delivery,
 ) -> Result<Response, Unanswered>
     ensures answers { (earlier : List a_delivery) → (S.standing desk.new.store).is_honest
         → Holds desk.old.building earlier (S.standing desk.old.store)
         → Answers desk.old.building earlier (asked.Told (told.Delivery delivery.now)) result (S.standing desk.old.store) (S.standing desk.new.store) }
     ensures honest { (S.standing desk.new.store).is_honest → (S.standing desk.old.store).is_honest }
+    ensures recorded { (S.standing desk.new.store).is_honest → (K.standing recorder.new).is_honest
+        → InStep desk.old.building (K.standing recorder.old) (S.standing desk.old.store)
+        → InStep desk.old.building (K.standing recorder.new) (S.standing desk.new.store) }
+    ensures honest_record { (K.standing recorder.new).is_honest → (K.standing recorder.old).is_honest }
     ensures building { desk.new.building ≡ desk.old.building }
 {
-    let reply = desk.deliver(delivery)?;
+    let reply = deliver(alloc, desk, recorder, delivery)?;
     reply_response(alloc, reply).or(Err(Unanswered::NoReply))
 }

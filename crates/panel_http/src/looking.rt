@@ -4,6 +4,7 @@ ghost use Rattle.std.specs.Prelude.{◌≡◌, List, IfOk, Some};
 ghost use Rattle.deliveries.specs.declared.delivery.Delivery.{Delivery as a_delivery};
 ghost use Rattle.deliveries.specs.Delivered.{Holds};
 ghost use Rattle.panel_http.specs.Answers.{Answers, state_said};
+ghost use Rattle.panel_http.specs.Looking.{OnlyReads};
 ghost use Rattle.response_texts.specs.Response.{Says};
 ghost use Rattle.request_reading.specs.declared.request.Request.TheVariants as asked;
 
@@ -26,6 +27,7 @@ pub(crate) fn point_answer<S: Store + Drop>(
     ensures answers { (earlier : List a_delivery) → (S.standing desk.new.store).is_honest
         → Holds desk.old.building earlier (S.standing desk.old.store)
         → Answers desk.old.building earlier (asked.Point name) result (S.standing desk.old.store) (S.standing desk.new.store) }
+    ensures reads { (S.standing desk.new.store).is_honest → OnlyReads (S.standing desk.old.store) (S.standing desk.new.store) }
     ensures honest { (S.standing desk.new.store).is_honest → (S.standing desk.old.store).is_honest }
     ensures building { desk.new.building ≡ desk.old.building }
 {
@@ -44,6 +46,7 @@ fn named_point_answer<S: Store + Drop>(
     ensures answers { (earlier : List a_delivery) → (S.standing desk.new.store).is_honest
         → Holds desk.old.building earlier (S.standing desk.old.store)
         → Answers desk.old.building earlier (asked.Point (Some name.now)) result (S.standing desk.old.store) (S.standing desk.new.store) }
+    ensures reads { (S.standing desk.new.store).is_honest → OnlyReads (S.standing desk.old.store) (S.standing desk.new.store) }
     ensures honest { (S.standing desk.new.store).is_honest → (S.standing desk.old.store).is_honest }
     ensures building { desk.new.building ≡ desk.old.building }
 {
@@ -74,6 +77,7 @@ pub(crate) fn report_answer<S: Store + Drop>(
     ensures answers { (earlier : List a_delivery) → (S.standing desk.new.store).is_honest
         → Holds desk.old.building earlier (S.standing desk.old.store)
         → Answers desk.old.building earlier (asked.Report day) result (S.standing desk.old.store) (S.standing desk.new.store) }
+    ensures reads { (S.standing desk.new.store).is_honest → OnlyReads (S.standing desk.old.store) (S.standing desk.new.store) }
     ensures honest { (S.standing desk.new.store).is_honest → (S.standing desk.old.store).is_honest }
     ensures building { desk.new.building ≡ desk.old.building }
 {
@@ -92,6 +96,7 @@ fn day_answer<S: Store + Drop>(
     ensures answers { (earlier : List a_delivery) → (S.standing desk.new.store).is_honest
         → Holds desk.old.building earlier (S.standing desk.old.store)
         → Answers desk.old.building earlier (asked.Report (Some day)) result (S.standing desk.old.store) (S.standing desk.new.store) }
+    ensures reads { (S.standing desk.new.store).is_honest → OnlyReads (S.standing desk.old.store) (S.standing desk.new.store) }
     ensures honest { (S.standing desk.new.store).is_honest → (S.standing desk.old.store).is_honest }
     ensures building { desk.new.building ≡ desk.old.building }
 {

@@ -3,6 +3,7 @@
 ghost use Rattle.std.specs.Prelude.{◌≡◌, ◌⊎◌, ◌++◌, ℕ, List, [], Some};
 ghost use Rattle.deliveries.specs.declared.delivery.Delivery.{Delivery as a_delivery};
 ghost use Rattle.deliveries.specs.Delivered.{Holds};
+ghost use Rattle.desk_record.specs.Recorded.{InStep};
 ghost use Rattle.panel_http.specs.Serving.{Serves};
 ghost use Rattle.request_reading.specs.Whole.{IsWhole};
 
@@ -12,18 +13,20 @@ use crate::unanswered::Unanswered;
 use crate::writing::write_answer;
 use counted::Counted;
 use desk::Desk;
+use desk_record::Recorder;
 use request_reading::{Routes, Unread, read_request};
 use std::alloc::Global;
 use std::io::{Read, Write};
 use store::Store;
 
 /// Reads one request, carries out what it tells, and writes one response.
-pub fn serve_one<R: Read, W: Write, S: Store + Drop>(
+pub fn serve_one<R: Read, W: Write, S: Store + Drop, K: Recorder>(
     alloc: Global,
     routes: &Routes,
     reader: &mut Counted<R>,
     writer: &mut Counted<W>,
     desk: &mut Desk<S>,
+    recorder: &mut K,
 ) -> Served
     ensures serves { (bytes : List ℕ) (earlier : List a_delivery) → R.remaining reader.old.inner ≡ Some bytes
         → (S.standing desk.new.store).is_honest → Holds desk.old.building earlier (S.standing desk.old.store)
@@ -31,11 +34,15 @@ pub fn serve_one<R: Read, W: Write, S: Store + Drop>(
         (W.contents writer.old.inner) (W.contents writer.new.inner) writer.old.failures writer.new.failures
         (S.standing desk.old.store) (S.standing desk.new.store) result }
     ensures honest { (S.standing desk.new.store).is_honest → (S.standing desk.old.store).is_honest }
+    ensures recorded { (S.standing desk.new.store).is_honest → (K.standing recorder.new).is_honest
+        → InStep desk.old.building (K.standing recorder.old) (S.standing desk.old.store)
+        → InStep desk.old.building (K.standing recorder.new) (S.standing desk.new.store) }
+    ensures honest_record { (K.standing recorder.new).is_honest → (K.standing recorder.old).is_honest }
     ensures building { desk.new.building ≡ desk.old.building }
 {
     match read_request(alloc, routes, desk.building(), reader) {
         Ok(request) => {
-            let told = answer(alloc, desk, &request);
+            let told = answer(alloc, desk, recorder, &request);
             write_answer(writer, told)
         }
         Err(Unread::NoMemory) => write_answer(writer, Err(Unanswered::NoMemory)),
@@ -44,12 +51,13 @@ pub fn serve_one<R: Read, W: Write, S: Store + Drop>(
 }
 
 /// Serves an input of which these bytes have come: a whole request, or all that there is.
-pub fn serve_come<W: Write, S: Store + Drop>(
+pub fn serve_come<W: Write, S: Store + Drop, K: Recorder>(
     alloc: Global,
     routes: &Routes,
     come: &[u8],
     writer: &mut Counted<W>,
     desk: &mut Desk<S>,
+    recorder: &mut K,
 ) -> Served
     ensures serves { (more : List ℕ) (earlier : List a_delivery) → IsWhole desk.old.building come.now ⊎ (more ≡ [])
         → (S.standing desk.new.store).is_honest → Holds desk.old.building earlier (S.standing desk.old.store)
@@ -57,8 +65,12 @@ pub fn serve_come<W: Write, S: Store + Drop>(
         (W.contents writer.old.inner) (W.contents writer.new.inner) writer.old.failures writer.new.failures
         (S.standing desk.old.store) (S.standing desk.new.store) result }
     ensures honest { (S.standing desk.new.store).is_honest → (S.standing desk.old.store).is_honest }
+    ensures recorded { (S.standing desk.new.store).is_honest → (K.standing recorder.new).is_honest
+        → InStep desk.old.building (K.standing recorder.old) (S.standing desk.old.store)
+        → InStep desk.old.building (K.standing recorder.new) (S.standing desk.new.store) }
+    ensures honest_record { (K.standing recorder.new).is_honest → (K.standing recorder.old).is_honest }
     ensures building { desk.new.building ≡ desk.old.building }
 {
     let mut reader = Counted::new(come);
-    serve_one(alloc, routes, &mut reader, writer, desk)
+    serve_one(alloc, routes, &mut reader, writer, desk, recorder)
 }

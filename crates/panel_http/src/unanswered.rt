@@ -1,5 +1,6 @@
 //! Why there is no response that says what is so.
 
+use desk_record::Undelivered;
 use store::StoreFault;
 
 /// Why a request has no response of its own.
@@ -9,6 +10,8 @@ pub enum Unanswered {
     NoMemory,
     /// Memory for the response was refused. What the request told is delivered.
     NoReply,
+    /// The record can't be written, and nothing was delivered.
+    NotRecorded,
     /// The store failed, or was shut.
     Store,
 }
@@ -23,6 +26,21 @@ impl From<StoreFault> for Unanswered {
         match fault {
             StoreFault::NoMemory => Unanswered::NoMemory,
             StoreFault::Failed | StoreFault::Shut | StoreFault::BadRow => Unanswered::Store,
+        }
+    }
+}
+
+impl From<Undelivered> for Unanswered {
+    ghost use Rattle.std.specs.Prelude.{◌≡◌};
+    ghost use Rattle.panel_http.specs.Answers.{of_undelivered};
+
+    ghost from_gives = { λ fault unanswered. unanswered ≡ of_undelivered fault };
+
+    fn from(fault: Undelivered) -> Unanswered {
+        match fault {
+            Undelivered::NoMemory => Unanswered::NoMemory,
+            Undelivered::NotRecorded => Unanswered::NotRecorded,
+            Undelivered::Store(fault) => Unanswered::from(fault),
         }
     }
 }

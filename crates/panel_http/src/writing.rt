@@ -23,7 +23,7 @@ pub(crate) fn write_answer<W: Write>(
         Err(Unanswered::NoMemory) => {
             write_response(writer, StatusCode::SERVICE_UNAVAILABLE, no_memory_text())
         }
-        Err(Unanswered::Store) => {
+        Err(Unanswered::NotRecorded | Unanswered::Store) => {
             write_response(writer, StatusCode::INTERNAL_SERVER_ERROR, store_text())
         }
         Err(Unanswered::NoReply) => Served::NoReply,
