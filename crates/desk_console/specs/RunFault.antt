@@ -9,8 +9,8 @@ use Rattle.store.specs.declared.StoreFault.TheVariants as store
 use Rattle.store.specs.FaultCode.{code_of}
 use Rattle.desk_console.specs.declared.run_fault.RunFault.{RunFault}
 use Rattle.holidays.specs.ImportTexts as holidays
-use Rattle.desk_console.specs.declared.run_fault.RunFault.TheVariants.{Building, CannotListen, CannotRead, Holidays}
-use Rattle.desk_console.specs.declared.run_fault.RunFault.TheVariants.{NoMemory, NotDay, NotDelivery}
+use Rattle.desk_console.specs.declared.run_fault.RunFault.TheVariants.{Building, CannotListen, CannotRead, CannotWrite, Holidays}
+use Rattle.desk_console.specs.declared.run_fault.RunFault.TheVariants.{NoMemory, NotARecord, NotDay, NotDelivery}
 use Rattle.desk_console.specs.declared.run_fault.RunFault.TheVariants.{OutputFailed, Store, UnknownTables}
 
 -- the line, without the line end
@@ -21,6 +21,8 @@ line_of (NotDelivery line) = codes "desk: line " ++ (decimal line ++ codes " is 
 line_of (Holidays fault) = codes "desk: " ++ holidays.fault_line fault
 line_of NotDay = codes "desk: not a day"
 line_of (CannotListen address) = codes "desk: cannot listen on " ++ address.now
+line_of (CannotWrite path) = codes "desk: cannot write " ++ path.now
+line_of (NotARecord path) = codes "desk: the last line of " ++ (path.now ++ codes " is not a delivery")
 line_of OutputFailed = codes "desk: cannot write"
 line_of NoMemory = codes "desk: out of memory"
 line_of (Store fault) = codes "desk: store fault " ++ code_of fault

@@ -26,6 +26,10 @@ pub enum RunFault<'a> {
     NotDay,
     /// Nothing can listen on this address.
     CannotListen { address: &'a str },
+    /// The record of this path can't be written.
+    CannotWrite { path: &'a str },
+    /// The last line of the record of this path tells no delivery.
+    NotARecord { path: &'a str },
     /// The output failed.
     OutputFailed,
     /// Memory was refused.
@@ -42,7 +46,10 @@ impl<'a> RunFault<'a> {
         ensures { (result ≡ Status.Done) → ⊥ }
     {
         match self {
-            RunFault::NoMemory | RunFault::Store(_) | RunFault::UnknownTables => Status::Store,
+            RunFault::NoMemory
+            | RunFault::Store(_)
+            | RunFault::UnknownTables
+            | RunFault::CannotWrite { .. } => Status::Store,
             _ => Status::Fault,
         }
     }
@@ -84,6 +91,10 @@ impl fmt::Display for RunFault<'_> {
             RunFault::Holidays(fault) => write!(f, "desk: {fault}"),
             RunFault::NotDay => f.write_str("desk: not a day"),
             RunFault::CannotListen { address } => write!(f, "desk: cannot listen on {address}"),
+            RunFault::CannotWrite { path } => write!(f, "desk: cannot write {path}"),
+            RunFault::NotARecord { path } => {
+                write!(f, "desk: the last line of {path} is not a delivery")
+            }
             RunFault::OutputFailed => f.write_str("desk: cannot write"),
             RunFault::NoMemory => f.write_str("desk: out of memory"),
             RunFault::Store(fault) => write!(f, "desk: store fault {fault}"),
