@@ -1,3 +1,4 @@
 pub mod Answered
 pub mod Listening
 pub mod Reported
+pub mod Keeper

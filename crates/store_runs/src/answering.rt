@@ -1,5 +1,5 @@
 //! One delivery to a store, answered.
-ghost use Rattle.std.specs.Prelude.{◌≡◌, List, IfOk, OnOk, string_bytes};
+ghost use Rattle.std.specs.Prelude.{◌≡◌, List, None, IfOk, OnOk, string_bytes};
 ghost use Rattle.std.specs.Io.KnownBytes.{Appends};
 ghost use Rattle.delivery_lines.specs.ReplyText.{reply_line};
 ghost use Rattle.deliveries.specs.declared.delivery.Delivery.{Delivery as a_delivery};
@@ -7,11 +7,14 @@ ghost use Rattle.deliveries.specs.Delivered.{Holds};
 ghost use Rattle.store_runs.specs.Answered.{Answers, Opens};
 
 use crate::ended::Stopped;
+use crate::keeper::{Keeper, Recording, take_up};
 use building::Building;
 use deliveries::{Delivery, Reply};
 use delivery_lines::ReplyText;
 use desk::Desk;
+use desk_record::{Recorder, Undelivered};
 use desk_console::{RunFault, print_whole};
+use sqlite_disk::Disk;
 use std::alloc::{AllocError, Global};
 use std::io::Write;
 use store::{OpenFault, Store, StoreFault};
@@ -73,10 +76,13 @@ fn reply_line(alloc: Global, reply: Reply) -> Result<String, AllocError>
     format!(in alloc; "{}\n", ReplyText(reply))
 }
 
-/// Delivers, and prints the reply as a line. The desk is lent, so that no exit here drops one, which is dear to prove.
-fn deliver<'a, S: Store + Drop, W: Write>(
+/// Delivers, once that is written down, and prints the reply as a line. The desk is lent, so that no exit here drops one,
+/// which is dear to prove.
+fn deliver_kept<'a, S: Store + Drop, R: Recorder, W: Write>(
     alloc: Global,
     desk: &mut Desk<S>,
+    keeper: &mut Keeper<R>,
+    path: &'a str,
     delivery: &Delivery,
     out: &mut W,
 ) -> Result<Reply, RunFault<'a>>
@@ -85,29 +91,61 @@ fn deliver<'a, S: Store + Drop, W: Write>(
         → Answers desk.old.building earlier delivery.now (S.standing desk.new.store) (W.contents out.old) (W.contents out.new)) }
     ensures honest { OnOk result ((S.standing desk.new.store).is_honest → (S.standing desk.old.store).is_honest) }
 {
-    let reply = desk.deliver(delivery)?;
+    let reply = match desk_record::deliver(alloc, desk, keeper, delivery) {
+        Ok(reply) => reply,
+        Err(Undelivered::NoMemory) => return Err(RunFault::NoMemory),
+        Err(Undelivered::NotRecorded) => return Err(RunFault::CannotWrite { path }),
+        Err(Undelivered::Store(fault)) => return Err(RunFault::from(fault)),
+    };
     print_reply(alloc, reply, out)?;
     Ok(reply)
 }
 
+/// Delivers to a desk, after what its record has, and prints the reply as a line.
+fn deliver<'a, S: Store + Drop, D: Disk + Drop, Q, W: Write>(
+    alloc: Global,
+    desk: &mut Desk<S>,
+    recording: Recording<'a, Q>,
+    delivery: &Delivery,
+    out: &mut W,
+) -> Result<Reply, RunFault<'a>>
+where
+    Q: FnOnce() -> Result<D, OpenFault>,
+    Q: Drop,
+    requires { Q.IsAlwaysCallable recording.opener }
+    ensures answers { recording.entry.path ≡ None → OnOk result ((earlier : List a_delivery) → (S.standing desk.new.store).is_honest
+        → Holds desk.old.building earlier (S.standing desk.old.store)
+        → Answers desk.old.building earlier delivery.now (S.standing desk.new.store) (W.contents out.old) (W.contents out.new)) }
+    ensures honest { recording.entry.path ≡ None
+        → OnOk result ((S.standing desk.new.store).is_honest → (S.standing desk.old.store).is_honest) }
+{
+    let path = recording.path.unwrap_or("");
+    let mut keeper = take_up(alloc, desk, recording)?;
+    deliver_kept(alloc, desk, &mut keeper, path, delivery, out)
+}
+
 /// Delivers to the store that is opened, and prints the reply as a line.
-pub(crate) fn answer<'a, S: Store + Drop, O, W: Write>(
+pub(crate) fn answer<'a, S: Store + Drop, D: Disk + Drop, O, Q, W: Write>(
     alloc: Global,
     building: Building,
     opener: O,
+    recording: Recording<'a, Q>,
     delivery: &Delivery,
     out: &mut W,
 ) -> Result<Answered<S>, Stopped<'a, S>>
 where
     O: FnOnce() -> Result<S, OpenFault>,
-    requires { O.IsAlwaysCallable opener }
-    ensures { IfOk result (λ told. (earlier : List a_delivery)
+    Q: FnOnce() -> Result<D, OpenFault>,
+    Q: Drop,
+    requires opens { O.IsAlwaysCallable opener }
+    requires records { Q.IsAlwaysCallable recording.opener }
+    ensures { recording.entry.path ≡ None → IfOk result (λ told. (earlier : List a_delivery)
         → Opens (O.post opener) (λ store. Holds building earlier (S.standing store))
         → (S.standing told.store).is_honest
         → Answers building earlier delivery.now (S.standing told.store) (W.contents out.old) (W.contents out.new)) }
 {
     let mut desk = open_desk(alloc, building, opener)?;
-    let told = deliver(alloc, &mut desk, delivery, out);
+    let told = deliver(alloc, &mut desk, recording, delivery, out);
     let store = desk.into_store();
     match told {
         Ok(reply) => Ok(Answered { reply, store }),

@@ -1,43 +1,50 @@
 //! A tick, and an import, from the file of the building to the line of the reply.
-ghost use Rattle.std.specs.Prelude.{◌≡◌, List, ℕ, Some, IfOk};
+ghost use Rattle.std.specs.Prelude.{◌≡◌, List, ℕ, None, Some, IfOk};
 ghost use Rattle.std.specs.Io.KnownBytes.{Keeps};
 ghost use Rattle.desk_console.specs.Input.{bytes_of};
 ghost use Rattle.store_runs.specs.Answered.{IsAnswered, IsImport, IsTick};
 
 use crate::answering::{Answered, answer};
 use crate::ended::{Ended, Stopped};
+use crate::keeper::Recording;
 use building::Building;
 use deliveries::{Delivery, Reply};
 use desk_console::{Input, RunFault, Status, read_building};
 use holidays::{ImportRefusal, read_holidays};
 use listing::Listing;
+use sqlite_disk::Disk;
 use std::alloc::Global;
 use std::io::{Read, Write};
 use store::{OpenFault, Store};
 
 /// Delivers a tick at a moment, in hundredths of a second since 1970, to the store that is opened, over the building
-/// of a file, and prints the reply as a line: `desk tick`. The store is opened after the building is read.
+/// of a file, and prints the reply as a line: `desk tick`. The store is opened after the building is read, and the record,
+/// if one is kept, after the store.
 ///
 /// A moment that can't be ticked is answered `bad_moment`, and the status tells it. A fault is told on `fault` as one
 /// line; what the store answered before the output failed stands.
-pub fn tick<'a, B: Read + Drop, S: Store + Drop, O, W: Write, F: Write>(
+pub fn tick<'a, B: Read + Drop, S: Store + Drop, D: Disk + Drop, O, Q, W: Write, F: Write>(
     alloc: Global,
     file: Input<'a, B>,
     opener: O,
+    recording: Recording<'a, Q>,
     at: i64,
     out: &mut W,
     fault: &mut F,
 ) -> Ended<S>
 where
     O: FnOnce() -> Result<S, OpenFault>,
-    requires { O.IsAlwaysCallable opener }
-    ensures done { result.status ≡ Status.Done → (file_bytes : List ℕ)
+    Q: FnOnce() -> Result<D, OpenFault>,
+    Q: Drop,
+    requires opens { O.IsAlwaysCallable opener }
+    requires records { Q.IsAlwaysCallable recording.opener }
+    ensures done { result.status ≡ Status.Done → recording.entry.path ≡ None → (file_bytes : List ℕ)
         → bytes_of B.remaining file.entry.reader ≡ Some file_bytes
         → (left : S) × (result.store ≡ Some left)
         × IsAnswered S.standing (O.post opener) (IsTick at) file_bytes left (W.contents out.old) (W.contents out.new) }
     ensures quiet { result.status ≡ Status.Done → Keeps (F.contents fault.old) (F.contents fault.new) }
 {
-    match tick_over(alloc, file, opener, at, out) {
+    match tick_over(alloc, file, opener, recording, at, out) {
         Ok(Answered { reply, store }) => Ended {
             status: status_of(reply),
             store: Some(store),
@@ -46,22 +53,27 @@ where
     }
 }
 
-fn tick_over<'a, B: Read + Drop, S: Store + Drop, O, W: Write>(
+fn tick_over<'a, B: Read + Drop, S: Store + Drop, D: Disk + Drop, O, Q, W: Write>(
     alloc: Global,
     file: Input<'a, B>,
     opener: O,
+    recording: Recording<'a, Q>,
     at: i64,
     out: &mut W,
 ) -> Result<Answered<S>, Stopped<'a, S>>
 where
     O: FnOnce() -> Result<S, OpenFault>,
-    requires { O.IsAlwaysCallable opener }
-    ensures { IfOk result (λ told. (file_bytes : List ℕ)
+    Q: FnOnce() -> Result<D, OpenFault>,
+    Q: Drop,
+    requires opens { O.IsAlwaysCallable opener }
+    requires records { Q.IsAlwaysCallable recording.opener }
+    ensures { recording.entry.path ≡ None → IfOk result (λ told. (file_bytes : List ℕ)
         → bytes_of B.remaining file.entry.reader ≡ Some file_bytes
         → IsAnswered S.standing (O.post opener) (IsTick at) file_bytes told.store (W.contents out.old) (W.contents out.new)) }
 {
     let building = read_building(alloc, file)?;
-    answer(alloc, building, opener, &Delivery::Tick { at }, out)
+    let delivery = Delivery::Tick { at };
+    answer(alloc, building, opener, recording, &delivery, out)
 }
 
 /// The status of a tick that was answered.
@@ -76,25 +88,39 @@ fn status_of(reply: Reply) -> Status {
 /// reply as a line: `desk import`. The store is opened after both files are read.
 ///
 /// A list at fault is told on `fault`, as each fault is, and nothing is delivered.
-pub fn import<'a, B: Read + Drop, L: Read + Drop, S: Store + Drop, O, W: Write, F: Write>(
+pub fn import<
+    'a,
+    B: Read + Drop,
+    L: Read + Drop,
+    S: Store + Drop,
+    D: Disk + Drop,
+    O,
+    Q,
+    W: Write,
+    F: Write,
+>(
     alloc: Global,
     file: Input<'a, B>,
     list: Input<'a, L>,
     opener: O,
+    recording: Recording<'a, Q>,
     out: &mut W,
     fault: &mut F,
 ) -> Ended<S>
 where
     O: FnOnce() -> Result<S, OpenFault>,
-    requires { O.IsAlwaysCallable opener }
-    ensures done { result.status ≡ Status.Done → (file_bytes list_bytes : List ℕ)
+    Q: FnOnce() -> Result<D, OpenFault>,
+    Q: Drop,
+    requires opens { O.IsAlwaysCallable opener }
+    requires records { Q.IsAlwaysCallable recording.opener }
+    ensures done { result.status ≡ Status.Done → recording.entry.path ≡ None → (file_bytes list_bytes : List ℕ)
         → bytes_of B.remaining file.entry.reader ≡ Some file_bytes
         → bytes_of L.remaining list.entry.reader ≡ Some list_bytes
         → (left : S) × (result.store ≡ Some left)
         × IsAnswered S.standing (O.post opener) (IsImport list_bytes) file_bytes left (W.contents out.old) (W.contents out.new) }
     ensures quiet { result.status ≡ Status.Done → Keeps (F.contents fault.old) (F.contents fault.new) }
 {
-    match import_over(alloc, file, list, opener, out) {
+    match import_over(alloc, file, list, opener, recording, out) {
         Ok(Answered { reply: _, store }) => Ended {
             status: Status::Done,
             store: Some(store),
@@ -103,24 +129,28 @@ where
     }
 }
 
-fn import_over<'a, B: Read + Drop, L: Read + Drop, S: Store + Drop, O, W: Write>(
+fn import_over<'a, B: Read + Drop, L: Read + Drop, S: Store + Drop, D: Disk + Drop, O, Q, W: Write>(
     alloc: Global,
     file: Input<'a, B>,
     list: Input<'a, L>,
     opener: O,
+    recording: Recording<'a, Q>,
     out: &mut W,
 ) -> Result<Answered<S>, Stopped<'a, S>>
 where
     O: FnOnce() -> Result<S, OpenFault>,
-    requires { O.IsAlwaysCallable opener }
-    ensures { IfOk result (λ told. (file_bytes list_bytes : List ℕ)
+    Q: FnOnce() -> Result<D, OpenFault>,
+    Q: Drop,
+    requires opens { O.IsAlwaysCallable opener }
+    requires records { Q.IsAlwaysCallable recording.opener }
+    ensures { recording.entry.path ≡ None → IfOk result (λ told. (file_bytes list_bytes : List ℕ)
         → bytes_of B.remaining file.entry.reader ≡ Some file_bytes
         → bytes_of L.remaining list.entry.reader ≡ Some list_bytes
         → IsAnswered S.standing (O.post opener) (IsImport list_bytes) file_bytes told.store (W.contents out.old) (W.contents out.new)) }
 {
     let building = read_building(alloc, file)?;
     let delivery = read_import(alloc, &building, list)?;
-    answer(alloc, building, opener, &delivery, out)
+    answer(alloc, building, opener, recording, &delivery, out)
 }
 
 /// The import of the holiday list of a file.

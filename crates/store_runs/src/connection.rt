@@ -1,6 +1,7 @@
 //! A connection, at whatever stage it is.
 
 use desk::Desk;
+use desk_record::Recorder;
 use panel_http::{Counted, Gathered, Routes, Served, StatusCode, gather, serve_come};
 use std::alloc::Global;
 use std::io::{ErrorKind, Read, Write};
@@ -93,11 +94,12 @@ impl Connection {
     }
 
     /// Goes on with the connection as far as its peer lets.
-    pub(crate) fn turn<S: Store + Drop>(
+    pub(crate) fn turn<S: Store + Drop, R: Recorder>(
         &mut self,
         alloc: Global,
         routes: &Routes,
         desk: &mut Desk<S>,
+        recorder: &mut R,
     ) -> Turn {
         if let Stage::Request = self.stage {
             match gather(
@@ -112,7 +114,7 @@ impl Connection {
                 Gathered::Lost => return Turn::Over,
                 Gathered::Whole | Gathered::Ended => {}
             }
-            match self.answer(alloc, routes, desk) {
+            match self.answer(alloc, routes, desk, recorder) {
                 Answer::Success => self.stage = Stage::Response,
                 Answer::Refusal => self.stage = Stage::Refusal,
                 Answer::StoreFailed => return Turn::Failed,
@@ -127,15 +129,17 @@ impl Connection {
     }
 
     /// Serves the request that has come.
-    fn answer<S: Store + Drop>(
+    fn answer<S: Store + Drop, R: Recorder>(
         &mut self,
         alloc: Global,
         routes: &Routes,
         desk: &mut Desk<S>,
+        recorder: &mut R,
     ) -> Answer {
         let come = mem::replace(&mut self.come, Vec::new(alloc));
         let mut writer = Counted::new(Vec::new(alloc));
-        let Served::Answered(status) = serve_come(alloc, routes, &come, &mut writer, desk) else {
+        let served = serve_come(alloc, routes, &come, &mut writer, desk, recorder);
+        let Served::Answered(status) = served else {
             return Answer::None;
         };
         self.response = writer.into_inner();

@@ -7,6 +7,7 @@ use crate::machine_clock::moment;
 use deliveries::Delivery;
 use desk::Desk;
 use desk_console::Status;
+use desk_record::{Recorder, Undelivered, deliver};
 use mio::unix::SourceFd;
 use mio::{Events, Interest, Poll, Token};
 use panel_http::Routes;
@@ -49,7 +50,7 @@ pub(crate) struct Connections {
 #[derive(Clone, Copy, PartialEq, Eq)]
 enum Goes {
     On,
-    /// The store failed at a request, whose response was written, or readiness can't be told.
+    /// The store failed at a request, or the record can't be written, and the response was; or readiness can't be told.
     Ends,
 }
 
@@ -79,11 +80,12 @@ impl Connections {
     /// Takes the connections, and answers the request of each as soon as it is whole. One that can't be taken counts too,
     /// where none can be let go for it; what becomes of a response ends nothing, but of one at which the store failed,
     /// which ends the run with its status.
-    pub(crate) fn serve<S: Store + Drop>(
+    pub(crate) fn serve<S: Store + Drop, R: Recorder>(
         &mut self,
         rt: &HostRuntime,
         routes: &Routes,
         desk: &mut Desk<S>,
+        recorder: &mut R,
         events: &mut Events<Global>,
     ) -> Status {
         for _ in 0..u64::MAX {
@@ -91,9 +93,9 @@ impl Connections {
                 return Status::Done;
             }
             let goes = if self.held.connections.is_empty() {
-                self.wait_for_one(rt, routes, desk)
+                self.wait_for_one(rt, routes, desk, recorder)
             } else {
-                self.serve_held(rt, routes, desk, events)
+                self.serve_held(rt, routes, desk, recorder, events)
             };
             if goes == Goes::Ends {
                 return Status::Store;
@@ -113,28 +115,30 @@ impl Connections {
     }
 
     /// Waits for the next connection, where none is held, and begins with it.
-    fn wait_for_one<S: Store + Drop>(
+    fn wait_for_one<S: Store + Drop, R: Recorder>(
         &mut self,
         rt: &HostRuntime,
         routes: &Routes,
         desk: &mut Desk<S>,
+        recorder: &mut R,
     ) -> Goes {
         if self.set_waits(true).is_err() {
             return Goes::Ends;
         }
         self.left = self.left.saturating_sub(1);
         match self.listener.accept() {
-            Ok((stream, _peer)) => self.begin(rt, routes, desk, stream),
+            Ok((stream, _peer)) => self.begin(rt, routes, desk, recorder, stream),
             Err(_) => Goes::On,
         }
     }
 
     /// Goes on with the connections that are held and may go on, and takes some that are there.
-    fn serve_held<S: Store + Drop>(
+    fn serve_held<S: Store + Drop, R: Recorder>(
         &mut self,
         rt: &HostRuntime,
         routes: &Routes,
         desk: &mut Desk<S>,
+        recorder: &mut R,
         events: &mut Events<Global>,
     ) -> Goes {
         if self.set_waits(false).is_err() {
@@ -149,11 +153,11 @@ impl Connections {
             let token = event.token();
             if token == LISTENER {
                 self.comes = true;
-            } else if self.go_on(rt, routes, desk, token.0) == Goes::Ends {
+            } else if self.go_on(rt, routes, desk, recorder, token.0) == Goes::Ends {
                 return Goes::Ends;
             }
         }
-        self.take(rt, routes, desk)
+        self.take(rt, routes, desk, recorder)
     }
 
     /// How long to wait at most: not at all where a connection may be there to be taken.
@@ -176,11 +180,12 @@ impl Connections {
     }
 
     /// Takes those that are there, a few at a turn.
-    fn take<S: Store + Drop>(
+    fn take<S: Store + Drop, R: Recorder>(
         &mut self,
         rt: &HostRuntime,
         routes: &Routes,
         desk: &mut Desk<S>,
+        recorder: &mut R,
     ) -> Goes {
         for _ in 0..TAKEN {
             if !self.comes || self.left == 0 {
@@ -189,7 +194,7 @@ impl Connections {
             match self.listener.accept() {
                 Ok((stream, _peer)) => {
                     self.left = self.left.saturating_sub(1);
-                    if self.begin(rt, routes, desk, stream) == Goes::Ends {
+                    if self.begin(rt, routes, desk, recorder, stream) == Goes::Ends {
                         return Goes::Ends;
                     }
                 }
@@ -213,24 +218,25 @@ impl Connections {
     }
 
     /// Begins with a connection that was taken. Where the clock that limits its time fails, it is let go.
-    fn begin<S: Store + Drop>(
+    fn begin<S: Store + Drop, R: Recorder>(
         &mut self,
         rt: &HostRuntime,
         routes: &Routes,
         desk: &mut Desk<S>,
+        recorder: &mut R,
         stream: TcpStream,
     ) -> Goes {
         let Ok(taken) = Instant::now(rt) else {
             return Goes::On;
         };
-        if self.clock {
-            deliver_tick(rt, desk);
+        if self.clock && deliver_tick(rt, desk, recorder) == Goes::Ends {
+            return Goes::Ends;
         }
         if self.prepare(&stream).is_err() {
             return Goes::On;
         }
         let mut connection = Connection::new(rt.alloc(), stream, taken);
-        match connection.turn(rt.alloc(), routes, desk) {
+        match connection.turn(rt.alloc(), routes, desk, recorder) {
             Turn::Over => Goes::On,
             Turn::Failed => last(rt, &connection),
             Turn::WaitsToWrite => self.hold(connection, Interest::WRITABLE),
@@ -267,18 +273,19 @@ impl Connections {
     }
 
     /// Goes on with a connection that is held, if it still is.
-    fn go_on<S: Store + Drop>(
+    fn go_on<S: Store + Drop, R: Recorder>(
         &mut self,
         rt: &HostRuntime,
         routes: &Routes,
         desk: &mut Desk<S>,
+        recorder: &mut R,
         key: usize,
     ) -> Goes {
         let Some(connection) = self.held.connections.get_mut(key) else {
             return Goes::On;
         };
         let before = connection.memory();
-        let turn = connection.turn(rt.alloc(), routes, desk);
+        let turn = connection.turn(rt.alloc(), routes, desk, recorder);
         let has_grown = connection.memory() > before;
         let descriptor = connection.stream.as_raw_fd();
         match turn {
@@ -322,9 +329,18 @@ fn last(rt: &HostRuntime, connection: &Connection) -> Goes {
     }
 }
 
-/// Delivers a tick at the moment of the machine's clock, if it can be told. A fault of the store shows at the request.
-fn deliver_tick<S: Store + Drop>(rt: &HostRuntime, desk: &mut Desk<S>) {
-    if let Some(at) = moment(rt) {
-        let _reply = desk.deliver(&Delivery::Tick { at });
+/// Delivers a tick at the moment of the machine's clock, if it can be told. A fault of the store shows at the request; where
+/// the record can't be written, the run ends.
+fn deliver_tick<S: Store + Drop, R: Recorder>(
+    rt: &HostRuntime,
+    desk: &mut Desk<S>,
+    recorder: &mut R,
+) -> Goes {
+    let Some(at) = moment(rt) else {
+        return Goes::On;
+    };
+    match deliver(rt.alloc(), desk, recorder, &Delivery::Tick { at }) {
+        Err(Undelivered::NotRecorded) => Goes::Ends,
+        _ => Goes::On,
     }
 }

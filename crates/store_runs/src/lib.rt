@@ -9,6 +9,7 @@
 
 pub use clock_run::{import, tick};
 pub use ended::{Ended, finish};
+pub use keeper::Recording;
 pub use report_run::report;
 pub use server_run::{Serving, serve};
 
@@ -18,6 +19,7 @@ mod connection;
 mod connections;
 mod ended;
 mod held;
+mod keeper;
 mod last_response;
 mod machine_clock;
 mod report_run;

@@ -7,11 +7,11 @@ use Rattle.deliveries.specs.Delivered.{Holds}
 use Rattle.store_runs.proofs.answering.answer.Goals as goal
 
 pub returns-in-Ok : goal.returns-in-Ok
-returns-in-Ok g c = λ earlier opens honest.
+returns-in-Ok g c = λ unrecorded earlier opens honest.
     let same : c.in_ok-desk.desk.building ≡ c.args.building = c.in_ok-desk.ensures.building in
     let honest_now = subst (λ s. (g.S.Store.standing s).is_honest) c.into_store-store.ensures honest in
-    let held = c.in_ok-desk.ensures.holds earlier opens (c.in-Ok.ensures.honest honest_now) in
-    let told = c.in-Ok.ensures.answers earlier honest_now
+    let held = c.in_ok-desk.ensures.holds earlier opens (c.in-Ok.ensures.honest unrecorded honest_now) in
+    let told = c.in-Ok.ensures.answers unrecorded earlier honest_now
     (subst (λ (b : Building). Holds b earlier (g.S.Store.standing c.in_ok-desk.desk.store)) (sym same) held) in
     record {
       printed =

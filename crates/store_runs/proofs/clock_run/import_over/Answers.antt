@@ -2,10 +2,10 @@ use Rattle.store_runs.proofs.AnsweredLemmas.{if_ok}
 use Rattle.store_runs.proofs.clock_run.import_over.Goals as goal
 
 pub returns : goal.returns
-returns g c = if_ok c.answer.result (λ told answers file_bytes list_bytes file list. record {
+returns g c = λ unrecorded. if_ok c.answer.result (λ told answers file_bytes list_bytes file list. record {
   building = c.in_ok-building.building;
   building_is = c.in_ok-building.ensures file_bytes file;
   delivery = c.in_ok-delivery.delivery;
   asked = c.in_ok-delivery.ensures list_bytes list;
   answers = answers;
-}) c.answer.ensures
+}) (c.answer.ensures unrecorded)

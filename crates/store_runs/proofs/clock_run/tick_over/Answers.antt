@@ -6,6 +6,7 @@ use Rattle.store_runs.proofs.clock_run.tick_over.Goals as goal
 
 pub returns : goal.returns
 returns g c =
+    λ unrecorded.
     let whole : to_z w64 (of_z w64 c.args.at) ≡ c.args.at = search rules in
     if_ok c.answer.result (λ told answers file_bytes file. record {
       building = c.in_ok-building.building;
@@ -13,4 +14,4 @@ returns g c =
       delivery = Tick (to_z w64 (of_z w64 c.args.at));
       asked = ap Tick whole;
       answers = answers;
-    }) c.answer.ensures
+    }) (c.answer.ensures unrecorded)
