@@ -1,8 +1,9 @@
 """Compares `desk why` and `desk replay --until` with the plain slow desk: on random lists over small buildings, for each
 point, up to the end of the list and up to moments about its ticks; and on worked lists.
 
-What put each value in its place is computed here from the events of the list: the last that wrote the place. A list that is
-read up to a moment has a line that is no delivery behind its end, which must not be read.
+What put each value in its place is computed here from the events of the list: the last that wrote the place. The next change
+of a schedule is looked for at each later time that the day's lists name. A list that is read up to a moment has a line that is
+no delivery behind its end, which must not be read.
 
 Usage: authors.py PROGRAM [SEED [LISTS]]
 """
@@ -36,9 +37,13 @@ WEEKDAYS = ["Monday", "Tuesday", "Wednesday", "Thursday", "Friday", "Saturday", 
 # ---- what put a value there
 
 
+def time_text(now):
+    return f"{now // HOUR:02}:{now // 6000 % 60:02}:{now // 100 % 60:02}.{now % 100:02}"
+
+
 def moment_text(building, moment):
     day, now = local_time(building.zone, moment)
-    return f"{day.isoformat()} {now // HOUR:02}:{now // 6000 % 60:02}:{now // 100 % 60:02}.{now % 100:02}"
+    return f"{day.isoformat()} {time_text(now)}"
 
 
 def source_text(schedule, calendars, day, now):
@@ -103,6 +108,42 @@ def held_after(building, deliveries):
     return held, state
 
 
+# ---- when a schedule changes next
+
+
+def named_times(schedule, calendars, day):
+    """The times at which the value of the day may change, in rising order."""
+    lists = [each.times for _, each in in_effect_on(schedule, calendars, day)] + [schedule.weekly[day.weekday()]]
+    return sorted({time for times in lists for time, _ in times})
+
+
+def next_line(time, value, schedule, source):
+    title, value = f"Next at {time_text(time)}", "NULL" if value is None else value
+    return f"    {title:<26}{value:>12}  schedule {schedule}, {source}"
+
+
+def next_lines(building, state, point):
+    """A line for each schedule that targets the point and has another value later on the day of the last tick."""
+    if state.last is None:
+        return []
+    day, now = local_time(building.zone, state.last)
+    calendars = calendars_now(building, state.imported)
+    lines = []
+    for schedule in building.schedules:
+        if point.name not in schedule.targets:
+            continue
+        value = schedule_value(schedule, calendars, day, now)
+        for time in named_times(schedule, calendars, day):
+            then = schedule_value(schedule, calendars, day, time)
+            if time > now and then != value:
+                lines.append(next_line(time, then, schedule.name, source_text(schedule, calendars, day, time)))
+                break
+    return lines
+
+
+# ---- the text
+
+
 def explained(building, deliveries, point):
     """What `desk why` prints of a point."""
     held, state = held_after(building, deliveries)
@@ -112,7 +153,7 @@ def explained(building, deliveries, point):
             value, author = held[point.name, priority]
             lines.append(f"{priority:>2}  {USES.get(priority, 'Available'):<26}{value:>12}  {author}")
     lines.append(f"    {'Relinquish Default':<26}{point.default:>12}")
-    return "".join(line + "\n" for line in lines)
+    return "".join(line + "\n" for line in lines + next_lines(building, state, point))
 
 
 # ---- lists up to a moment
@@ -204,14 +245,19 @@ def at(hour, minute=0, days=0):
 
 
 HOLIDAY = Import((("HOLIDAYS", "2025-06-02"),))
-# Each list, and the lines of its places that have a value: priority, value, what put it there.
+# Each list, the lines of its places that have a value (priority, value, what put it there), and those of the next changes
+# (time, value, the schedule and what gives it), if there are any.
 WORKED = [
     ([], []),
     ([command("P1", 1, 8, 2150)], [(8, 2150, "panel P1 #1, before any tick")]),
     ([command("P1", 1, 8, 2150), command("P1", 2, 9, 2000), command("P1", 1, 8, 2150)], [(8, 2150, "panel P1 #1, before any tick")]),
     ([command("P1", 2, 8, 2000), command("P1", 1, 8, 2100)], [(8, 2000, "panel P1 #2, before any tick")]),
     ([command("P1", 1, 8, 2150), command("P1", 2, 8, None)], []),
-    ([at(7, 59)], [(15, 1700, "schedule R101-NIGHT, its default, at the tick at 2025-06-02 07:59:00.00")]),
+    (
+        [at(7, 59)],
+        [(15, 1700, "schedule R101-NIGHT, its default, at the tick at 2025-06-02 07:59:00.00")],
+        [(8 * HOUR, 2100, "R101-DAY", "weekly (Monday)")],
+    ),
     ([at(7, 59), at(8)], [(15, 2100, "schedule R101-DAY, weekly (Monday), at the tick at 2025-06-02 08:00:00.00")]),
     (
         [at(7, 59), at(8), command("P2", 1, 15, 2000), at(9), at(9)],
@@ -221,25 +267,41 @@ WORKED = [
         [at(7, 59), at(8), at(9), HOLIDAY, HOLIDAY],
         [(15, 1500, "schedule R101-DAY, exception 1 (calendar HOLIDAYS), at an import after the tick at 2025-06-02 09:00:00.00")],
     ),
-    ([at(6, days=1)], [(15, 1700, "schedule R101-DAY, exception 2 (2025-06-03), at the tick at 2025-06-03 06:00:00.00")]),
+    (
+        [at(7, 59), HOLIDAY],
+        [(15, 1500, "schedule R101-DAY, exception 1 (calendar HOLIDAYS), at an import after the tick at 2025-06-02 07:59:00.00")],
+    ),
+    (
+        [at(5, days=1)],
+        [(15, 1600, "schedule R101-DAY, its default, at the tick at 2025-06-03 05:00:00.00")],
+        [(6 * HOUR, 1700, "R101-DAY", "exception 2 (2025-06-03)")],
+    ),
+    (
+        [at(6, days=1)],
+        [(15, 1700, "schedule R101-DAY, exception 2 (2025-06-03), at the tick at 2025-06-03 06:00:00.00")],
+        [(7 * HOUR, 1600, "R101-DAY", "its default")],
+    ),
     ([at(6, days=1), at(7, days=1)], [(15, 1600, "schedule R101-DAY, its default, at the tick at 2025-06-03 07:00:00.00")]),
     ([at(7, 59), at(8), command("P2", 1, 15, 2000), at(0, days=29)], []),
+    # of a Monday after the period: a quiet schedule has its values too
+    ([at(0, days=35)], [], [(8 * HOUR, 2100, "R101-DAY", "weekly (Monday)")]),
     ([Skip("P1", 3), command("P1", 3, 8, 2000), command("P1", 2, 8, 2100)], [(8, 2000, "panel P1 #3, before any tick")]),
 ]
 
 
-def worked_text(building, rows):
+def worked_text(building, rows, changes=()):
     point = building.points[0]
     value, priority = next(((value, priority) for priority, value, _ in rows), (point.default, 0))
     lines = [f"POINT {point.name:<32}{value:>12} {priority:>2}"]
     lines += [f"{each:>2}  {USES.get(each, 'Available'):<26}{value:>12}  {author}" for each, value, author in rows]
-    return "".join(line + "\n" for line in lines + [f"    {'Relinquish Default':<26}{point.default:>12}"])
+    lines += [f"    {'Relinquish Default':<26}{point.default:>12}"] + [next_line(*change) for change in changes]
+    return "".join(line + "\n" for line in lines)
 
 
 def worked(program, place):
-    deliveries, rows = WORKED[place]
+    deliveries, *rows = WORKED[place]
     try:
-        expect(explained(HOUSE, deliveries, HOUSE.points[0]), worked_text(HOUSE, rows))
+        expect(explained(HOUSE, deliveries, HOUSE.points[0]), worked_text(HOUSE, *rows))
         look_at(program, HOUSE, deliveries, None, random.Random(place))
     except AssertionError as error:
         return f"worked list {place}: {error}"

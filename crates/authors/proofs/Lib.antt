@@ -3,3 +3,4 @@ pub mod EventLemmas
 pub mod RunLemmas
 pub mod SettleLemmas
 pub mod TurnLemmas
+pub mod NextLemmas

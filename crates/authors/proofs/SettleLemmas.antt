@@ -133,7 +133,7 @@ module _ (b : Building) (E : List Delivery) (s : Standing) (held : Holds b E s) 
   shown-is : s.content.tables.shown ≡ (machine b E).shown
   shown-is = ap (λ (content : a_content). content.tables.shown) held ∙ tables-shown b E
 
-  last-is : s.content.tables.last_tick ≡ (machine b E).last_tick
+  pub last-is : s.content.tables.last_tick ≡ (machine b E).last_tick
   last-is = ap (λ (content : a_content). content.tables.last_tick) held ∙ (tables-last_tick b E ∙ sym (machine-last_tick b E))
 
   -- what is said of whatever list of texts the table tells

@@ -2,3 +2,4 @@ pub mod Settling
 pub mod Authors
 pub mod Turns
 pub mod Laws
+pub mod NextChanges

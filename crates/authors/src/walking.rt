@@ -1,6 +1,7 @@
 //! The places of a point after a list of deliveries.
 ghost use Rattle.std.specs.Prelude.{◌≡◌, ◌++◌, ◌∷◌, [], IfOk, List, OnOk};
 ghost use Rattle.authors.specs.Authors.{places_of};
+ghost use Rattle.authors.specs.NextChanges.{next_changes};
 ghost use Rattle.authors.specs.Turns.{no_places, places_along};
 ghost use Rattle.deliveries.specs.declared.delivery.Delivery.{Delivery as a_delivery};
 ghost use Rattle.deliveries.specs.Delivered.{Holds};
@@ -10,6 +11,7 @@ ghost use Rattle.mem_store.specs.Memory.{standing_of};
 ghost use Rattle.points.specs.PriorityArray.{present_of};
 
 use crate::author::Place;
+use crate::scheduled::{ScheduledChange, next_changes};
 use crate::steps::{follow_command, follow_import, follow_skip, follow_tick};
 use building::Building;
 use deliveries::Delivery;
@@ -21,7 +23,7 @@ use store::{Store, StoreFault};
 /// The priorities of a point's places.
 const PRIORITIES: [u8; 16] = [1, 2, 3, 4, 5, 6, 7, 8, 9, 10, 11, 12, 13, 14, 15, 16];
 
-/// What a point presents, and what its places hold.
+/// What a point presents, what its places hold, and when the schedules that target it change next.
 #[derive(Drop)]
 pub struct PointAtEnd {
     /// The present value.
@@ -30,6 +32,8 @@ pub struct PointAtEnd {
     pub priority: u8,
     /// The sixteen places, from priority 1 on.
     pub places: Vec<Place>,
+    /// The next changes on the local day of the last tick, in the order of the schedules in the file.
+    pub next: Vec<ScheduledChange>,
 }
 
 // Delivers one delivery, and has the places after it.
@@ -94,6 +98,7 @@ fn point_after(
     ensures present { IfOk result (λ at_end. (at_end.present, at_end.priority)
         ≡ present_of ((machine building.now deliveries.now).places point.now.name) point.now.relinquish_default) }
     ensures places { IfOk result (λ at_end. at_end.places.items ≡ places_of building.now deliveries.now point.now.name) }
+    ensures next { IfOk result (λ at_end. at_end.next.items ≡ next_changes building.now deliveries.now point.now.name) }
 {
     let mut store = MemStore::new(alloc);
     let mut places = no_places(alloc)?;
@@ -108,15 +113,18 @@ fn point_after(
         )?;
     }
     let (present, priority) = store.array(&point.name)?.present(point.relinquish_default);
+    let next = next_changes(alloc, &mut store, building, &point.name)?;
     Ok(PointAtEnd {
         present,
         priority,
         places,
+        next,
     })
 }
 
 /// What a point of a building presents after a list of deliveries, and what put each value in its places, whatever is
-/// repeated, late, differing, given up or parked in the list: `specs/Authors.antt`.
+/// repeated, late, differing, given up or parked in the list: `specs/Authors.antt`. And for each schedule that targets the
+/// point the next change on the local day of the last tick, after its time: `specs/NextChanges.antt`.
 ///
 /// The deliveries are run over empty tables in memory. Refused for want of memory alone.
 pub fn point_at_end(
@@ -128,6 +136,7 @@ pub fn point_at_end(
     ensures present { IfOk result (λ at_end. (at_end.present, at_end.priority)
         ≡ present_of ((machine building.now deliveries.now).places point.now.name) point.now.relinquish_default) }
     ensures places { IfOk result (λ at_end. at_end.places.items ≡ places_of building.now deliveries.now point.now.name) }
+    ensures next { IfOk result (λ at_end. at_end.next.items ≡ next_changes building.now deliveries.now point.now.name) }
 {
     match point_after(alloc, building, deliveries, point) {
         Ok(at_end) => Ok(at_end),

@@ -2,6 +2,7 @@
 use Rattle.std.specs.Prelude.{◌≡◌, ◌⊎◌, ℕ, ℤ, List, Option, Some, Ok, option_and_then}
 use Rattle.std.specs.Io.KnownBytes.{Appends, Keeps}
 use Rattle.authors.specs.Authors.{places_of}
+use Rattle.authors.specs.NextChanges.{next_changes}
 use Rattle.building.specs.Building.{Building, contents_of}
 use Rattle.building.specs.BuildingFile.{building_of}
 use Rattle.deliveries.specs.declared.delivery.Delivery.{Delivery}
@@ -15,11 +16,13 @@ use Rattle.points.specs.Rights.{point_named}
 use Rattle.texts.specs.Texts.{name_of}
 use Rattle.why_lines.specs.WhyLines.{why_text}
 
--- the text of a point after deliveries: what it presents, and what its places hold and by whom
+-- the text of a point after deliveries: what it presents, what its places hold and by whom, and when the schedules that
+-- target it change next
 abbrev pub explanation : Building → List Delivery → Point → List ℕ
 explanation building deliveries point = why_text building point
     (present_of ((machine building deliveries).places point.name) point.relinquish_default)
     (places_of building deliveries point.name)
+    (next_changes building deliveries point.name)
 
 -- the point that a word names
 abbrev pub point_of : Building → List ℕ → Option Point

@@ -56,6 +56,16 @@ const FIRST_TICK: &str = "{\"tick\":174885120000}\n";
 /// A later tick, and what is no delivery, behind it.
 const TICKS: &str = "{\"tick\":174885120000}\n{\"tick\":174885120001}\nno delivery\n";
 
+/// A tick at 07:00.
+const EARLY_TICK: &str = "{\"tick\":174884760000}\n";
+
+const AT_SEVEN: &str = "\
+POINT R101-SET                                1600 15
+15  Available                         1600  schedule R101-DAY, its default, at the tick at 2025-06-02 07:00:00.00
+    Relinquish Default                1800
+    Next at 08:00:00.00               2100  schedule R101-DAY, weekly (Monday)
+";
+
 const AT_EIGHT: &str = "\
 POINT R101-SET                                2100 15
 15  Available                         2100  schedule R101-DAY, weekly (Monday), at the tick at 2025-06-02 08:00:00.00
@@ -112,6 +122,11 @@ fn the_worked_day_is_told(rt: HostRuntime) -> Result<(), Fail> {
 fn the_list_ends_before_a_later_tick(rt: HostRuntime) -> Result<(), Fail> {
     expect_text(&rt, rt.alloc(), FIRST_TICK, None, AT_EIGHT)?;
     expect_text(&rt, rt.alloc(), TICKS, Some(174_885_120_000), AT_EIGHT)
+}
+
+#[test]
+fn the_next_change_of_the_day_is_printed(rt: HostRuntime) -> Result<(), Fail> {
+    expect_text(&rt, rt.alloc(), EARLY_TICK, None, AT_SEVEN)
 }
 
 #[test]

@@ -18,10 +18,11 @@ use std::io::{self, BufReader, Read, Write};
 use texts::name_of;
 use why_lines::why_text;
 
-/// Prints what a point of the building of a file presents after the deliveries of a list, and what put each value in its
-/// places: `desk why`. Empty lines of the list are passed over, also with a CR, and so is an import whose holiday list is at
-/// fault. Where `until` is a moment, in hundredths of a second since 1970-01-01T00:00:00Z, the list ends before its first
-/// line that tells a tick later than it, and that line and those after it are not looked at.
+/// Prints what a point of the building of a file presents after the deliveries of a list, what put each value in its
+/// places, and when the schedules that target it change next on the local day of the last tick: `desk why`. Empty lines of
+/// the list are passed over, also with a CR, and so is an import whose holiday list is at fault. Where `until` is a moment,
+/// in hundredths of a second since 1970-01-01T00:00:00Z, the list ends before its first line that tells a tick later than
+/// it, and that line and those after it are not looked at.
 ///
 /// The building is read, and refused, before the point is looked for, and that before the list is opened; the whole list is
 /// read before anything is printed. A fault is one line on `fault`, in one write, and ends the run: a file that can't be read

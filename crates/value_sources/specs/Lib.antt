@@ -1,2 +1,4 @@
 pub mod Sources
 pub mod SourceLaws
+pub mod NextChange
+pub mod NextLaws

@@ -4,11 +4,13 @@ use Rattle.std.specs.Fmt.{decimal, signed_decimal}
 use Rattle.std.specs.List.{flat_map}
 use Rattle.authors.specs.declared.author.Held.{Held}
 use Rattle.authors.specs.declared.author.Place.{Place}
+use Rattle.authors.specs.declared.scheduled.ScheduledChange.{ScheduledChange}
 use Rattle.building.specs.Building.{Building}
 use Rattle.dates.specs.Notation.{Text}
 use Rattle.point_lines.specs.PointLine.{left_in, point_line, right_in}
 use Rattle.points.specs.declared.point.Point.{Point}
-use Rattle.why_lines.specs.AuthorText.{author_text}
+use Rattle.sched.specs.TimeText.{time_text}
+use Rattle.why_lines.specs.AuthorText.{author_text, source_text}
 use Rattle.why_lines.specs.Words.{use_of}
 
 -- a priority in 2 places, what it is kept for in 26, the value in 12, and what put it there
@@ -28,8 +30,18 @@ place_line building place = line_of building place.priority place.held
 abbrev pub default_line : ℤ → Text
 default_line default = codes "    " ++ (left_in 26 (codes "Relinquish Default") ++ (right_in 12 (signed_decimal default) ++ 10 ∷ []))
 
--- the line of the point, a line for each place with a value, and the relinquish default
-abbrev pub why_text : Building → Point → ℤ × ℕ → List Place → Text
-why_text building point present places =
+abbrev pub value_text : Option ℤ → Text
+value_text None = codes "NULL"
+value_text (Some value) = signed_decimal value
+
+-- the time of a change in the places of a title, the value from then on in 12, and which schedule gives it, and by what
+unfoldable pub next_line : Building → ScheduledChange → Text
+next_line building next =
+    codes "    " ++ (left_in 26 (codes "Next at " ++ time_text next.change.time) ++ (right_in 12 (value_text next.change.value)
+    ++ (codes "  schedule " ++ (next.schedule ++ (codes ", " ++ (source_text building next.change.source ++ 10 ∷ []))))))
+
+-- the line of the point, a line for each place with a value, the relinquish default, and a line for each next change
+abbrev pub why_text : Building → Point → ℤ × ℕ → List Place → List ScheduledChange → Text
+why_text building point present places next =
     point_line point.name present.0 present.1
-    ++ (flat_map (place_line building) places ++ default_line point.relinquish_default)
+    ++ (flat_map (place_line building) places ++ (default_line point.relinquish_default ++ flat_map (next_line building) next))

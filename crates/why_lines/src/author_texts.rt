@@ -79,7 +79,12 @@ fn period_text(alloc: Global, building: &Building, period: &Period) -> Result<St
     }
 }
 
-fn source_text(alloc: Global, building: &Building, source: &Source) -> Result<String, AllocError>
+/// Which list of a schedule gives its value, or its default.
+pub fn source_text(
+    alloc: Global,
+    building: &Building,
+    source: &Source,
+) -> Result<String, AllocError>
     ensures { IfOk result (λ text. string_bytes text ≡ source_text building.now source.now) }
 {
     match source {

@@ -4,19 +4,16 @@ ghost use Rattle.std.specs.List.{flat_map};
 ghost use Rattle.why_lines.specs.WhyLines.{default_line, held_line, place_line, why_text};
 
 use crate::author_texts::author_text;
-use crate::words::{left_in, right_in, use_of};
+use crate::next_lines::push_changes;
+use crate::words::{TITLE_WIDTH, VALUE_WIDTH, left_in, right_in, use_of};
 use authors::{Held, Place, PointAtEnd};
 use building::Building;
 use point_lines::point_line;
 use points::Point;
 use std::alloc::{AllocError, Global};
 
-/// The places of a priority, of what it is kept for, and of a value.
+/// The places of a priority.
 const PRIORITY_WIDTH: usize = 2;
-
-const USE_WIDTH: usize = 26;
-
-const VALUE_WIDTH: usize = 12;
 
 // The line of a place with a value.
 fn held_line(
@@ -31,7 +28,7 @@ fn held_line(
     let number = priority.to_string(alloc)?;
     let value = held.value.to_string(alloc)?;
     let number = right_in(alloc, number.as_str(), PRIORITY_WIDTH)?;
-    let kept_for = left_in(alloc, use_of(priority), USE_WIDTH)?;
+    let kept_for = left_in(alloc, use_of(priority), TITLE_WIDTH)?;
     let value = right_in(alloc, value.as_str(), VALUE_WIDTH)?;
     format!(in alloc; "{number}  {kept_for}{value}  {author}\n")
 }
@@ -72,13 +69,13 @@ fn default_line(alloc: Global, default: i64) -> Result<String, AllocError>
     ensures { IfOk result (λ line. string_bytes line ≡ default_line default) }
 {
     let value = default.to_string(alloc)?;
-    let title = left_in(alloc, "Relinquish Default", USE_WIDTH)?;
+    let title = left_in(alloc, "Relinquish Default", TITLE_WIDTH)?;
     let value = right_in(alloc, value.as_str(), VALUE_WIDTH)?;
     format!(in alloc; "    {title}{value}\n")
 }
 
-/// The line of a point, a line for each of its places that has a value, from priority 1 on, and one for its relinquish
-/// default.
+/// The line of a point, a line for each of its places that has a value, from priority 1 on, one for its relinquish default,
+/// and one for each next change of a schedule that targets it.
 pub fn why_text(
     alloc: Global,
     building: &Building,
@@ -86,11 +83,13 @@ pub fn why_text(
     at_end: &PointAtEnd,
 ) -> Result<String, AllocError>
     ensures { IfOk result (λ text. string_bytes text
-        ≡ why_text building.now point.now (at_end.now.present, at_end.now.priority) at_end.now.places.items) }
+        ≡ why_text building.now point.now (at_end.now.present, at_end.now.priority) at_end.now.places.items
+        at_end.now.next.items) }
 {
     let mut text = point_line(alloc, &point.name, at_end.present, at_end.priority)?;
     push_places(alloc, &mut text, building, at_end.places.as_slice())?;
     let line = default_line(alloc, point.relinquish_default)?;
     text.push_str(line.as_str())?;
+    push_changes(alloc, &mut text, building, at_end.next.as_slice())?;
     Ok(text)
 }

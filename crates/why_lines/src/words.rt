@@ -8,6 +8,12 @@ use dates::{Day, Weekday};
 use point_lines::push_right;
 use std::alloc::{AllocError, Global};
 
+/// The places of what a priority is kept for, or of another title.
+pub const TITLE_WIDTH: usize = 26;
+
+/// The places of a value.
+pub const VALUE_WIDTH: usize = 12;
+
 /// What the standard keeps a priority for (table 19-1).
 pub fn use_of(priority: u8) -> &'static str
     ensures { result.now ≡ use_of priority }

@@ -11,6 +11,7 @@ use Rattle.store.specs.Tables.{Text}
 use Rattle.authors.specs.declared.author.Place.{Place}
 use Rattle.authors.specs.Turns.{places_along}
 use Rattle.authors.proofs.EventLemmas.{places-more, places-none, tables-places}
+use Rattle.authors.proofs.NextLemmas.{changes-held}
 use Rattle.authors.proofs.walking.point_after.Goals as goal
 
 pub loop-delivery-init : goal.loop-delivery-init
@@ -56,3 +57,12 @@ returns-clause-present c =
     ∙ (c.present-present.ensures.present
     ∙ (ap (λ (places : Places). present_of places (to_z w64 (of_z w64 default))) array
     ∙ ap (λ (z : ℤ). present_of ((machine b ds).places name) z) same))
+
+pub returns-clause-next : goal.returns-clause-next
+returns-clause-next c =
+    let b = c.args.building.now in
+    let ds = c.args.deliveries.now in
+    let all : take c.loop-delivery.delivery-index ds ≡ ds = take_all c.loop-delivery.delivery-index ds (omega (arith, c.loop-delivery-test.false)) in
+    let held = subst (λ (E : List Delivery). Holds b E (standing_of c.loop-delivery.store)) all c.loop-delivery.invariant.holds in
+    let after = c.in_ok-array.ensures.reads.kept tt (λ e. cc) ∙ held in
+    changes-held b ds (standing_of c.array.new.self) after c.args.point.now.name c.in_ok-next.next.items c.in_ok-next.ensures

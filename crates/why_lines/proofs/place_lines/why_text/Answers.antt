@@ -1,8 +1,9 @@
 use Rattle.std.proofs.Common.{◌≡◌, ◌∙◌, ℕ, ℤ, List, ◌++◌, ap, rules, string_bytes, to_z, of_z, w64}
 use Rattle.std.specs.List.{flat_map}
 use Rattle.authors.specs.declared.author.Place.{Place}
+use Rattle.authors.specs.declared.scheduled.ScheduledChange.{ScheduledChange}
 use Rattle.point_lines.specs.PointLine.{point_line}
-use Rattle.why_lines.specs.WhyLines.{default_line, place_line}
+use Rattle.why_lines.specs.WhyLines.{default_line, next_line, place_line}
 use Rattle.why_lines.proofs.JoinLemmas.{joined}
 use Rattle.why_lines.proofs.place_lines.why_text.Goals as goal
 
@@ -17,9 +18,14 @@ returns c =
     let defaults : to_z w64 (of_z w64 default) ≡ default = search rules in
     let first = string_bytes c.in_ok-text.text in
     let second = string_bytes c.push_places.new.text in
-    let pushed : string_bytes c.push_str.new.self ≡ second ++ c.as_str.result.now = search rules in
-    joined first second (string_bytes c.push_str.new.self) (point_line name present priority)
+    let third = string_bytes c.push_str.new.self in
+    let fourth = string_bytes c.push_changes.new.text in
+    let pushed : third ≡ second ++ c.as_str.result.now = search rules in
+    joined first second third fourth (point_line name present priority)
     (flat_map (place_line b) c.args.at_end.now.places.items) (default_line default)
+    (flat_map (next_line b) c.args.at_end.now.next.items)
     (c.in_ok-text.ensures ∙ ap (λ (z : ℤ). point_line name z priority) presents)
     (c.in_ok-push_places.ensures ∙ ap (λ (places : List Place). first ++ flat_map (place_line b) places) c.as_slice.ensures.value)
     (pushed ∙ ap (λ (line : List ℕ). second ++ line) (c.as_str.ensures.value ∙ (c.in_ok-line.ensures ∙ ap default_line defaults)))
+    (c.in_ok-push_changes.ensures
+    ∙ ap (λ (changes : List ScheduledChange). third ++ flat_map (next_line b) changes) c.as_slice-2.ensures.value)
