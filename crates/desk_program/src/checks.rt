@@ -1,9 +1,10 @@
-//! The check of a building file and a database beside it.
+//! The check of a building file and a database beside it, and of a record beside both.
 use desk_check::{Detail, check_database};
-use desk_console::{Input, Status};
+use desk_console::{Input, Listed, Status};
 use desk_database::find_store;
+use record_check::check_record;
 use std::fs;
-use std::io::{self, BufWriter, ErrorKind, Read, Write};
+use std::io::{self, BufReader, BufWriter, ErrorKind, Read, Write};
 use store::{OpenFault, Store};
 
 /// Whether there is no file at a path, or an empty one.
@@ -76,4 +77,64 @@ where
         }
     };
     check_database(rt.alloc(), building, detail, database, finder, out, fault).status
+}
+
+/// Compares the tables in the database of a path with those that the record of another leaves in a building. It is an error
+/// where memory for the output's buffer is refused.
+pub fn run_record<'a>(
+    rt: &HostRuntime,
+    file: &'a str,
+    database: &'a str,
+    record: &'a str,
+) -> io::Result<Status> {
+    let mut out = BufWriter::new(rt.alloc(), io::writer(rt))?;
+    let building = Input {
+        path: file,
+        reader: fs::open(rt, file),
+    };
+    let list = Listed {
+        path: record,
+        open: || BufReader::new(rt.alloc(), fs::open(rt, record)?),
+    };
+    let is_missing = is_nothing_at(rt, database);
+    let opener = || one_of(find_store(rt, database));
+    Ok(run_record_over(
+        rt,
+        building,
+        list,
+        database,
+        is_missing,
+        opener,
+        &mut out,
+        &mut rt.stderr(),
+    ))
+}
+
+/// The same over the files and the store that is found, and generic over them too.
+fn run_record_over<'a, B: Read + Drop, D: Read + Drop, P, S: Store + Drop, O, W: Write, F: Write>(
+    rt: &HostRuntime,
+    building: Input<'a, B>,
+    list: Listed<'a, P>,
+    database: &'a str,
+    is_missing: bool,
+    opener: O,
+    out: &mut W,
+    fault: &mut F,
+) -> Status
+where
+    P: FnOnce() -> io::Result<BufReader<D>>,
+    O: FnOnce() -> Result<S, OpenFault>,
+    requires list { P.IsAlwaysCallable list.open }
+    requires found { O.IsAlwaysCallable opener }
+{
+    let finder = || {
+        if is_missing {
+            return Ok(None);
+        }
+        match opener() {
+            Ok(store) => Ok(Some(store)),
+            Err(fault) => Err(fault),
+        }
+    };
+    check_record(rt.alloc(), building, list, database, finder, out, fault)
 }

@@ -14,6 +14,7 @@ use std::os::fd::AsRawFd;
 use std::process::ExitCode;
 use store_runs::Serving;
 
+mod adoptions;
 mod checks;
 mod runs;
 
@@ -80,6 +81,22 @@ fn run_check<'a>(
     let mut out = BufWriter::new(alloc, io::writer(rt))?;
     let building = building_at(rt, file);
     Ok(check(alloc, building, detail, &mut out, &mut rt.stderr()))
+}
+
+/// Compares with a record, for which there is to be a database.
+fn run_record(
+    rt: &HostRuntime,
+    file: &str,
+    database: Option<&str>,
+    record: &str,
+) -> io::Result<Status> {
+    match database {
+        Some(database) => checks::run_record(rt, file, database, record),
+        None => {
+            let _told = eprintln!(rt; "desk: --record is for a database");
+            Ok(Status::Words)
+        }
+    }
 }
 
 fn run_describe(rt: &HostRuntime, file: &str) -> io::Result<Status> {
@@ -167,12 +184,34 @@ fn refuse_unread(rt: &HostRuntime, error: &io::Error) -> Status {
 fn run(rt: &HostRuntime, words: &[String]) -> io::Result<Status> {
     match Line::of(rt.alloc(), words) {
         Ok(
+            Line::Adopt {
+                file,
+                database,
+                made,
+                renamings,
+                dry_run,
+            },
+        ) => {
+            let asked = adoptions::Asked {
+                file,
+                database,
+                made,
+                renamings: renamings.as_slice(),
+                dry_run,
+            };
+            adoptions::run(rt, asked)
+        }
+        Ok(
             Line::Check {
                 file,
                 database,
                 explain,
+                record,
             },
         ) => {
+            if let Some(record) = record {
+                return run_record(rt, file, database, record);
+            }
             let detail = if explain {
                 Detail::Explained
             } else {
@@ -202,10 +241,18 @@ fn run(rt: &HostRuntime, words: &[String]) -> io::Result<Status> {
                 file,
                 database,
                 holidays,
+                record,
             },
-        ) => runs::run(rt, file, database, &Asked::Import { holidays }),
-        Ok(Line::Tick { file, database, at }) => {
-            runs::run(rt, file, database, &Asked::Tick { at })
+        ) => runs::run(rt, file, database, record, &Asked::Import { holidays }),
+        Ok(
+            Line::Tick {
+                file,
+                database,
+                at,
+                record,
+            },
+        ) => {
+            runs::run(rt, file, database, record, &Asked::Tick { at })
         }
         Ok(
             Line::Report {
@@ -213,7 +260,7 @@ fn run(rt: &HostRuntime, words: &[String]) -> io::Result<Status> {
                 database,
                 date,
             },
-        ) => runs::run(rt, file, database, &Asked::Report { date }),
+        ) => runs::run(rt, file, database, None, &Asked::Report { date }),
         Ok(
             Line::Serve {
                 file,
@@ -221,6 +268,7 @@ fn run(rt: &HostRuntime, words: &[String]) -> io::Result<Status> {
                 address,
                 requests,
                 clock,
+                record,
             },
         ) => {
             let serving = Serving {
@@ -228,7 +276,7 @@ fn run(rt: &HostRuntime, words: &[String]) -> io::Result<Status> {
                 requests,
                 clock,
             };
-            runs::run(rt, file, database, &Asked::Serve(serving))
+            runs::run(rt, file, database, record, &Asked::Serve(serving))
         }
         Err(fault) => Ok(refuse(rt, &fault)),
     }

@@ -1,10 +1,11 @@
 //! The runs of the subcommands that take a database.
 use desk_console::{Input, Status};
-use desk_database::{close_store, open_store};
+use desk_database::{close_store, open_record, open_store};
+use sqlite_disk::Disk;
 use std::fs;
 use std::io::{self, BufWriter, Read, Write};
 use store::{OpenFault, Store, StoreFault};
-use store_runs::{Ended, Serving, finish, import, report, serve, tick};
+use store_runs::{Ended, Recording, Serving, finish, import, report, serve, tick};
 
 /// What is asked of the desk over a database.
 #[derive(Clone, Copy)]
@@ -19,12 +20,13 @@ pub enum Asked<'a> {
     Serve(Serving<'a>),
 }
 
-/// Runs what is asked over the building and the database of these paths. It is an error where memory for the output's
-/// buffer is refused.
+/// Runs what is asked over the building and the database of these paths, and writes each delivery down in the record of a
+/// path, if there is one. It is an error where memory for the output's buffer is refused.
 pub fn run<'a>(
     rt: &HostRuntime,
     file: &'a str,
     database: &str,
+    record: Option<&'a str>,
     asked: &Asked<'a>,
 ) -> io::Result<Status> {
     let mut out = BufWriter::new(rt.alloc(), io::writer(rt))?;
@@ -34,17 +36,18 @@ pub fn run<'a>(
     };
     let opener = || open_store(rt, database);
     let fault = &mut rt.stderr();
-    let ended = run_over(rt, file, input_of, opener, asked, &mut out, fault);
+    let ended = run_kept(rt, file, input_of, opener, record, asked, &mut out, fault);
     Ok(finish(rt.alloc(), ended, close_store, fault))
 }
 
-/// Runs what is asked over the files and the store that these calls open. It is generic over them, since a call that names
-/// their types is dear to prove.
-fn run_over<'a, B: Read + Drop, S: Store + Drop, I, O, W: Write, F: Write>(
+/// The same over the files and the store that these calls open, and over the real file of the record. A call that names the
+/// types of both a real store and a real record takes more steps than the prover gives one declaration.
+fn run_kept<'a, B: Read + Drop, S: Store + Drop, I, O, W: Write, F: Write>(
     rt: &HostRuntime,
     file: &'a str,
     input_of: I,
     opener: O,
+    record: Option<&'a str>,
     asked: &Asked<'a>,
     out: &mut W,
     fault: &mut F,
@@ -55,6 +58,36 @@ where
     requires reads { I.IsAlwaysCallable input_of }
     requires opens { O.IsAlwaysCallable opener }
 {
+    let recording = Recording {
+        path: record,
+        opener: || open_record(rt, record.unwrap_or("")),
+    };
+    run_over(
+        rt, file, input_of, opener, recording, asked, out, fault,
+    )
+}
+
+/// Runs what is asked over the files, the store and the record that these calls open. It is generic over them, since a call
+/// that names their types is dear to prove.
+fn run_over<'a, B: Read + Drop, S: Store + Drop, D: Disk + Drop, I, O, Q, W: Write, F: Write>(
+    rt: &HostRuntime,
+    file: &'a str,
+    input_of: I,
+    opener: O,
+    recording: Recording<'a, Q>,
+    asked: &Asked<'a>,
+    out: &mut W,
+    fault: &mut F,
+) -> Ended<S>
+where
+    I: Fn(&'a str) -> Input<'a, B>,
+    O: FnOnce() -> Result<S, OpenFault>,
+    Q: FnOnce() -> Result<D, OpenFault>,
+    Q: Drop,
+    requires reads { I.IsAlwaysCallable input_of }
+    requires opens { O.IsAlwaysCallable opener }
+    requires records { Q.IsAlwaysCallable recording.opener }
+{
     let alloc = rt.alloc();
     match asked {
         Asked::Import { holidays } => {
@@ -63,12 +96,13 @@ where
                 input_of(file),
                 input_of(holidays),
                 opener,
+                recording,
                 out,
                 fault,
             )
         }
-        Asked::Tick { at } => tick(alloc, input_of(file), opener, *at, out, fault),
+        Asked::Tick { at } => tick(alloc, input_of(file), opener, recording, *at, out, fault),
         Asked::Report { date } => report(alloc, input_of(file), opener, date, out, fault),
-        Asked::Serve(serving) => serve(rt, input_of(file), opener, serving, out, fault),
+        Asked::Serve(serving) => serve(rt, input_of(file), opener, recording, serving, out, fault),
     }
 }
