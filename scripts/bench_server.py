@@ -1,7 +1,8 @@
 """Measures `desk serve` over the loopback: requests a second, one connection after another, and how long each takes.
 
 The requests are made by `scripts/http_load.cpp`, which wants g++: commands in order, a mix of commands, repeats and
-points, and points alone, each over a new database; then commands and points by 64 clients at once. Where `strace` is installed, the share of the time that the server
+points, and points alone, each over a new database; then commands and points by 64 clients at once, and commands with and
+without a record (`--record`), the two taking turns. Where `strace` is installed, the share of the time that the server
 waits for the disk is told too. The commands in order are taken as well by `scripts/plain_desk.cpp` where that can be
 built: the two servers take turns, on the disk as it is, and with `strace` on a disk of memory each of whose syncs waits
 so long that the plain server makes some 2,830 commands a second, as it did on the machine of the first measurements.
@@ -22,7 +23,7 @@ ROOT = pathlib.Path(__file__).resolve().parent.parent
 FOLDER = ROOT / "build" / "bench"
 REQUESTS = 10_000
 # One pair differs from the next by a third on a shared machine, so it takes this many to tell the middle of them.
-RUNS, PAIRS, PAIRS_IN_MEMORY = 3, 20, 12
+RUNS, PAIRS, PAIRS_IN_MEMORY, PAIRS_OF_RECORDS = 3, 20, 12, 8
 # What the plain server made a second on the disk that is the reference, and how near a wait must come to it.
 REFERENCE, NEAR = 2_830, 0.08
 MEMORY = pathlib.Path("/dev/shm")
@@ -30,17 +31,18 @@ CLIENTS = 64
 KINDS = {"commands": "commands in order", "mixed": "commands, repeats and points", "points": "GETs of a point"}
 
 
-def served(kind, count, before=(), plain=None, folder=FOLDER, clients=1, panels=bench_database.PANELS):
+def served(kind, count, before=(), plain=None, folder=FOLDER, clients=1, panels=bench_database.PANELS, is_recorded=False):
     """What the load tells of so many requests to a server of a new database: the desk's, or that of the plain program."""
-    database = folder / "server.db"
+    database, record = folder / "server.db", folder / "server.jsonl"
     bench_database.fresh(database)
+    record.unlink(missing_ok=True)
     with socket.create_server(("127.0.0.1", 0)) as free:
         port = free.getsockname()[1]
     if plain:
         words = [*bench_database.words_of(plain, database, count), str(port)]
     else:
-        words = [str(ROOT / "build" / "desk"), "serve", str(FOLDER / f"panels-{panels}.toml"), str(database), f"127.0.0.1:{port}"]
-        words += ["--requests", str(count)]
+        words = [str(ROOT / "build" / "desk"), "serve", str(FOLDER / f"panels-{panels}.toml"), str(database)]
+        words += [f"127.0.0.1:{port}", "--requests", str(count), *(["--record", str(record)] if is_recorded else [])]
     server = subprocess.Popen([*before, *words], stdout=subprocess.PIPE)
     server.stdout.readline()
     load = [str(FOLDER / "http_load"), str(port), kind, str(count), str(panels), str(bench_database.POINTS), str(clients)]
@@ -48,6 +50,8 @@ def served(kind, count, before=(), plain=None, folder=FOLDER, clients=1, panels=
     if told.returncode != 0 or server.wait() != 0:
         server.kill()
         sys.exit(f"the server ended early, or the load was told: {told.stderr}")
+    if is_recorded and len(record.read_bytes().splitlines()) != count:
+        sys.exit(f"the record has other lines than {count} commands")
     return [float(part) for part in told.stdout.split()]
 
 
@@ -59,12 +63,18 @@ def waited(kind):
     return seconds / (REQUESTS / 5 / a_second)
 
 
-def told(pairs):
+def told(pairs, other="a plain server in C++ has"):
     """What pairs of speeds come to: the middle of each, and the middle one, the least and the greatest of their ratios."""
-    ratios = sorted(desk / other for desk, other in pairs)
+    ratios = sorted(desk / beside for desk, beside in pairs)
     ours, theirs = (statistics.median(speeds) for speeds in zip(*pairs))
-    return (f"{ours:,.0f} commands a second where a plain server in C++ has {theirs:,.0f}: "
+    return (f"{ours:,.0f} commands a second where {other} {theirs:,.0f}: "
             f"{statistics.median(ratios):.2f} in the middle of pairs from {ratios[0]:.2f} to {ratios[-1]:.2f}")
+
+
+def compare_with_a_record():
+    """Pairs of a desk that keeps a record and one that keeps none."""
+    pairs = [[served("commands", REQUESTS, is_recorded=each)[0] for each in (True, False)] for _ in range(PAIRS_OF_RECORDS)]
+    print(f"with a record, over HTTP: {told(pairs, 'without one it is')}", flush=True)
 
 
 def compare(plain):
@@ -113,6 +123,7 @@ def main():
         pairs = [[served(kind, REQUESTS, clients=clients, panels=CLIENTS)[0] for clients in (CLIENTS, 1)] for _ in range(RUNS)]
         print(f"{KINDS[kind]} by {CLIENTS} clients at once: {max(pair[0] for pair in pairs):,.0f} a second, where by one "
               f"{max(pair[1] for pair in pairs):,.0f}", flush=True)
+    compare_with_a_record()
     plain = bench_database.built_plain()
     if plain:
         compare(plain)
