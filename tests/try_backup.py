@@ -23,9 +23,11 @@ import time
 
 import compare
 import databases
+import recorded
 from serving import IN_MEMORY, SECONDS, expect, post, read_all
+from slow_desk import Skip
 from trying import fault_of, tell_each
-from worked import BUILDING, light
+from worked import BUILDING, command, light
 
 BACKUP = pathlib.Path(__file__).resolve().parent.parent / "deploy" / "desk-backup"
 PANEL = "P1"
@@ -34,7 +36,7 @@ DAYS = 30
 # The desk that the scripts below stop and start.
 START = """#!/bin/sh
 cd "$(dirname "$0")"
-{program} serve building.toml desk.db 127.0.0.1:{port} --requests 1000000 > listening 2> told &
+{program} serve building.toml desk.db 127.0.0.1:{port} --requests 1000000 --record record.jsonl > listening 2> told &
 echo $! > pid
 while ! grep -q listening listening 2> /dev/null; do kill -0 $(cat pid) || exit 1; sleep 0.01; done
 """
@@ -68,8 +70,10 @@ class Room:
             os.kill(int((self.folder / "pid").read_text()), signal.SIGKILL)
 
     def backup(self, database="desk.db", **more):
-        environment = {**os.environ, "DESK": self.program, "DESK_STOP": str(self.folder / "stop"), "DESK_START": str(self.folder / "start")}
-        words = [BACKUP, self.folder / "building.toml", self.folder / database, self.backups, str(DAYS)]
+        calls = {"DESK_STOP": str(self.folder / "stop"), "DESK_START": str(self.folder / "start")}
+        environment = {**os.environ, "DESK": self.program} | calls
+        building, database, record = (self.folder / name for name in ("building.toml", database, recorded.NAME))
+        words = [BACKUP, building, database, self.backups, str(DAYS), record]
         return subprocess.run(words, env=environment | more, capture_output=True, text=True, timeout=SECONDS)
 
     def ask(self, target, members):
@@ -130,11 +134,28 @@ def expect_backed_up(ran):
     return pathlib.Path(ran.stdout.strip())
 
 
+def record_of(copy):
+    return copy.with_suffix(".jsonl")
+
+
+def expect_backups(room, *copies):
+    """The folder of backups has these copies, each with its record, and no other file."""
+    expect(sorted(room.backups.iterdir()), sorted(path for copy in copies for path in (copy, record_of(copy))))
+
+
+def recorded_list(path):
+    """The commands and skips of a record."""
+    told = [json.loads(line) for line in path.read_text().splitlines()]
+    return [Skip(each["panel"], each["skip"]) if "skip" in each
+            else command(each["panel"], each["number"], each["point"], each["priority"], each["value"]) for each in told]
+
+
 def put_back(room, copy):
     """Restores a backup as docs/OPERATING.md tells it."""
     room.stop()
     (room.folder / "desk.db-wal").unlink(missing_ok=True)
     shutil.copy(copy, room.folder / "desk.db")
+    shutil.copy(record_of(copy), room.folder / recorded.NAME)
     room.start()
 
 
@@ -157,7 +178,7 @@ def a_panel_goes_on_during_a_backup(room):
     expect([panel.repeat(number) for number in (1, 7, 305)], [panel.answers[number] for number in (1, 7, 305)])
     room.stop()
     expect(rows(room, "panel"), [(PANEL, 306)])
-    expect(sorted(path.name for path in room.backups.iterdir()), sorted(path.name for path in copies))
+    expect_backups(room, *copies)
 
 
 def a_panel_goes_on_after_a_restore(room):
@@ -175,6 +196,8 @@ def a_panel_goes_on_after_a_restore(room):
         expect(panel.repeat(11)["answer"], "skipped")
     room.stop()
     expect([row[1] for row in rows(room, "command")], [*range(1, 11), panel.number])
+    listed = recorded_list(room.folder / recorded.NAME)
+    expect(databases.held(room.folder), databases.tables_after(BUILDING, listed))
 
 
 def a_copy_alone_is_the_desk_as_it_was(room):
@@ -194,14 +217,15 @@ def old_copies_go_once_a_new_one_is_whole(room):
     Panel(room).press()
     room.backups.mkdir()
     old, young = room.backups / "desk-old.db", room.backups / "desk-young.db"
-    for path, days in ((old, DAYS + 2), (young, DAYS - 2)):
-        path.touch()
-        then = (datetime.datetime.now() - datetime.timedelta(days=days)).timestamp()
-        os.utime(path, (then, then))
+    for copy, days in ((old, DAYS + 2), (young, DAYS - 2)):
+        for path in (copy, record_of(copy)):
+            path.touch()
+            then = (datetime.datetime.now() - datetime.timedelta(days=days)).timestamp()
+            os.utime(path, (then, then))
     expect(room.backup(DESK="/bin/false").returncode, 1)
-    expect(sorted(path.name for path in room.backups.iterdir()), ["desk-old.db", "desk-young.db"])
+    expect_backups(room, old, young)
     copy = expect_backed_up(room.backup())
-    expect(sorted(path.name for path in room.backups.iterdir()), sorted([copy.name, "desk-young.db"]))
+    expect_backups(room, copy, young)
 
 
 def the_desk_goes_on_where_a_backup_fails(room):

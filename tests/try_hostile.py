@@ -16,6 +16,7 @@ import subprocess
 import sys
 import tempfile
 
+import adoption_stopped
 import at_rest
 import descriptors
 import hostile
@@ -25,7 +26,7 @@ import sizes
 import stop_each
 from serving import IN_MEMORY
 
-MODULES = (rows_done, memory_each, stop_each, hostile, sizes, descriptors, at_rest)
+MODULES = (rows_done, memory_each, stop_each, adoption_stopped, hostile, sizes, descriptors, at_rest)
 
 
 def spent():

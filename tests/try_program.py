@@ -6,9 +6,9 @@ Usage: try_program.py PROGRAM
 A case is a folder of cases/, named for what it shows: building.toml (without one, the worked building),
 deliveries.jsonl, words (a word a line; without it, replay of these two), and what is wanted: stdout, stderr
 (without it, nothing) and status (without it, 0). Or it has a transcript in place of all these: commands that are
-run one after the other, each after `$ `, and under it what is wanted. A command is `desk` with its words, or `sql`
+run one after the other, each after `$ `, and under it what is wanted. A command is `desk` with its words, `sql`
 with a database and a statement, which the C library of SQLite runs; its rows are shown with `|` between the
-columns. Of a `desk`, a line `desk: ..` is wanted on the standard error, a last line `status N` is the status
+columns; or `cat` with a file, which is shown as it is. Of a `desk`, a line `desk: ..` is wanted on the standard error, a last line `status N` is the status
 (without it, 0), and where a fault is told each file has to be as it was before.
 The last line printed is `N passed, M failed`.
 """
@@ -24,6 +24,7 @@ import sys
 import tempfile
 
 import check_cases
+import adopted_databases
 import checked_databases
 import compare
 import edges
@@ -82,9 +83,9 @@ def try_transcript(program, transcript, room):
     """Runs the commands of a transcript, to the first that differs."""
     for command, shown in re.findall(r"^\$ (.*)\n((?:[^$].*\n)*)", transcript, re.M):
         name, *words = shlex.split(command)
-        if name == "sql":
-            rows = rows_of(room / words[0], words[1])
-            wrong = "" if rows == shown else f"rows {rows!r}, wanted {shown!r}"
+        if name in ("sql", "cat"):
+            found = rows_of(room / words[0], words[1]) if name == "sql" else (room / words[0]).read_text()
+            wrong = "" if found == shown else f"found {found!r}, wanted {shown!r}"
         else:
             wrong = desk_differs(program, words, shown, room)
         if wrong:
@@ -191,7 +192,8 @@ def main(words):
     seed = random.randrange(10**9)
     for what, agree in (("lists print what the definitions say", compare.compare),
                         ("lists are straightened so", straightened.compare_lists),
-                        ("databases are checked so", checked_databases.compare_checks)):
+                        ("databases are checked so", checked_databases.compare_checks),
+                        ("adoptions make and print what the tables hold", adopted_databases.compare_adoptions)):
         agreed, differing = agree(program, seed)
         print(f"{agreed} random {what}, {len(differing)} do not (seed {seed})")
         for text in differing[:3]:

@@ -1,0 +1,430 @@
+#!/usr/bin/env python3
+"""Tries the record that `desk serve`, `tick` and `import` keep with `--record PATH`.
+
+Usage: try_record.py PROGRAM
+
+A list that is served stands in the record as it came, and what delivers nothing leaves no line. A record that can't be
+written ends the run. The page of C of `stop_each.py` stops a run at each call that changes the record or the database, or
+has the call fail: what got a reply stands in the record, a delivery whose line failed is not made, and the next run with
+the record leaves the tables of its list. What is wanted is what the plain slow program tells. The last line printed is
+`N passed, M failed`.
+"""
+import errno
+import json
+import pathlib
+import random
+import re
+import shutil
+import signal
+import socket
+import subprocess
+import sys
+import tempfile
+import time
+from enum import IntEnum
+
+import compare
+import databases
+import recorded
+import shims
+import tables
+from runs import asked, words_of
+from served_lists import deliver, deliveries_at, members_of, request_of
+from serving import IN_MEMORY, SECONDS, answered, expect, get, post, response, rows, serving
+from slow_desk import Import, Skip, Tick, run_of, straight_list
+from trying import fault_of, tell_each
+from try_server import ASKED, COMMAND, HEADS, REQUEST, RESPONSE, ROUTES, SKIP, request
+from worked import BUILDING, EACH_KIND, HOLIDAY, OTHER, REFUSED, command, light
+
+DOCUMENT = pathlib.Path(__file__).resolve().parent.parent / "docs" / "OPERATING.md"
+LISTS = 60
+LINE = b'{"number":1,"panel":"P1","point":"R101-SET","priority":8,"value":2150}\n'
+REFUSED_IMPORTS = [b"calendar,entry\nNOSUCH,2025-06-09\n", b"calendar\n", b"", b"calendar,entry\nHOLIDAYS,2025-13-01\n"]
+UNKNOWN = [post("/panels/P9/commands", COMMAND), post("/panels/skip/skip", SKIP)]
+STORE_FAULT = b"desk: store fault S2\n"
+NOT_MADE = response(500, b'{"answer":"store"}')
+# The last line of the record, which the database lacks, and what is sent then.
+PENDING = command("P2", 3, "R101-SET", 15, 2300)
+TICK, IMPORT = Tick(174890160000), Import((("HOLIDAYS", "2025-06-02"), ("HOLIDAYS", "2025-06-09")))
+SENT = (light(5), light(5), TICK, IMPORT, Skip("P1", 9))
+
+
+class Error(IntEnum):
+    ENOSPC = errno.ENOSPC
+    EIO = errno.EIO
+
+
+# What befalls a call: nothing more of the program, or an error, alone or from there on.
+STOPS = ({}, {"halves": True})
+FAULTS = ({"error": Error.ENOSPC}, {"error": Error.ENOSPC, "goes_on": True, "halves": True}, {"error": Error.EIO},
+          {"error": Error.EIO, "goes_on": True})
+
+
+# ---- what stands in the record
+
+def cut(rng, deliveries):
+    """A list in parts, each for a run of its own."""
+    rest = list(deliveries)
+    while rest:
+        size = rng.choice([1, 1, 3, len(rest)])
+        yield rest[:size]
+        rest = rest[size:]
+
+
+def by_words(program, folder, delivery, reply):
+    """A run of `tick` or `import` makes the delivery."""
+    words = [program, *words_of(delivery, folder), *recorded.KEPT]
+    ran = subprocess.run(words, cwd=folder, capture_output=True, timeout=SECONDS)
+    expect((ran.returncode, ran.stdout, ran.stderr), (0, reply.encode() + b"\n", b""))
+
+
+def may_be_words(delivery, reply):
+    """Whether `tick` or `import` gets this reply: they refuse by a fault, and a moment below 0 looks like an option."""
+    return isinstance(delivery, (Tick, Import)) and json.loads(reply)["answer"] in ("tick", "old", "import")
+
+
+def random_list_is_recorded(program, folder, rng, number):
+    building = compare.some_building(rng)
+    deliveries = deliveries_at(number + 1)(rng, building)
+    replies = run_of(building, deliveries)[0]
+    (folder / "building.toml").write_text(compare.toml_of(building))
+    for part in cut(rng, list(zip(deliveries, replies))):
+        if len(part) == 1 and may_be_words(*part[0]):
+            by_words(program, folder, *part[0])
+            continue
+        with serving(program, folder, len(part) + rng.randint(0, 1), *recorded.KEPT) as server:
+            deliver(server, [(request_of(members_of(delivery)), reply) for delivery, reply in part])
+    recorded.in_step(folder, building, [each for each in deliveries if recorded.reaches_the_desk(building, each)])
+
+
+def random_lists_are_recorded_as_they_came(program, folder):
+    """Repeats, what is out of turn and what is refused too; by servers, some of them killed, and by `tick` and `import`."""
+    seed = random.randrange(10**9)
+    for number in range(LISTS):
+        room = folder / str(number)
+        room.mkdir()
+        try:
+            random_list_is_recorded(program, room, random.Random(f"{seed} {number}"), number)
+        except AssertionError as error:
+            raise AssertionError(f"list {number} of seed {seed}, {(room / 'building.toml').read_text()}: {error}") from error
+        shutil.rmtree(room)
+
+
+def what_delivers_nothing_leaves_no_line(program, folder):
+    """Also under a name that no panel can have. What a panel sends that the building lacks is a delivery (below)."""
+    nothing = [each for each, _ in [*ASKED, *HEADS]] + [request(method, target, body) for method, target, body, _ in ROUTES]
+    nothing += [get("/reports/2025-06-02")] + [post("/imports", body) for body in REFUSED_IMPORTS]
+    nothing = [each for each in nothing if each not in UNKNOWN]
+    with serving(program, folder, len(nothing) + 2, *recorded.KEPT) as server:
+        expect(server.ask(REQUEST), RESPONSE)
+        for each in nothing:
+            server.ask(each)
+            expect((each[:90], recorded.bytes_of(folder)), (each[:90], LINE))
+        expect(server.ask(REQUEST), RESPONSE)
+        server.end()
+    expect(recorded.bytes_of(folder), LINE * 2)
+
+
+def what_a_panel_sends_that_the_building_lacks_is_recorded(program, folder):
+    """It reaches the desk, which answers `no_panel`."""
+    with serving(program, folder, len(UNKNOWN), *recorded.KEPT) as server:
+        for each in UNKNOWN:
+            expect(server.ask(each), answered('{"answer":"no_panel"}'))
+        server.end()
+    lines = [b'{"number":1,"panel":"P9","point":"R101-SET","priority":8,"value":2150}\n', b'{"panel":"skip","skip":4}\n']
+    expect(recorded.bytes_of(folder), b"".join(lines))
+
+
+def ticks_of_the_clock_are_recorded(program, folder):
+    """Each before its connection's request, also one that delivers nothing."""
+    before = int(time.time() * 100)
+    with serving(program, folder, 3, "--clock", *recorded.KEPT) as server:
+        expect(server.ask(REQUEST), RESPONSE)
+        expect(server.ask(get("/points/NOPE")), response(404, b'{"answer":"no_point"}'))
+        expect(server.ask(REQUEST), RESPONSE)
+        server.end()
+    lines = recorded.bytes_of(folder).splitlines(keepends=True)
+    told = [json.loads(line) for line in lines]
+    expect([sorted(each)[0] for each in told], ["tick", "number", "tick", "tick", "number"])
+    expect([line for line in lines if b"tick" not in line], [LINE] * 2)
+    moments = [each["tick"] for each in told if "tick" in each]
+    expect(moments, sorted(moments))
+    if not before - 100 <= moments[0] <= moments[-1] <= int(time.time() * 100) + 100:
+        raise AssertionError(f"ticks at {moments}")
+    expect(rows(folder, "SELECT last FROM desk"), [(moments[-1],)])
+
+
+def without_its_words_no_record_is_kept(program, folder):
+    (folder / recorded.NAME).write_bytes(LINE + b"{")
+    with serving(program, folder, 1) as server:
+        expect(server.ask(post("/tick", b'{"at":174884399999}')), answered('{"answer":"tick","writes":1}'))
+        server.end()
+    expect(recorded.bytes_of(folder), LINE + b"{")
+    expect(rows(folder, "SELECT * FROM place"), [("R101-SET", 15, 1600)])
+
+
+def the_record_of_the_document_is_what_a_reader_gets(program, folder):
+    """The list that docs/OPERATING.md shows is the record of a desk that was served it, and tells what is shown there."""
+    text = DOCUMENT.read_text()
+    section = text[text.index("### The record\n"):text.index("### A page to look at\n")]
+    listed, asked_now, *commands = re.findall(r"^```\n(.*?)^```$", section, re.S | re.M)
+    lines = [json.loads(line) for line in listed.splitlines()]
+    question, told = asked_now.splitlines()
+    (folder / "examples").mkdir()
+    shutil.copy(folder / "building.toml", folder / "examples")
+    with serving(program, folder, len(lines) + 1, *recorded.KEPT) as server:
+        for line in lines:
+            server.ask(request_of(line))
+        expect(recorded.bytes_of(folder), listed.encode())
+        for shown in commands:
+            words, printed = shown.split("\n", 1)
+            ran = subprocess.run([program, *words.split()[2:]], cwd=folder, capture_output=True, timeout=SECONDS)
+            expect((words, ran.returncode, ran.stdout, ran.stderr), (words, 0, printed.encode(), b""))
+        expect(len(commands), 3)
+        found = server.ask(get("/points/" + question.rpartition("/points/")[2]))
+        expect(found, response(200, told.encode()))
+        server.end()
+
+
+def a_record_is_begun_anew_as_the_document_tells(program, folder):
+    """From its straight list, once a run has made its last delivery, which the database lacks. What comes then is answered
+    as after the old record."""
+    put_down(folder)
+    (folder / recorded.NAME).write_bytes(recorded.lines_of([*EACH_KIND, PENDING]))
+    by_words(program, folder, TICK, '{"answer":"tick","writes":1}')
+    whole = [*EACH_KIND, PENDING, TICK]
+    recorded.in_step(folder, BUILDING, whole)
+    words = [program, "straighten", "building.toml", recorded.NAME]
+    straight = subprocess.run(words, cwd=folder, capture_output=True, timeout=SECONDS, check=True).stdout
+    listed = sum(straight_list(BUILDING, whole), [])
+    expect(straight, recorded.lines_of(listed))
+    (folder / recorded.NAME).write_bytes(straight)
+    asks = [light(2), light(5), light(7), Skip("P1", 9), OTHER, REFUSED, HOLIDAY]
+    replies = run_of(BUILDING, [*whole, *asks])[0][len(whole):]
+    with serving(program, folder, len(asks), *recorded.KEPT) as server:
+        deliver(server, [(request_of(members_of(delivery)), reply) for delivery, reply in zip(asks, replies)])
+        server.end()
+    recorded.in_step(folder, BUILDING, [*listed, *asks])
+    expect(databases.held(folder), databases.tables_after(BUILDING, [*whole, *asks]))
+
+
+# ---- a record that can't be written
+
+def put_down(folder, deliveries=EACH_KIND):
+    """The worked building, and a database with the tables of a list."""
+    (folder / "building.toml").write_text(compare.toml_of(BUILDING))
+    databases.make(folder, databases.tables_after(BUILDING, deliveries))
+
+
+def a_record_that_can_not_be_opened_ends_the_run(program, folder):
+    put_down(folder)
+    (folder / "folder").mkdir()
+    (folder / "holidays.csv").write_text("calendar,entry\nHOLIDAYS,2025-06-09\n")
+    before = databases.held(folder)
+    asks = (["tick", "building.toml", "desk.db", "174890160000"], ["import", "building.toml", "desk.db", "holidays.csv"],
+            ["serve", "building.toml", "desk.db", "127.0.0.1:0", "--requests", "1"])
+    for path in ("/dev/full", "missing/record.jsonl", "folder"):
+        for words in asks:
+            ran = subprocess.run([program, *words, "--record", path], cwd=folder, capture_output=True, timeout=SECONDS)
+            told = f"desk: cannot write {path}\n".encode()
+            expect((words, ran.returncode, ran.stdout, ran.stderr), (words, 3, b"", told))
+            expect(databases.held(folder), before)
+
+
+def a_record_that_another_desk_keeps_is_not_taken(program, folder):
+    with serving(program, folder, 1, *recorded.KEPT) as server:
+        words = [program, "tick", "building.toml", "other.db", "174884399999", *recorded.KEPT]
+        ran = subprocess.run(words, cwd=folder, capture_output=True, timeout=SECONDS)
+        expect((ran.returncode, ran.stdout, ran.stderr), (3, b"", recorded.FAILED))
+        expect(server.ask(REQUEST), RESPONSE)
+        server.end()
+    expect(recorded.bytes_of(folder), LINE)
+
+
+# ---- trouble at each call
+
+class Trial:
+    """A database with the tables of a list, a record of one more delivery, and what is sent to a desk of both.
+
+    A run that meets trouble leaves in the record what got a reply, and the tables with it; the next run leaves those of the
+    record's list.
+    """
+
+    def __init__(self, program, folder, sent, is_served):
+        self.program, self.folder, self.sent, self.is_served = program, folder, list(sent), is_served
+        self.listed = [*EACH_KIND, PENDING]
+        (folder / "making").mkdir()
+        put_down(folder / "making")
+        (folder / "building.toml").write_text(compare.toml_of(BUILDING))
+        databases.keep(folder / "making", folder / "kept")
+        self.replies = run_of(BUILDING, [*self.listed, *self.sent])[0][len(self.listed):]
+        self.tables = [databases.tables_after(BUILDING, [*self.listed, *self.sent][:count])
+                       for count in range(len(self.listed) - 1, len(self.listed) + len(self.sent) + 1)]
+
+    def begin(self):
+        databases.put_back(self.folder / "kept", self.folder)
+        (self.folder / recorded.NAME).write_bytes(recorded.lines_of(self.listed) + b'{"torn":')
+
+    def run(self, environment):
+        """What a run that makes each delivery in turn got before it ended: how many whole replies, what came after them, and
+        how it ended. Of a server it is also told whether it listened."""
+        if not self.is_served:
+            words = [self.program, *words_of(self.sent[0], self.folder), *recorded.KEPT]
+            ran = subprocess.run(words, cwd=self.folder, env=environment, capture_output=True, timeout=SECONDS)
+            is_answered = ran.stdout == self.replies[0].encode() + b"\n"
+            return int(is_answered), b"" if is_answered else ran.stdout, (ran.returncode, ran.stderr), True
+        with socket.create_server(("127.0.0.1", 0)) as free:
+            port = free.getsockname()[1]
+        words = [self.program, "serve", "building.toml", databases.NAME, f"127.0.0.1:{port}", "--requests", str(len(self.sent))]
+        how = {"cwd": self.folder, "env": environment, "stdout": subprocess.PIPE, "stderr": subprocess.PIPE}
+        with subprocess.Popen([*words, *recorded.KEPT], **how) as ran:
+            try:
+                listened = ran.stdout.readline() == f"listening 127.0.0.1:{port}\n".encode()
+                count, last = self.send(port) if listened else (0, b"")
+                _, told = ran.communicate(timeout=SECONDS)
+            finally:
+                ran.kill()
+        return count, last, (ran.returncode, told), listened
+
+    def send(self, port):
+        for count, (delivery, reply) in enumerate(zip(self.sent, self.replies)):
+            found = asked(port, request_of(members_of(delivery)))
+            if found != answered(reply):
+                return count, found
+        return len(self.sent), b""
+
+    def left(self, count, exactly):
+        """The list of the record after a run in which so many deliveries got replies. The tables are those of the record's
+        list, or where it is not said that they are exactly those with what was answered, also those with one less."""
+        unanswered = self.sent[count] if count < len(self.sent) else None
+        made = [*self.listed, *self.sent[:count]]
+        found = recorded.found_after(self.folder, made, unanswered, b'{"torn":' if count == 0 else b"")
+        held = databases.held(self.folder)
+        wanted = [self.tables[count + 1]]
+        if not exactly:
+            wanted += [self.tables[count + 2]] if unanswered and len(found) > len(made) else []
+            wanted += [self.tables[0]] if count == 0 else []
+        if held not in wanted:
+            raise AssertionError(f"the tables hold {held!r}, wanted one of {wanted!r}")
+        return found
+
+    def again(self, found, rng):
+        """The next run with the record, which makes one more delivery."""
+        delivery = rng.choice([*self.sent, light(9), Tick(TICK.at + 1)])
+        whole = [*found, delivery]
+        reply = run_of(BUILDING, whole)[0][-1]
+        if may_be_words(delivery, reply) and rng.random() < 0.5:
+            by_words(self.program, self.folder, delivery, reply)
+        else:
+            with serving(self.program, self.folder, 1, *recorded.KEPT) as server:
+                deliver(server, [(request_of(members_of(delivery)), reply)])
+                server.end()
+        recorded.in_step(self.folder, BUILDING, whole)
+
+
+def expected_end(trial, trouble, path, how, found):
+    """A run with trouble ended as it has to. Whether the tables then are exactly those with what was answered."""
+    count, last, ended, listened = found
+    is_whole = count == len(trial.sent)
+    if not trouble.met():
+        expect((is_whole, last, ended), (True, b"", (0, b"")))
+        return True
+    if "error" not in how:
+        expect((last, ended), (b"", (-signal.SIGKILL, b"")))
+        return False
+    if path == recorded.NAME:
+        expect((is_whole, last, ended), (False, NOT_MADE if trial.is_served and listened else b"", (3, recorded.FAILED)))
+        return listened and trial.is_served
+    if is_whole:
+        # its log could not be copied as it ended, or such a copy before failed and a later one did not
+        expect((last, ended in ((3, STORE_FAULT), (0, b""))), (b"", True))
+        return True
+    wanted = (NOT_MADE, (3, b"")) if trial.is_served and listened else (b"", (3, STORE_FAULT))
+    expect((last, ended), wanted)
+    return False
+
+
+def each_call(trial, path, how, rng):
+    """Has each call in turn that changes the file meet trouble, up to a run that makes fewer. How many there are."""
+    at, met = 0, True
+    while met:
+        at += 1
+        trouble = shims.Trouble(trial.folder, at, path=path, **how)
+        trial.begin()
+        try:
+            found = trial.run(trouble.environment)
+            met = trouble.met()
+            exactly = expected_end(trial, trouble, path, how, found)
+            trial.again(trial.left(found[0], exactly), rng)
+        except AssertionError as error:
+            raise AssertionError(f"{path}, {trouble.text}: {error}") from error
+    return at - 1
+
+
+def try_trouble(program, folder, sent, is_served, path, least):
+    if not shims.library("disk_trouble"):
+        print("  cc is not installed, so no trouble with the record was tried")
+        return
+    trial, seed = Trial(program, folder, sent, is_served), random.randrange(10**9)
+    # of the calls of the database alone, stop_each.py tries the rest
+    for how in (STOPS[1], *FAULTS[1:3]) if path == databases.NAME else (*STOPS, *FAULTS):
+        try:
+            calls = each_call(trial, path, how, random.Random(seed))
+        except AssertionError as error:
+            raise AssertionError(f"seed {seed}: {error}") from error
+        if calls < least:
+            raise AssertionError(f"only {calls} calls changed {path}, wanted {least}")
+
+
+def a_served_record_meets_trouble(program, folder):
+    """A start cuts its record and syncs it, and each delivery puts a line and syncs it."""
+    try_trouble(program, folder, SENT, True, recorded.NAME, 2 + 2 * len(SENT))
+
+
+def a_recorded_tick_meets_trouble(program, folder):
+    try_trouble(program, folder, [TICK], False, recorded.NAME, 4)
+
+
+def a_recorded_import_meets_trouble(program, folder):
+    try_trouble(program, folder, [IMPORT], False, recorded.NAME, 4)
+
+
+def the_database_of_a_served_record_meets_trouble(program, folder):
+    try_trouble(program, folder, (light(5), TICK), True, databases.NAME, 6)
+
+
+def the_database_of_a_recorded_tick_meets_trouble(program, folder):
+    try_trouble(program, folder, [TICK], False, databases.NAME, 4)
+
+
+TESTS = (
+    what_delivers_nothing_leaves_no_line,
+    what_a_panel_sends_that_the_building_lacks_is_recorded,
+    ticks_of_the_clock_are_recorded,
+    without_its_words_no_record_is_kept,
+    the_record_of_the_document_is_what_a_reader_gets,
+    a_record_is_begun_anew_as_the_document_tells,
+    a_record_that_another_desk_keeps_is_not_taken,
+    a_record_that_can_not_be_opened_ends_the_run,
+    a_served_record_meets_trouble,
+    a_recorded_tick_meets_trouble,
+    a_recorded_import_meets_trouble,
+    the_database_of_a_served_record_meets_trouble,
+    the_database_of_a_recorded_tick_meets_trouble,
+    random_lists_are_recorded_as_they_came,
+)
+
+
+def tried(program, test):
+    """What is wrong, or nothing."""
+    with tempfile.TemporaryDirectory(prefix="desk-record-", dir=IN_MEMORY) as room:
+        (pathlib.Path(room) / "building.toml").write_text(tables.WORKED)
+        return fault_of(lambda: test(program, pathlib.Path(room)))
+
+
+def main(program):
+    return tell_each((test, tried(program, test)) for test in TESTS)
+
+
+if __name__ == "__main__":
+    sys.exit(main(str(pathlib.Path(sys.argv[1]).resolve())))
