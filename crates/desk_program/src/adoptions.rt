@@ -27,6 +27,7 @@ pub struct Asked<'a> {
 /// call that names the types of several stores and closures is dear to prove.
 trait Databases {
     type Earlier: Store + Drop;
+
     type Made: Store + Drop;
 
     /// The store in the database that is read, if there is one.
@@ -92,6 +93,7 @@ struct Paired<P> {
 
 impl<P: Pair> Databases for Paired<P> {
     type Earlier = P::Held;
+
     type Made = P::Held;
 
     fn find(&self) -> Result<Option<P::Held>, OpenFault> {
@@ -146,6 +148,7 @@ struct InMemory<'a> {
 
 impl Databases for InMemory<'_> {
     type Earlier = DeskStore;
+
     type Made = MemStore;
 
     fn find(&self) -> Result<Option<DeskStore>, OpenFault> {
@@ -283,14 +286,7 @@ fn run_in<D: Databases>(rt: &HostRuntime, asked: Asked<'_>, databases: &D) -> io
         path: asked.file,
         reader: fs::open(rt, asked.file),
     };
-    Ok(run_over(
-        rt,
-        building,
-        asked,
-        databases,
-        &mut out,
-        &mut rt.stderr(),
-    ))
+    Ok(run_over(rt, building, asked, databases, &mut out, &mut rt.stderr()))
 }
 
 fn run_over<'a, B: Read + Drop, D: Databases, W: Write, F: Write>(

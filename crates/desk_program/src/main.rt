@@ -251,9 +251,7 @@ fn run(rt: &HostRuntime, words: &[String]) -> io::Result<Status> {
                 at,
                 record,
             },
-        ) => {
-            runs::run(rt, file, database, record, &Asked::Tick { at })
-        }
+        ) => { runs::run(rt, file, database, record, &Asked::Tick { at }) }
         Ok(
             Line::Report {
                 file,

@@ -62,9 +62,7 @@ where
         path: record,
         opener: || open_record(rt, record.unwrap_or("")),
     };
-    run_over(
-        rt, file, input_of, opener, recording, asked, out, fault,
-    )
+    run_over(rt, file, input_of, opener, recording, asked, out, fault)
 }
 
 /// Runs what is asked over the files, the store and the record that these calls open. It is generic over them, since a call
