@@ -86,6 +86,9 @@ def may_be_words(delivery, reply):
 def random_list_is_recorded(program, folder, rng, number):
     building = compare.some_building(rng)
     deliveries = deliveries_at(number + 1)(rng, building)
+    if not deliveries:
+        # no run is made, so there is no database
+        return
     replies = run_of(building, deliveries)[0]
     (folder / "building.toml").write_text(compare.toml_of(building))
     for part in cut(rng, list(zip(deliveries, replies))):
