@@ -99,7 +99,7 @@ module _ {X : Type 0} where
       let both = and_parts (q y) (list_all q (xs ++ ys)) all in
       and_from (q y) (list_all q (xs ++ x ∷ ys)) both.0 (all-put q xs x ys both.1 is)
 
-  none-any : (p : X → Bool) (xs : List X) → not (list_any p xs) ≡ list_all (λ x. not (p x)) xs
+  pub none-any : (p : X → Bool) (xs : List X) → not (list_any p xs) ≡ list_all (λ x. not (p x)) xs
   none-any p [] = refl
   none-any p (x ∷ xs) =
       elim (cases_Bool (p x)) [

@@ -13,6 +13,7 @@ use Rattle.store.specs.declared.change.RowsBelow.{RowsBelow}
 use Rattle.store.specs.declared.change.ShownValue.{ShownValue}
 use Rattle.store.specs.Change.{IsKeptRow, IsNext, IsPlace}
 use Rattle.store.specs.Tables.{Tables}
+use Rattle.sql_rows.specs.Broken.{Keeps}
 use Rattle.sql_rows.specs.Cells.{cell_of, optional_in}
 use Rattle.sql_rows.specs.Rows.{of_command, of_entry, of_lower_command, of_panel, of_place, of_schedule, state_in}
 use Rattle.sql_rows.specs.Stored.{HasPut, Kept, is_sound_in, tables_in}
@@ -54,9 +55,9 @@ none_lost slot gone cells count a b none set =
     record { others = set.others; rows = rows.1 ∙ rows.0 }
 
 -- the tables of the rows that are
-makes_from : (f : Tables → Tables) (a b c : Kept) → c ≡ b → (tables_in b ≡ f (tables_in a)) × (is_sound_in a ≡ true → is_sound_in b ≡ true)
+makes_from : (f : Tables → Tables) (a b c : Kept) → c ≡ b → (tables_in b ≡ f (tables_in a)) × (is_sound_in a ≡ true → is_sound_in b ≡ true) × Keeps a b
     → Makes f a c
-makes_from f a b c is both = subst (Makes f a) (sym is) (record { tables = both.0; is_sound = both.1 })
+makes_from f a b c is both = subst (Makes f a) (sym is) (record { tables = both.0; is_sound = both.1; stands = both.2 })
 
 -- the items that an UPDATE put, or else an INSERT
 module _ (item : NextNumber) (named : IsName item.panel) (in' : IsNext item) where
@@ -172,7 +173,7 @@ module _ (a b : Kept) where
       let other : RowsBelow = record { panel = item.panel; number = number } in
       let both = drop_commands other a b.command lost.rows in
       makes_from (rows_dropped item) a (record a { command = b.command }) b lost.others
-      (both.0 ∙ (λ i. record (tables_in a) { row = same a i }), both.1)
+      (both.0 ∙ (λ i. record (tables_in a) { row = same a i }), both.1, both.2)
 
   pub last_set : (moment : ℤ) → SetsDesk (λ row. Int moment) a b → Makes (last_put (Some moment)) a b
   last_set moment sets =

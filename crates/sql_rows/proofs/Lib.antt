@@ -10,10 +10,12 @@ pub mod FoldLemmas
 pub mod ImportedLemmas
 pub mod ImportedTexts
 pub mod ItemLemmas
+pub mod KeepsLemmas
 pub mod KeyLemmas
 pub mod LeastLemmas
 pub mod MadeLemmas
 pub mod NamedLemmas
+pub mod NamelessLemmas
 pub mod PanelLemmas
 pub mod PanelTexts
 pub mod PlaceLemmas

@@ -7,6 +7,7 @@ use Rattle.sqlite.proofs.InsideLemmas.{keeps_then}
 use Rattle.sqlite.proofs.StateLemmas.{survives_then}
 use Rattle.store.specs.Change.{with_each}
 use Rattle.store.specs.Tables.{Tables}
+use Rattle.sql_rows.specs.Broken.{Keeps}
 use Rattle.sql_rows.specs.Stored.{Kept, is_sound_in, tables_in}
 use Rattle.sql_rows.specs.Ours.{Changes, IsInside, Makes, kept_in}
 use Rattle.sql_rows.specs.Steps.{Steps, Turns}
@@ -83,6 +84,7 @@ turns_then f g h a b c x told same one two =
       makes = record {
         tables = second.makes.tables ∙ ap g first.makes.tables ∙ same (tables_in (kept_in a.now.trees));
         is_sound = λ is. second.makes.is_sound (first.makes.is_sound is);
+        stands = λ asked stood. second.makes.stands asked (first.makes.stands asked stood);
       };
     })
     one two
@@ -94,6 +96,7 @@ pub record Nears (rest whole : Tables → Tables) (old new : State) : Type 0 whe
   pub inside : IsInside new
   pub tables : rest (tables_in (kept_in new.now.trees)) ≡ whole (tables_in (kept_in old.now.trees))
   pub is_sound : is_sound_in (kept_in old.now.trees) ≡ true → is_sound_in (kept_in new.now.trees) ≡ true
+  pub stands : Keeps (kept_in old.now.trees) (kept_in new.now.trees)
 
 module _ {Item A : Type 0} (put : Item → Tables → Tables) (items : List Item) where
   pub nears_next : (i : ℕ) (item : Item) (a b c : State) (x y : A) → i < length items → item ≡ get_or items i item
@@ -109,6 +112,7 @@ module _ {Item A : Type 0} (put : Item → Tables → Tables) (items : List Item
         inside = second.inside;
         tables = rw add-one (ap (with_each put (drop (suc i) items)) second.makes.tables ∙ so_far);
         is_sound = λ sound. second.makes.is_sound (first.is_sound sound);
+        stands = λ asked stood. second.makes.stands asked (first.stands asked stood);
       })
       one two
 
@@ -118,5 +122,5 @@ module _ {Item A : Type 0} (put : Item → Tables → Tables) (items : List Item
   nears_last i a b x y none one =
       alone (Nears (with_each put (drop i items)) (with_each put items)) (Turns (with_each put items)) a b x y
       (λ all. let whole =
-      rw none at all.tables in record { inside = all.inside; makes = record { tables = whole; is_sound = all.is_sound } })
+      rw none at all.tables in record { inside = all.inside; makes = record { tables = whole; is_sound = all.is_sound; stands = all.stands } })
       one

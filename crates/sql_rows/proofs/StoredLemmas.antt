@@ -17,6 +17,7 @@ use Rattle.store.specs.declared.change.ShownValue.{ShownValue}
 use Rattle.store.specs.Change.{with_next, with_row, without_rows, with_place, with_shown, with_imported}
 use Rattle.store.specs.Standing.{sound}
 use Rattle.store.specs.Tables.{Text, no_tables}
+use Rattle.sql_rows.specs.Broken.{Keeps}
 use Rattle.sql_rows.specs.Cells.{optional_in}
 use Rattle.sql_rows.specs.Rows.{next_said, command_said, place_said, shown_said, imported_said, last_said}
 use Rattle.sql_rows.specs.Rows.{of_panel, of_command, of_lower_command, of_place, of_schedule, of_entry}
@@ -25,7 +26,8 @@ use Rattle.sql_rows.specs.Stored.{Kept, HasPut, HasLost, can_stand, content_in, 
 pub use Rattle.sql_rows.proofs.ReadCellLemmas.{reading_spelled}
 use Rattle.sql_rows.proofs.ReadCellLemmas.{same-text, text-same, panel-agrees, command-agrees, lower-agrees, place-agrees, place-parts, schedule-agrees, entry-agrees}
 use Rattle.sql_rows.proofs.FoldLemmas.{with_each-unseen}
-use Rattle.sql_rows.proofs.StoredRowLemmas.{bad-row, here-row, item-goes, lost, no-row, one-row, put-row, two-rows}
+use Rattle.sql_rows.proofs.KeepsLemmas.{all_shown_keep, command_keeps, commands_keep, desk_keeps, imported_keeps, next_keeps, place_keeps, places_keep, shown_keeps}
+use Rattle.sql_rows.proofs.StoredRowLemmas.{bad-row, here-row, item-goes, lost, no-row, one-row, put-row, stand-kept, two-rows}
 use Rattle.sql_rows.proofs.TableLemmas.{next-either, next-absorb, next-commute, next-at, shown-either, shown-absorb, shown-commute, shown-none, shown-at}
 use Rattle.sql_rows.proofs.TableLemmas.{row-either, row-absorb, row-commute, row-at, is_lower, lower-absorb, lower-commute, lower-none}
 use Rattle.sql_rows.proofs.TableLemmas.{place-either, place-absorb, place-commute, place-none, place-at, place-other}
@@ -60,6 +62,7 @@ pub put_next : (item : NextNumber) (row : Row) (kept : Kept) (now : List Row) �
     → HasPut row (of_panel item.panel) kept.panel now
     → (tables_in (record kept { panel = now }) ≡ record (tables_in kept) { next = with_next item (tables_in kept).next })
     × (is_sound_in kept ≡ true → is_sound_in (record kept { panel = now }) ≡ true)
+    × Keeps kept (record kept { panel = now })
 put_next item row kept now says has =
     let both =
     put-row next_said same_panel with_next (λ panel. 1) next-either item (next-absorb item) (next-commute item) (of_panel item.panel)
@@ -74,12 +77,21 @@ put_next item row kept now says has =
             shown = are.shown;
             imported = are.imported;
           }),
+      next_keeps kept now row item says has
+          (λ a b lost stood. ap (can_stand next_said same_panel) lost
+          ∙ stand-kept next_said same_panel with_next (λ panel. 1)
+          (of_panel item.panel) (same_panel item)
+          (panel-agrees item.panel) a stood)
+          (λ a b has. (put-row next_said same_panel with_next (λ panel. 1) next-either item
+          (next-absorb item) (next-commute item)
+          (of_panel item.panel) (panel-agrees item.panel) row says a b has).1),
     )
 
 pub put_command : (item : KeptRow) (row : Row) (kept : Kept) (now : List Row) → command_said row ≡ Some item
     → HasPut row (of_command item.panel item.number) kept.command now
     → (tables_in (record kept { command = now }) ≡ record (tables_in kept) { row = with_row item (tables_in kept).row })
     × (is_sound_in kept ≡ true → is_sound_in (record kept { command = now }) ≡ true)
+    × Keeps kept (record kept { command = now })
 put_command item row kept now says has =
     let both = put-row command_said same_command with_row (λ panel number. None) row-either item (row-absorb item) (row-commute item)
     (of_command item.panel item.number) (command-agrees item.panel item.number) row says kept.command now has in (
@@ -93,11 +105,20 @@ put_command item row kept now says has =
             shown = are.shown;
             imported = are.imported;
           }),
+      command_keeps kept now row item (of_command item.panel item.number) says has
+          (λ a b lost stood. ap (can_stand command_said same_command) lost
+          ∙ stand-kept command_said same_command with_row (λ panel number. None)
+          (of_command item.panel item.number) (same_command item)
+          (command-agrees item.panel item.number) a stood)
+          (λ a b has. (put-row command_said same_command with_row (λ panel number. None) row-either item
+          (row-absorb item) (row-commute item)
+          (of_command item.panel item.number) (command-agrees item.panel item.number) row says a b has).1),
     )
 
 pub drop_commands : (item : RowsBelow) (kept : Kept) (now : List Row) → HasLost (of_lower_command item.panel item.number) kept.command now
     → (tables_in (record kept { command = now }) ≡ record (tables_in kept) { row = without_rows item (tables_in kept).row })
     × (is_sound_in kept ≡ true → is_sound_in (record kept { command = now }) ≡ true)
+    × Keeps kept (record kept { command = now })
 drop_commands item kept now left =
     let both = lost command_said same_command with_row (λ panel number. None) (of_lower_command item.panel item.number) (is_lower item)
     (lower-agrees item.panel item.number) (without_rows item) (lower-absorb item) (lower-commute item) (lower-none item)
@@ -112,12 +133,18 @@ drop_commands item kept now left =
             shown = are.shown;
             imported = are.imported;
           }),
+      commands_keep kept now (of_lower_command item.panel item.number) left
+          (λ a b lost stood. ap (can_stand command_said same_command) lost
+          ∙ stand-kept command_said same_command with_row (λ panel number. None)
+          (of_lower_command item.panel item.number) (is_lower item)
+          (lower-agrees item.panel item.number) a stood),
     )
 
 pub put_place : (item : PlaceValue) (row : Row) (kept : Kept) (now : List Row) → place_said row ≡ Some item
     → HasPut row (of_place item.point item.priority) kept.place now
     → (tables_in (record kept { place = now }) ≡ record (tables_in kept) { places = with_place item (tables_in kept).places })
     × (is_sound_in kept ≡ true → is_sound_in (record kept { place = now }) ≡ true)
+    × Keeps kept (record kept { place = now })
 put_place item row kept now says has =
     let both = put-row place_said same_place with_place (λ point. empty) place-either item (place-absorb item) (place-commute item)
     (of_place item.point item.priority) (place-agrees item.point item.priority) row says kept.place now has in (
@@ -131,12 +158,21 @@ put_place item row kept now says has =
             shown = are.shown;
             imported = are.imported;
           }),
+      place_keeps kept now row item (of_place item.point item.priority) says has
+          (λ a b lost stood. ap (can_stand place_said same_place) lost
+          ∙ stand-kept place_said same_place with_place (λ point. empty)
+          (of_place item.point item.priority) (same_place item)
+          (place-agrees item.point item.priority) a stood)
+          (λ a b has. (put-row place_said same_place with_place (λ point. empty) place-either item
+          (place-absorb item) (place-commute item)
+          (of_place item.point item.priority) (place-agrees item.point item.priority) row says a b has).1),
     )
 
 pub clear_place : (item : PlaceValue) (kept : Kept) (now : List Row) → item.value ≡ None
     → HasLost (of_place item.point item.priority) kept.place now
     → (tables_in (record kept { place = now }) ≡ record (tables_in kept) { places = with_place item (tables_in kept).places })
     × (is_sound_in kept ≡ true → is_sound_in (record kept { place = now }) ≡ true)
+    × Keeps kept (record kept { place = now })
 clear_place item kept now quiet left =
     let both = lost place_said same_place with_place (λ point. empty) (of_place item.point item.priority) (same_place item)
     (place-agrees item.point item.priority) (with_place item) (place-absorb item) (place-commute item) (place-none item quiet)
@@ -151,12 +187,18 @@ clear_place item kept now quiet left =
             shown = are.shown;
             imported = are.imported;
           }),
+      places_keep kept now (of_place item.point item.priority) left
+          (λ a b lost stood. ap (can_stand place_said same_place) lost
+          ∙ stand-kept place_said same_place with_place (λ point. empty)
+          (of_place item.point item.priority) (same_place item)
+          (place-agrees item.point item.priority) a stood),
     )
 
 pub put_shown : (item : ShownValue) (row : Row) (kept : Kept) (now : List Row) → shown_said row ≡ Some item
     → HasPut row (of_schedule item.schedule) kept.shown now
     → (tables_in (record kept { shown = now }) ≡ record (tables_in kept) { shown = with_shown item (tables_in kept).shown })
     × (is_sound_in kept ≡ true → is_sound_in (record kept { shown = now }) ≡ true)
+    × Keeps kept (record kept { shown = now })
 put_shown item row kept now says has =
     let both = put-row shown_said same_schedule with_shown (λ schedule. None) shown-either item (shown-absorb item) (shown-commute item)
     (of_schedule item.schedule) (schedule-agrees item.schedule) row says kept.shown now has in (
@@ -170,12 +212,21 @@ put_shown item row kept now says has =
             shown = both.1 are.shown;
             imported = are.imported;
           }),
+      shown_keeps kept now row item (of_schedule item.schedule) says has
+          (λ a b lost stood. ap (can_stand shown_said same_schedule) lost
+          ∙ stand-kept shown_said same_schedule with_shown (λ schedule. None)
+          (of_schedule item.schedule) (same_schedule item)
+          (schedule-agrees item.schedule) a stood)
+          (λ a b has. (put-row shown_said same_schedule with_shown (λ schedule. None) shown-either item
+          (shown-absorb item) (shown-commute item)
+          (of_schedule item.schedule) (schedule-agrees item.schedule) row says a b has).1),
     )
 
 pub clear_shown : (item : ShownValue) (kept : Kept) (now : List Row) → item.shown ≡ None
     → HasLost (of_schedule item.schedule) kept.shown now
     → (tables_in (record kept { shown = now }) ≡ record (tables_in kept) { shown = with_shown item (tables_in kept).shown })
     × (is_sound_in kept ≡ true → is_sound_in (record kept { shown = now }) ≡ true)
+    × Keeps kept (record kept { shown = now })
 clear_shown item kept now quiet left =
     let both = lost shown_said same_schedule with_shown (λ schedule. None) (of_schedule item.schedule) (same_schedule item)
     (schedule-agrees item.schedule) (with_shown item) (shown-absorb item) (shown-commute item) (shown-none item quiet) kept.shown
@@ -190,12 +241,18 @@ clear_shown item kept now quiet left =
             shown = both.1 are.shown;
             imported = are.imported;
           }),
+      all_shown_keep kept now (of_schedule item.schedule) left
+          (λ a b lost stood. ap (can_stand shown_said same_schedule) lost
+          ∙ stand-kept shown_said same_schedule with_shown (λ schedule. None)
+          (of_schedule item.schedule) (same_schedule item)
+          (schedule-agrees item.schedule) a stood),
     )
 
 pub put_imported : (item : ImportedEntry) (row : Row) (kept : Kept) (now : List Row) → imported_said row ≡ Some item
     → HasPut row (of_entry item.calendar (spelling item.entry)) kept.imported now
     → (tables_in (record kept { imported = now }) ≡ record (tables_in kept) { imported = with_imported item (tables_in kept).imported })
     × (is_sound_in kept ≡ true → is_sound_in (record kept { imported = now }) ≡ true)
+    × Keeps kept (record kept { imported = now })
 put_imported item row kept now says has =
     let both =
     put-row imported_said same_entry with_imported (λ calendar text. false) entry-either item (entry-absorb item) (entry-commute item)
@@ -210,11 +267,13 @@ put_imported item row kept now says has =
             shown = are.shown;
             imported = both.1 are.imported;
           }),
+      imported_keeps kept now row item (of_entry item.calendar (spelling item.entry)) says has,
     )
 
 pub set_last : (moment : ℤ) (old new : Row) (kept : Kept) → kept.desk ≡ old ∷ [] → optional_in (column new 3) ≡ Some (Some moment)
     → (tables_in (record kept { desk = new ∷ [] }) ≡ record (tables_in kept) { last_tick = Some moment })
     × (is_sound_in kept ≡ true → is_sound_in (record kept { desk = new ∷ [] }) ≡ true)
+    × Keeps kept (record kept { desk = new ∷ [] })
 set_last moment old new kept one says = (
   λ i. record (tables_in kept) { last_tick = unwrap_or (says i) None },
   λ is. let are = sound-parts kept is in sound-from (record kept { desk = new ∷ [] })
@@ -226,11 +285,13 @@ set_last moment old new kept one says = (
         shown = are.shown;
         imported = are.imported;
       }),
+  desk_keeps kept (new ∷ []) (λ _. ap is_some says),
 )
 
 pub set_version : (old new : Row) (kept : Kept) → kept.desk ≡ old ∷ [] → column new 3 ≡ column old 3
     → (tables_in (record kept { desk = new ∷ [] }) ≡ tables_in kept)
     × (is_sound_in kept ≡ true → is_sound_in (record kept { desk = new ∷ [] }) ≡ true)
+    × Keeps kept (record kept { desk = new ∷ [] })
 set_version old new kept one same =
     let last : last_in (new ∷ []) ≡ last_in kept.desk = ap (λ v. unwrap_or (optional_in v) None) same ∙ sym (ap last_in one) in (
       λ i. record (tables_in kept) { last_tick = last i },
@@ -243,6 +304,7 @@ set_version old new kept one same =
             shown = are.shown;
             imported = are.imported;
           }),
+      desk_keeps kept (new ∷ []) (λ stood. ap (λ v. is_some (optional_in v)) same ∙ sym (ap is_desk one) ∙ stood),
     )
 
 -- ---- reads of `panel`

@@ -64,7 +64,7 @@ module _ {Item Table : Type 0} (said : Row → Option Item) (same : Item → Ite
   left-agrees : Agrees said (λ r. not (of_key r)) (λ y. not (has_key y))
   left-agrees row item says = ap not (agrees row item says)
 
-  stand-kept : (rows : List Row) → can_stand said same rows ≡ true → can_stand said same (filter (λ r. not (of_key r)) rows) ≡ true
+  pub stand-kept : (rows : List Row) → can_stand said same rows ≡ true → can_stand said same (filter (λ r. not (of_key r)) rows) ≡ true
   stand-kept rows stand =
       let both = and_parts (list_all (λ r. is_some (said r)) rows) (are_apart same (filter_map said rows)) stand in
       let apart : are_apart same (filter_map said (filter (λ r. not (of_key r)) rows)) ≡ true =

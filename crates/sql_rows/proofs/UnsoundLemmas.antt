@@ -1,42 +1,18 @@
 -- Rows of which one that is asked for cannot stand are not sound.
-use Rattle.std.proofs.Common.{◌≡◌, Bool, true, false, not, nat_le, List, ℕ, pos, negsuc, Option, Some, None, is_some, refl, sym, ap, arith, true≢false, option_and_then}
+use Rattle.std.proofs.Common.{◌≡◌, Bool, true, false, not, List, Option, Some, None, is_some, refl, ap}
 use Rattle.std.specs.List.{list_all}
-use Rattle.std.proofs.lemmas.Bool.{and_parts, both_ways, false_from_ne_true, or_from, ltb-true}
-use Rattle.sqlite_value.specs.declared.value.Value.{Value}
-use Rattle.sqlite_value.specs.declared.value.Value.TheVariants.{Blob, Int, Null, Real, Text}
+use Rattle.std.proofs.lemmas.Bool.{and_parts, both_ways, false_from_ne_true, or_from}
 use Rattle.sqlite_value.specs.Order.{Row, column}
 use Rattle.store.specs.Asked.{Asked}
 use Rattle.store.specs.Asked.Asked.{AnyName, ArrayOf, EntriesOf, LastTick, NextOf, RowOf, ShownBy}
-use Rattle.store.specs.declared.change.KeptRow.{KeptRow}
 use Rattle.sql_rows.specs.Broken.{cannot_stand_in, has_nameless, is_nameless, is_unnumbered}
-use Rattle.sql_rows.specs.Cells.{count_in, is_below, is_text, name_in}
+use Rattle.sql_rows.specs.Cells.{is_text, name_in}
 use Rattle.sql_rows.specs.Rows.{command_said, imported_said, next_said, of_command, of_panel, of_schedule, place_said, shown_said}
 use Rattle.sql_rows.specs.Rows.{same_command, same_entry, same_panel, same_place, same_schedule}
 use Rattle.sql_rows.specs.Stored.{Kept, can_stand, is_sound_in}
 use Rattle.sql_rows.proofs.BrokenLemmas.{none_unsaid, picked_said, picked_stand}
+use Rattle.sql_rows.proofs.NamelessLemmas.{not_some, unnumbered_silent}
 use Rattle.sql_rows.proofs.StoredLemmas.{AreSound, sound-parts}
-
-not_some : {X : Type 0} (o : Option X) → not (is_some o) ≡ true → o ≡ None
-not_some None is = refl
-not_some (Some x) is = absurd (true≢false (sym is))
-
--- a number below 1 is none of a command's
-pub below_counts_none : (cell : Value) → is_below 1 cell ≡ true → count_in 1 1_000_000_000_000 cell ≡ None
-below_counts_none (Int (pos n)) is =
-    let under = ltb-true n 1 is in
-    let off : nat_le 1 n ≡ false = (let zero : n ≡ 0 = omega (arith, under) in ap (nat_le 1) zero) in rw off refl
-below_counts_none (Int (negsuc n)) is = refl
-below_counts_none Null is = refl
-below_counts_none (Text t) is = refl
-below_counts_none (Real x) is = refl
-below_counts_none (Blob b) is = refl
-
-none_then : (o : Option (List ℕ)) → option_and_then {U = KeptRow} (λ name. None) o ≡ None
-none_then None = refl
-none_then (Some name) = refl
-
-unnumbered_silent : (row : Row) → is_unnumbered row ≡ true → command_said row ≡ None
-unnumbered_silent row is = rw (below_counts_none (column row 2) is) (none_then (name_in (column row 1)))
 
 all_said : {Item : Type 0} (said : Row → Option Item) (same : Item → Item → Bool) (rows : List Row) → can_stand said same rows ≡ true
     → list_all (λ row. is_some (said row)) rows ≡ true

@@ -1,5 +1,5 @@
 -- Which rows of the six tables cannot stand, by what a read asks for.
-use Rattle.std.specs.Prelude.{Bool, not, ◌||◌, List, Option, is_some, filter}
+use Rattle.std.specs.Prelude.{◌≡◌, Bool, false, not, ◌||◌, List, Option, is_some, filter}
 use Rattle.std.specs.List.{list_all, list_any}
 use Rattle.sqlite_value.specs.Order.{Row, column}
 use Rattle.store.specs.Asked.{Asked}
@@ -40,3 +40,7 @@ cannot_stand_in kept (ShownBy schedule) = are_broken shown_said same_schedule (o
 cannot_stand_in kept (EntriesOf calendar) = are_unsaid imported_said (λ row. is_text calendar (column row 1)) kept.imported
 cannot_stand_in kept LastTick = not (is_desk kept.desk)
 cannot_stand_in kept AnyName = has_nameless kept
+
+-- what could stand can stand still
+abbrev pub Keeps : Kept → Kept → Type 0
+Keeps old new = (asked : Asked) → cannot_stand_in old asked ≡ false → cannot_stand_in new asked ≡ false

@@ -11,6 +11,7 @@ use Rattle.sqlite.specs.State.{Shows, State}
 use Rattle.sql_create.specs.Schema.{command_tree, desk_schema, desk_tree, imported_tree, panel_tree, place_tree, shown_tree}
 use Rattle.store.specs.Standing.{Content}
 use Rattle.store.specs.Tables.{Tables}
+use Rattle.sql_rows.specs.Broken.{Keeps}
 use Rattle.sql_rows.specs.Stored.{HasPut, Kept, content_in, is_sound_in, tables_in}
 
 -- the rows of the six tables
@@ -65,10 +66,11 @@ pub record Changes (Change : Kept → Kept → Type 0) (old new : State) : Type 
   pub ours : IsOurs new.now
   pub change : Change (kept_in old.now.trees) (kept_in new.now.trees)
 
--- the tables are another function of themselves, and stay sound
+-- the tables are another function of themselves, and stay sound; what could stand can stand still
 pub record Makes (f : Tables → Tables) (old new : Kept) : Type 0 where
   pub tables : tables_in new ≡ f (tables_in old)
   pub is_sound : is_sound_in old ≡ true → is_sound_in new ≡ true
+  pub stands : Keeps old new
 
 -- there is one more row
 pub record HasOneMore (row : Row) (old now : List Row) : Type 0 where

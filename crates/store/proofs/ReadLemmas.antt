@@ -70,6 +70,8 @@ Commits-then change fault first second third before after = record {
       subst (λ old. (content ≡ old) ⊎ Makes change old content) (before.kept (after.goes.honest honest) not_failed)
       (after.left honest (stays_open first second before.goes) content left);
   never_bad = after.never_bad;
+  stands = λ honest going asked could.
+      after.stands honest going asked (ap (λ rows. rows asked) (before.rows (after.goes.honest honest) not_failed) ∙ could);
 }
 
 -- what is read before a read is what stands after it

@@ -82,6 +82,8 @@ pub record Commits (change : Change) (fault : Option StoreFault) (old new : Stan
   pub left : new.is_honest → old.is_shut ≡ false → (content : Content) → new.may_leave content
       → (content ≡ old.content) ⊎ Makes change old.content content
   pub never_bad : fault ≡ Some BadRow → ⊥
+  -- whatever could stand can stand still
+  pub stands : new.is_honest → new.is_shut ≡ false → (asked : Asked) → old.cannot_stand asked ≡ false → new.cannot_stand asked ≡ false
 
 -- A call that makes one change or none, whatever the store held before. Where it is refused and the store is not shut,
 -- nothing has changed; after any exit a stop leaves what was held, or that with one change made whole.

@@ -6,6 +6,7 @@ use Rattle.sqlite.specs.Held.{Held, state}
 use Rattle.sqlite.specs.State.{HasCleanDisk, IsUnchanged, State, Survives}
 use Rattle.sqlite.proofs.StateLemmas.{survives_then}
 use Rattle.sql_reading.proofs.ReadLemmas.{clean_before}
+use Rattle.sql_rows.specs.Broken.{cannot_stand_in}
 use Rattle.sql_rows.specs.Ours.{IsOurs, content_of, kept_in}
 use Rattle.sql_rows.specs.Ours as ours
 use Rattle.sql_writing.specs.Committed.{IsCommitted}
@@ -37,6 +38,7 @@ commits_shut change s failures is_shut shut = record {
   unchanged = λ _ unshut. absurd (true≢false (sym shut ∙ unshut));
   left = λ _ unshut. absurd (true≢false (sym shut ∙ unshut));
   never_bad = λ is. absurd (let e = is in cc);
+  stands = λ _ _ asked could. could;
 }
 
 -- Before a commit, after it, and once its refusal was told.
@@ -91,6 +93,10 @@ module _ (change : Change) (old new : State) (failures : ℕ) (was_shut : Bool) 
           unchanged = λ _ _ it is. absurd (let e = is in cc);
           left = λ clean _. left_before clean;
           never_bad = λ is. absurd (let e = is in cc);
+          stands = λ clean _ asked could.
+              subst (λ d. cannot_stand_in (kept_in d.trees) asked ≡ false) (committed clean).same
+              ((committed clean).makes.stands asked
+              (subst (λ d. cannot_stand_in (kept_in d.trees) asked ≡ false) (sym (stood clean).same) could));
         },
       )
 
@@ -122,6 +128,8 @@ module _ (change : Change) (old new : State) (failures : ℕ) (was_shut : Bool) 
           unchanged = λ clean _ it is. ap (λ d. content_of d.trees) (undone clean).1;
           left = λ clean _. left_before clean;
           never_bad = λ is. absurd (let e = is in cc);
+          stands = λ clean _ asked could.
+              subst (λ d. cannot_stand_in (kept_in d.trees) asked ≡ false) (sym (undone clean).1) could;
         },
       )
 
@@ -144,6 +152,7 @@ module _ (change : Change) (old new : State) (failures : ℕ) (was_shut : Bool) 
       unchanged = λ _ unshut. absurd (true≢false (sym shut ∙ unshut));
       left = λ clean _. left_before clean;
       never_bad = λ is. absurd (let e = is in cc);
+      stands = λ _ unshut. absurd (true≢false (sym shut ∙ unshut));
     },
   )
 

@@ -32,6 +32,7 @@ raised {A} {B} {C} change a b c x y z one two =
         makes = record {
           tables = second.turns.makes.tables ∙ first.makes.tables;
           is_sound = λ is. second.turns.makes.is_sound (first.makes.is_sound is);
+          stands = λ asked stood. second.turns.makes.stands asked (first.makes.stands asked stood);
         };
       };
       version = second.version;
@@ -87,7 +88,7 @@ raised_by change a b db first now drops changed =
     subst (λ d. DropsEarly (tables_in (kept_in d.trees)) change) first.stands.same drops in
     record {
       was = first.version;
-      makes = record { tables = here.makes.tables ∙ early.makes; is_sound = here.makes.is_sound };
+      makes = record { tables = here.makes.tables ∙ early.makes; is_sound = here.makes.is_sound; stands = here.makes.stands };
       version = here.version;
     }
 

@@ -109,7 +109,7 @@ sets_version old new (Ok count) inside h =
     } in
     let same = set_version was row (kept_in db) desk.is refl in
     let makes : Makes (λ t. t) (kept_in db) (kept_in new.now.trees) =
-    subst (Makes (λ t. t) (kept_in db)) (sym others) (record { tables = same.0; is_sound = same.1 }) in
+    subst (Makes (λ t. t) (kept_in db)) (sym others) (record { tables = same.0; is_sound = same.1; stands = same.2 }) in
     record {
       turns = record {
         inside =
