@@ -1,0 +1,13 @@
+use Rattle.std.proofs.Common.{◌≡◌, ℕ, Bool, Option, ℤ, take}
+use Rattle.std.specs.HashMap.{get}
+use Rattle.std.specs.Str.{bytes_eq}
+use Rattle.store.specs.Change.{with_each, with_imported}
+use Rattle.store.specs.Tables.{Text}
+use Rattle.store_remembered.specs.Known.{Knows}
+use Rattle.store_remembered.specs.Recalled.{AreImported}
+use Rattle.store_remembered.proofs.memory.forget_imported.Given as goal
+
+abbrev pub invariant-loop-item : goal.invariant-loop-item
+invariant-loop-item l =
+    (table : Text → Text → Bool) (stuck : Text → Bool) → Knows (get bytes_eq l.fn.known) (AreImported table) stuck
+    → Knows (get bytes_eq l.known) (AreImported (with_each with_imported (take l.item-index l.items) table)) stuck
