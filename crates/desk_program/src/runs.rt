@@ -2,9 +2,11 @@
 use desk_console::{Input, Status};
 use desk_database::{close_store, open_record, open_store};
 use sqlite_disk::Disk;
+use std::alloc::Global;
 use std::fs;
 use std::io::{self, BufWriter, Read, Write};
 use store::{OpenFault, Store, StoreFault};
+use store_remembered::Remembered;
 use store_runs::{Ended, Recording, Serving, finish, import, report, serve, tick};
 
 /// What is asked of the desk over a database.
@@ -36,8 +38,54 @@ pub fn run<'a>(
     };
     let opener = || open_store(rt, database);
     let fault = &mut rt.stderr();
-    let ended = run_kept(rt, file, input_of, opener, record, asked, &mut out, fault);
+    let ended = run_remembered(rt, file, input_of, opener, record, asked, &mut out, fault);
     Ok(finish(rt.alloc(), ended, close_store, fault))
+}
+
+/// A store over the one that is opened, which answers from memory what it was asked before.
+fn remembered<S: Store + Drop, O>(alloc: Global, opener: O) -> Result<Remembered<S>, OpenFault>
+where
+    O: FnOnce() -> Result<S, OpenFault>,
+    requires { O.IsAlwaysCallable opener }
+{
+    match Remembered::open(alloc, opener()?) {
+        Ok(store) => Ok(store),
+        Err((StoreFault::NoMemory, _store)) => Err(OpenFault::NoMemory),
+        Err((StoreFault::BadRow, _store)) => Err(OpenFault::BadRow),
+        Err((StoreFault::Failed | StoreFault::Shut, _store)) => Err(OpenFault::Failed),
+    }
+}
+
+/// The same over the store that is opened, whose answers are remembered as long as the run lasts.
+fn run_remembered<'a, B: Read + Drop, S: Store + Drop, I, O, W: Write, F: Write>(
+    rt: &HostRuntime,
+    file: &'a str,
+    input_of: I,
+    opener: O,
+    record: Option<&'a str>,
+    asked: &Asked<'a>,
+    out: &mut W,
+    fault: &mut F,
+) -> Ended<S>
+where
+    I: Fn(&'a str) -> Input<'a, B>,
+    O: FnOnce() -> Result<S, OpenFault>,
+    requires reads { I.IsAlwaysCallable input_of }
+    requires opens { O.IsAlwaysCallable opener }
+{
+    let alloc = rt.alloc();
+    let opener = move || remembered(alloc, opener);
+    below_of(run_kept(rt, file, input_of, opener, record, asked, out, fault))
+}
+
+/// The same end, with the store below the one that remembers.
+fn below_of<S: Store + Drop>(ended: Ended<Remembered<S>>) -> Ended<S> {
+    let Ended { status, store } = ended;
+    let store = match store {
+        Some(store) => Some(store.into_below()),
+        None => None,
+    };
+    Ended { status, store }
 }
 
 /// The same over the files and the store that these calls open, and over the real file of the record. A call that names the
