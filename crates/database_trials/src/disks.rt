@@ -1,4 +1,5 @@
 //! Databases in two files that are kept in memory, and disks that meet trouble at a call.
+use crate::contents::push_content;
 use crate::faulty_disk::{Faulty, Trouble};
 use crate::scripts::{Script, Told, push_fault, run};
 use sqlite::{Alter, Connection, FileStore, Options, Row};
@@ -7,7 +8,8 @@ use std::alloc::{AllocError, Global};
 use std::fmt::Write;
 use std::io;
 use std::test::Fail;
-use store::OpenFault;
+use store::{OpenFault, Store, StoreFault};
+use store_remembered::Remembered;
 use store_sql::SqlStore;
 
 /// After so many pages the log is copied into the database file: few, so that it happens in the midst of a script.
@@ -166,12 +168,49 @@ fn left_of(alloc: Global, files: Files<Faulty<Memory>>) -> Result<Left, AllocErr
     })
 }
 
+// A store that remembers, without what is promised of it.
+fn opened<S: Store + Drop>(alloc: Global, tables: S) -> Result<Remembered<S>, (StoreFault, S)> {
+    Remembered::open(alloc, tables)
+}
+
 // The tables of a connection, without what is promised of them.
 fn tables_over<S: Alter + Drop>(
     alloc: Global,
     connection: Connection<S>,
 ) -> Result<SqlStore<S>, (OpenFault, Connection<S>)> {
     SqlStore::create_or_open(alloc, connection)
+}
+
+// Whether the tables hold what was told of them through a store that remembers, as far as no call of them has failed.
+fn assert_remembered<S: Store>(alloc: Global, tables: &mut S, told: &str) -> Result<(), Fail> {
+    let mut content = String::new(alloc);
+    push_content(tables, &mut content)?;
+    if tables.failures() == 0 && content.as_str() != told {
+        return Err(Fail::new("what is remembered is not what the tables hold"));
+    }
+    Ok(())
+}
+
+// Runs a script over tables whose answers are remembered, as the program does, and asks the tables themselves at its end.
+fn run_remembered<S: Store + Drop>(
+    alloc: Global,
+    tables: S,
+    script: Script<'_>,
+    told: &mut Told,
+) -> (Result<(), Fail>, S) {
+    let remembered = match opened(alloc, tables) {
+        Ok(remembered) => remembered,
+        Err((fault, tables)) => return (push_fault(fault, &mut told.printed), tables),
+    };
+    let (done, remembered) = run(alloc, remembered, script, told);
+    let mut tables = remembered.into_below();
+    match done {
+        Ok(()) if !told.after.is_empty() => {
+            let done = assert_remembered(alloc, &mut tables, told.after.as_str());
+            (done, tables)
+        }
+        _ => (done, tables),
+    }
 }
 
 // Runs a script over the tables of a connection. What the connection stood over is given back, so that nothing of a
@@ -184,7 +223,7 @@ fn run_over_tables<S: Alter + Drop>(
 ) -> (Result<(), Fail>, S) {
     match tables_over(alloc, connection) {
         Ok(tables) => {
-            let (done, tables) = run(alloc, tables, script, told);
+            let (done, tables) = run_remembered(alloc, tables, script, told);
             (done, tables.into_connection().into_store())
         }
         Err((fault, connection)) => {
