@@ -3,6 +3,7 @@ pub mod ByKeyLemmas
 pub mod DayListLemmas
 pub mod ExceptionLemmas
 pub mod SegmentLemmas
+pub mod SpanLemmas
 pub mod QuietLemmas
 pub mod LawLemmas
 pub mod FirstLemmas

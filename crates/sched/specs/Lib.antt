@@ -6,5 +6,6 @@ pub mod Named
 pub mod Schedule
 pub mod SegmentLaws
 pub mod Segments
+pub mod Spans
 pub mod TimeText
 pub mod ValueCases
