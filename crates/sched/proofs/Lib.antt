@@ -3,8 +3,11 @@ pub mod ByKeyLemmas
 pub mod DayListLemmas
 pub mod ExceptionLemmas
 pub mod SegmentLemmas
-pub mod SpanLemmas
 pub mod QuietLemmas
 pub mod LawLemmas
 pub mod FirstLemmas
 pub mod ValueLemmas
+pub mod RisingLemmas
+pub mod ByTimeLemmas
+pub mod AroundLemmas
+pub mod SpanLemmas

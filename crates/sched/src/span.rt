@@ -1,12 +1,13 @@
 //! Spans of a day over which a schedule's value stands.
-ghost use Rattle.std.specs.Prelude.{◌≡◌, ◌↔◌, ◌++◌, ◌∷◌, [], ◌≤◌, ℕ, List, IsTrue};
+ghost use Rattle.std.specs.Prelude.{◌≡◌, ◌↔◌, ◌⊎◌, ◌++◌, ◌-◌, ◌≤◌, ℕ, List, IsTrue, MatchOption};
 ghost use Rattle.std.specs.List.{flat_map};
-ghost use Rattle.sched.specs.Named.{exception_times, named_times, times_of};
+ghost use Rattle.sched.specs.DayList.{times_of};
+ghost use Rattle.sched.specs.Named.{exception_times, named_times};
 ghost use Rattle.sched.specs.Schedule.{schedule_value};
 ghost use Rattle.sched.specs.Spans.{IsInSpan, IsSpanAt};
 
 use crate::calendar::Calendar;
-use crate::day_list::TimeValue;
+use crate::day_list::DayList;
 use crate::exception::Exception;
 use crate::schedule::Schedule;
 use crate::time::Time;
@@ -32,24 +33,34 @@ impl Span {
     }
 }
 
-fn narrow_by(span: &mut Span, named: Time, time: Time)
-    ensures day { span.new.day ≡ span.old.day }
-    ensures ends { (times : List ℕ) → IsSpanAt times time span.old → IsSpanAt (times ++ named ∷ []) time span.new }
+// The later of a span's first time and a named time, if there is one.
+fn first_from(first: Time, named: Option<Time>) -> Time
+    ensures rises { first ≤ result }
+    ensures is { MatchOption named (result ≡ first) (λ t. (t ≤ result) × ((result ≡ first) ⊎ (result ≡ t))) }
 {
-    if named <= time {
-        span.first = span.first.max(named);
-    } else if named <= span.last {
-        span.last = named.hundredth_before();
+    match named {
+        Some(time) if first < time => time,
+        _ => first,
     }
 }
 
-fn narrow_by_list(span: &mut Span, list: &[TimeValue], time: Time)
+// The earlier of a span's last time and the time a hundredth before a named one, if there is one.
+fn last_before(last: Time, named: Option<Time>) -> Time
+    ensures falls { result ≤ last }
+    ensures is { MatchOption named (result ≡ last) (λ t. (result ≤ t - 1) × ((result ≡ last) ⊎ (result ≡ t - 1))) }
+{
+    match named {
+        Some(time) if time <= last => time.hundredth_before(),
+        _ => last,
+    }
+}
+
+fn narrow_by_list(span: &mut Span, list: &DayList, time: Time)
     ensures day { span.new.day ≡ span.old.day }
     ensures ends { (times : List ℕ) → IsSpanAt times time span.old → IsSpanAt (times ++ times_of list.now) time span.new }
 {
-    for time_value in list {
-        narrow_by(span, time_value.time, time);
-    }
+    span.first = first_from(span.first, list.last_time_by(time));
+    span.last = last_before(span.last, list.next_time_after(time));
 }
 
 fn narrow_by_exception(
@@ -64,7 +75,7 @@ fn narrow_by_exception(
         → IsSpanAt (times ++ exception_times calendars.now day exception.now) time span.new }
 {
     if exception.is_in_effect(calendars, day) {
-        narrow_by_list(span, exception.times.as_slice(), time);
+        narrow_by_list(span, &exception.times, time);
     }
 }
 
@@ -100,7 +111,7 @@ impl Schedule {
             first: Time::MIDNIGHT,
             last: Time::LAST,
         };
-        narrow_by_list(&mut span, self.weekday_list(day).as_slice(), time);
+        narrow_by_list(&mut span, self.weekday_list(day), time);
         narrow_by_exceptions(&mut span, self.exceptions.as_slice(), calendars, day, time);
         prove!(time.hundredths() <= 8_639_999);
         (self.value_now(calendars, day, time), span)

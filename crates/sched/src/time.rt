@@ -1,5 +1,5 @@
 //! A time of day.
-ghost use Rattle.std.specs.Prelude.{◌≡◌, ◌+◌, ◌<◌, ◌≤◌, ◌↔◌, IsSome, IfSome, ◌%◌, ◌/◌};
+ghost use Rattle.std.specs.Prelude.{◌≡◌, ◌-◌, ◌<◌, ◌↔◌, IsSome, IfSome, ◌%◌, ◌/◌};
 
 use std::fmt;
 use std::marker::Model;
@@ -47,13 +47,12 @@ impl Time {
         }
     }
 
-    /// The time a hundredth of a second before.
+    /// The time a hundredth of a second before; of midnight itself.
     pub(crate) fn hundredth_before(self) -> Time
-        requires { 1 ≤ self }
-        ensures { result + 1 ≡ self }
+        ensures { result ≡ self - 1 }
     {
         Time {
-            hundredths: self.hundredths - 1,
+            hundredths: self.hundredths.saturating_sub(1),
         }
     }
 

@@ -1,4 +1,4 @@
-//! A day that is worked out by hand.
+//! Days that are worked out by hand.
 use crate::{DayList, Exception, Period, Schedule, Time, TimeValue};
 use dates::{Day, Entry, Range};
 use listing::Listing;
@@ -22,7 +22,7 @@ fn list(rt: &impl Abort, alloc: Global, items: &[At]) -> Result<DayList, Fail> {
         let value = *value;
         time_values.push(TimeValue { time, value })?;
     }
-    Ok(DayList::from_vec(time_values))
+    Ok(DayList::from_vec(alloc, time_values)?)
 }
 
 fn exception(event_priority: u8, times: DayList) -> Result<Exception, Fail> {
@@ -46,7 +46,7 @@ fn four_exceptions(rt: &impl Abort, alloc: Global) -> Result<Schedule, Fail> {
             start: None,
             end: None,
         },
-        weekly: std::array::from_fn(|_| DayList::from_vec(Vec::new(alloc))),
+        weekly: std::array::from_fn(|_| DayList::empty(alloc)),
         exceptions: Listing::from_vec(exceptions),
         default: Some(1800),
     })
@@ -71,6 +71,50 @@ fn a_span_goes_from_one_named_time_to_the_next(rt: HostRuntime) -> Result<(), Fa
         assert_eq!(rt; now, Some(value), "at {hundredths}");
         assert_eq!(rt; span.first.hundredths(), first, "at {hundredths}");
         assert_eq!(rt; span.last.hundredths(), last, "at {hundredths}");
+    }
+    Ok(())
+}
+
+/// A list, an asked time, and the list's value then.
+const LISTS: [(&[At], u32, Option<i64>); 5] = [
+    (
+        &[(4_320_000, Some(1)), (2_160_000, Some(2))],
+        2_159_999,
+        None,
+    ),
+    (
+        &[(4_320_000, Some(1)), (2_160_000, Some(2))],
+        2_160_000,
+        Some(2),
+    ),
+    (
+        &[(4_320_000, Some(1)), (2_160_000, Some(2))],
+        4_320_000,
+        Some(1),
+    ),
+    (
+        &[(2_880_000, Some(1)), (2_880_000, Some(2))],
+        2_879_999,
+        None,
+    ),
+    (
+        &[(2_880_000, Some(1)), (2_880_000, Some(2))],
+        2_880_000,
+        Some(2),
+    ),
+];
+
+#[test]
+fn a_list_need_not_be_sorted_and_of_equal_times_the_later_counts(
+    rt: HostRuntime,
+) -> Result<(), Fail> {
+    for (items, hundredths, value) in LISTS {
+        let times = list(&rt, rt.alloc(), items)?;
+        assert_eq!(rt;
+            times.value_at(at(&rt, hundredths)),
+            value,
+            "at {hundredths}"
+        );
     }
     Ok(())
 }

@@ -2,7 +2,8 @@ use Rattle.std.proofs.Common.{◌∙◌, ◌++◌, List, [], ◌∷◌, arith, s
 use Rattle.std.specs.List.{flat_map}
 use Rattle.sched.specs.declared.day_list.TimeValue.{TimeValue}
 use Rattle.sched.specs.declared.exception.Exception.{Exception}
-use Rattle.sched.specs.Named.{exception_times, named_times, times_of}
+use Rattle.sched.specs.DayList.{times_of}
+use Rattle.sched.specs.Named.{exception_times, named_times}
 use Rattle.sched.specs.Spans.{IsSpanAt}
 use Rattle.sched.proofs.SpanLemmas.{IsSpanAt-none, value-stands}
 use Rattle.sched.proofs.schedule.Schedule.value_span.Goals as goal
@@ -17,8 +18,8 @@ spans c =
     let span = c.narrow_by_exceptions.new.span in
     let exceptions = flat_map (exception_times c.args.calendars.now c.args.day) in
     subst (λ (l : List TimeValue). IsSpanAt (0 ∷ (times_of l ++ exceptions c.args.self.now.exceptions)) time span)
-    (c.as_slice.ensures ∙ c.weekday_list.ensures)
-    (subst (λ (l : List Exception). IsSpanAt (0 ∷ (times_of c.as_slice.result.now ++ exceptions l)) time span) c.as_slice-2.ensures all)
+    c.weekday_list.ensures
+    (subst (λ (l : List Exception). IsSpanAt (0 ∷ (times_of c.weekday_list.result.now ++ exceptions l)) time span) c.as_slice.ensures all)
 
 pub returns-clause-ends : goal.returns-clause-ends
 returns-clause-ends c = spans c
