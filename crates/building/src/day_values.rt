@@ -186,18 +186,12 @@ fn seven_empty(alloc: Global) -> [DayList; 7]
     ensures { result ≡ seven_empty }
 {
     [
-        empty(alloc),
-        empty(alloc),
-        empty(alloc),
-        empty(alloc),
-        empty(alloc),
-        empty(alloc),
-        empty(alloc),
+        DayList::empty(alloc),
+        DayList::empty(alloc),
+        DayList::empty(alloc),
+        DayList::empty(alloc),
+        DayList::empty(alloc),
+        DayList::empty(alloc),
+        DayList::empty(alloc),
     ]
-}
-
-fn empty(alloc: Global) -> DayList
-    ensures { result ≡ [] }
-{
-    DayList::from_vec(Vec::new(alloc))
 }

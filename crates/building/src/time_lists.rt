@@ -66,6 +66,7 @@ impl TimeLists<'_> {
         ensures sound { IfOk result (λ list. IsTrue (is_list_within self.now.kinds.now list)) }
     {
         self.fields.at_most(MOST_TIME_VALUES, self.key, items)?;
-        Ok(DayList::from_vec(read_items(self.alloc, self, items)?))
+        let time_values = read_items(self.alloc, self, items)?;
+        Ok(DayList::from_vec(self.alloc, time_values)?)
     }
 }

@@ -1,5 +1,5 @@
 -- `==` on entries says whether they are the same.
-use Rattle.std.proofs.Common.{◌≡◌, ◌↔◌, ℕ, Bool, true, Option, Some, None, refl, ap, subst, rules}
+use Rattle.std.proofs.Common.{◌≡◌, ◌↔◌, ℕ, nat_eq, Bool, true, Option, Some, None, refl, ap, subst}
 use Rattle.std.specs.Cmp.{unsigned_Decides, first_so, second_so}
 use Rattle.std.specs.Option.{option_eq}
 use Rattle.std.specs.Ordering.{int_eq}
@@ -8,20 +8,17 @@ use Rattle.std.proofs.lemmas.Bool.Decides.{Decides-int_eq}
 use Rattle.jiff_core.specs.declared.civil.date.Date.{Date}
 use Rattle.jiff_core.specs.declared.civil.weekday.Weekday.{Weekday}
 use Rattle.jiff_core.specs.Date.{epoch_day}
-use Rattle.jiff_core.specs.contracts.civil.weekday.Weekday as weekday_type
-use denote.Enum.Bare.{same_true}
 use Rattle.dates.specs.contracts.year.YearPartialEq.TheImpl as year_eq
+use Rattle.dates.specs.Masks.{day_mask, days_left_mask, month_mask, week_mask, weekday_mask, weeks_left_mask}
 use Rattle.dates.proofs.DayLemmas.{same_date}
+use Rattle.dates.proofs.MaskLemmas.{day_mask-same, month_mask-same, week_mask-same, weekday_mask-same}
 use Rattle.dates.specs.declared.months.Months.{Months}
-use Rattle.dates.specs.declared.months.Months.TheVariants as month
-use Rattle.dates.specs.contracts.months.MonthsPartialEq.TheImpl as months_eq
+use Rattle.dates.specs.contracts.months.MonthMaskPartialEq.TheImpl as months_eq
 use Rattle.dates.specs.declared.month_days.MonthDays.{MonthDays}
-use Rattle.dates.specs.declared.month_days.MonthDays.TheVariants as month_day
-use Rattle.dates.specs.contracts.month_days.MonthDaysPartialEq.TheImpl as month_days_eq
-use Rattle.jiff_core.specs.contracts.civil.weekday.WeekdayPartialEq.TheImpl as weekday_eq
+use Rattle.dates.specs.contracts.month_days.DayMaskPartialEq.TheImpl as month_days_eq
+use Rattle.dates.specs.contracts.weekday.WeekdayMaskPartialEq.TheImpl as weekdays_eq
 use Rattle.dates.specs.declared.week.Week.{Week}
-use Rattle.dates.specs.contracts.week.Week as week_type
-use Rattle.dates.specs.contracts.week.WeekPartialEq.TheImpl as week_eq
+use Rattle.dates.specs.contracts.week.WeekMaskPartialEq.TheImpl as weeks_eq
 use Rattle.dates.specs.declared.pattern.Pattern.{Pattern}
 use Rattle.dates.specs.contracts.pattern.PatternPartialEq.TheImpl as pattern_eq
 use Rattle.dates.specs.declared.range.Range.{Range}
@@ -36,44 +33,28 @@ use Rattle.dates.specs.contracts.entry.EntryEq.TheImpl.Laws as entry_laws
 abbrev years_eq : Option ℕ → Option ℕ → Bool
 years_eq a b = option_eq year_eq.ghosts.eq a b
 
-abbrev weekdays_eq : Option Weekday → Option Weekday → Bool
-weekdays_eq a b = option_eq weekday_eq.ghosts.eq a b
-
-abbrev weeks_eq : Option Week → Option Week → Bool
-weeks_eq a b = option_eq week_eq.ghosts.eq a b
-
 same_years : (a b : Option ℕ) → years_eq a b ≡ true → a ≡ b
 same_years None None e = refl
 same_years (Some m) (Some n) e = ap Some ((unsigned_Decides m n).0 e)
 same_years _ _ e = absurd (false≢true e)
 
 same_months : (a b : Months) → months_eq.ghosts.eq a b ≡ true → a ≡ b
-same_months month.Any month.Any e = refl
-same_months month.Odd month.Odd e = refl
-same_months month.Even month.Even e = refl
-same_months (month.One m) (month.One n) e = ap month.One ((unsigned_Decides m n).0 e)
-same_months _ _ e = absurd (false≢true e)
+same_months a b e = month_mask-same a b ((unsigned_Decides (month_mask a) (month_mask b)).0 e)
 
 same_month_days : (a b : MonthDays) → month_days_eq.ghosts.eq a b ≡ true → a ≡ b
-same_month_days month_day.Any month_day.Any e = refl
-same_month_days month_day.Last month_day.Last e = refl
-same_month_days month_day.Odd month_day.Odd e = refl
-same_month_days month_day.Even month_day.Even e = refl
-same_month_days (month_day.One m) (month_day.One n) e = ap month_day.One ((unsigned_Decides m n).0 e)
-same_month_days _ _ e = absurd (false≢true e)
+same_month_days a b e =
+    day_mask-same a b
+    ((unsigned_Decides (day_mask a) (day_mask b)).0 (first_so (nat_eq (day_mask a) (day_mask b)) _ e))
+    ((unsigned_Decides (days_left_mask a) (days_left_mask b)).0 (second_so (nat_eq (day_mask a) (day_mask b)) _ e))
 
-same_weekdays : (a b : Option Weekday) → weekdays_eq a b ≡ true → a ≡ b
-same_weekdays None None e = refl
-same_weekdays (Some v) (Some w) e = ap Some (same_true weekday_type.the_type (search rules) v w e)
-same_weekdays _ _ e = absurd (false≢true e)
+same_weekdays : (a b : Option Weekday) → weekdays_eq.ghosts.eq a b ≡ true → a ≡ b
+same_weekdays a b e = weekday_mask-same a b ((unsigned_Decides (weekday_mask a) (weekday_mask b)).0 e)
 
-same_week : (a b : Week) → week_eq.ghosts.eq a b ≡ true → a ≡ b
-same_week a b e = same_true week_type.the_type (search rules) a b e
-
-same_weeks : (a b : Option Week) → weeks_eq a b ≡ true → a ≡ b
-same_weeks None None e = refl
-same_weeks (Some v) (Some w) e = ap Some (same_week v w e)
-same_weeks _ _ e = absurd (false≢true e)
+same_weeks : (a b : Option Week) → weeks_eq.ghosts.eq a b ≡ true → a ≡ b
+same_weeks a b e =
+    week_mask-same a b
+    ((unsigned_Decides (week_mask a) (week_mask b)).0 (first_so (nat_eq (week_mask a) (week_mask b)) _ e))
+    ((unsigned_Decides (weeks_left_mask a) (weeks_left_mask b)).0 (second_so (nat_eq (week_mask a) (week_mask b)) _ e))
 
 same_pattern : (a b : Pattern) → pattern_eq.ghosts.eq a b ≡ true → a ≡ b
 same_pattern a b e =
@@ -104,8 +85,8 @@ same_week_n_day : (a b : WeekNDay) → week_n_day_eq.ghosts.eq a b ≡ true → 
 same_week_n_day a b e =
     let months = same_months a.months b.months (first_so (months_eq.ghosts.eq a.months b.months) _ e) in
     let later = second_so (months_eq.ghosts.eq a.months b.months) _ e in
-    let weeks = same_weeks a.week b.week (first_so (weeks_eq a.week b.week) _ later) in
-    let weekdays = same_weekdays a.weekday b.weekday (second_so (weeks_eq a.week b.week) _ later) in
+    let weeks = same_weeks a.week b.week (first_so (weeks_eq.ghosts.eq a.week b.week) _ later) in
+    let weekdays = same_weekdays a.weekday b.weekday (second_so (weeks_eq.ghosts.eq a.week b.week) _ later) in
     λ i. record { months = months i; week = weeks i; weekday = weekdays i }
 
 same_entry : (a b : Entry) → entry_eq.ghosts.eq a b ≡ true → a ≡ b

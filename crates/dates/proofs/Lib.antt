@@ -1,6 +1,7 @@
 pub mod CutLemmas
 pub mod DayLemmas
 pub mod DigitLemmas
+pub mod MaskLemmas
 pub mod EqualityLemmas
 pub mod FieldLemmas
 pub mod FieldTexts

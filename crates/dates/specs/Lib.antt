@@ -3,6 +3,7 @@ pub mod DateFields
 pub mod Day
 pub mod Entry
 pub mod EntryFault
+pub mod Masks
 pub mod MonthDays
 pub mod Months
 pub mod Notation

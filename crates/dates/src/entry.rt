@@ -69,16 +69,16 @@ impl Entry {
         // The numbers are in range, each by the type that holds it.
         match self {
             Entry::Pattern(pattern) => {
-                let year = pattern.year.map(Year::number);
+                let year = pattern.year().map(Year::number);
                 prove!(year <= Some(2154));
-                prove!(pattern.months.number() <= Some(12));
-                prove!(pattern.days.number() <= Some(31));
+                prove!(pattern.months().number() <= Some(12));
+                prove!(pattern.days().number() <= Some(31));
             }
             Entry::Range(range) => {
                 let (start, end) = (range.start.map(Day::year), range.end.map(Day::year));
                 prove!(start <= Some(2154) && end <= Some(2154));
             }
-            Entry::WeekNDay(week_n_day) => prove!(week_n_day.months.number() <= Some(12)),
+            Entry::WeekNDay(week_n_day) => prove!(week_n_day.months().number() <= Some(12)),
         }
     }
 

@@ -5,7 +5,7 @@
 //!
 //! A text is read as an `Entry`: a `Pattern`, a `Range` or a `WeekNDay`, whose fields (`Year`,
 //! `Months`, `MonthDays`, `Week`, `Weekday`) each name a set of days. An entry holds on the days that
-//! are in all of its fields' sets, and is written in the one text that spells it. Of a text that
+//! are in all of its fields' sets, which are kept as bit masks, and is written in the one text that spells it. Of a text that
 //! spells none, an `EntryFault` says why.
 //!
 //! What each type means stands in the file of `specs/` with its name: which values it has, on which days
@@ -30,6 +30,7 @@ mod day;
 mod entry;
 mod entry_fault;
 pub mod equality;
+mod masks;
 mod month_days;
 mod months;
 mod notation;

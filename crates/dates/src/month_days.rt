@@ -1,17 +1,23 @@
-ghost use Rattle.std.specs.Prelude.{◌≡◌, ℕ, ◌↔◌, IsSome, IfSome};
+ghost use Rattle.std.specs.Prelude.{◌≡◌, ◌↔◌, IsSome, IfSome};
 ghost use Rattle.std.specs.Int.{IsInRange};
+ghost use Rattle.dates.specs.Masks.{day_mask, days_left_mask};
+ghost use Rattle.dates.specs.MonthDays.{AreMonthDays};
 
+use crate::masks::{ANY_DAY, ANY_DAYS_LEFT, has_both};
 use crate::{Day, notation};
 use std::fmt;
 use std::marker::Model;
 
 /// A day of a month, from 1 to 31.
-#[derive(Clone, Copy, Debug, PartialEq, Eq)]
+#[derive(Clone, Copy)]
 pub struct MonthDay {
     number: u8,
 }
 
 impl Model for MonthDay {
+    ghost use Rattle.std.specs.Prelude.{ℕ};
+    ghost use Rattle.std.specs.Int.{IsInRange};
+
     ghost Value = { ℕ };
 
     ghost view = { λ d. d.number };
@@ -45,7 +51,7 @@ impl MonthDay {
 
 /// The days of the month that a date pattern names. The standard writes the last day as 32, the
 /// odd days as 33 and the even ones as 34.
-#[derive(Clone, Copy, Debug, PartialEq, Eq)]
+#[derive(Clone, Copy)]
 pub enum MonthDays {
     Any,
     Last,
@@ -55,7 +61,7 @@ pub enum MonthDays {
 }
 
 impl MonthDays {
-    ghost use Rattle.dates.specs.MonthDays.{in_month_days, month_days_at, one_month_day, AreMonthDays};
+    ghost use Rattle.dates.specs.MonthDays.{month_days_at, one_month_day};
 
     /// Reads two digits, `last`, `odd`, `even` or `*`.
     #[tactic(auto, unfolding(crate::specs::MonthDays::month_days_at))]
@@ -81,18 +87,92 @@ impl MonthDays {
             _ => None,
         }
     }
+}
+
+const ODD_DAYS: u32 = 0xaaaa_aaaa;
+
+const EVEN_DAYS: u32 = 0x5555_5554;
+/// No day left.
+const LAST_DAY: u32 = 1;
+
+/// Days of a month as two masks, both of which must hold: with a bit for each of the days 1 to 31, and with one
+/// for each number of days left in the month, 0 to 30. Contracts see it as the days that it names.
+#[derive(Clone, Copy, Debug, PartialEq, Eq)]
+pub(crate) struct DayMask {
+    days: u32,
+    days_left: u32,
+}
+
+impl Model for DayMask {
+    ghost use Rattle.dates.specs.declared.month_days.MonthDays.{MonthDays};
+    ghost use Rattle.dates.specs.Masks.{day_mask, days_left_mask, month_days_of, IsDayMask};
+
+    ghost Value = { MonthDays };
+
+    ghost view = { λ m. month_days_of m.days m.days_left };
+
+    ghost invariant = { λ m. IsDayMask m.days m.days_left };
+
+    ghost inverse = { λ days. record { days = day_mask days; days_left = days_left_mask days } };
+
+    ghost inverse_ok = { λ m held i. record { days = held.0 i; days_left = held.1 i } };
+}
+
+impl DayMask {
+    ghost use Rattle.dates.specs.MonthDays.{in_month_days};
+
+    /// The masks of the days that are named.
+    pub(crate) fn of(named: MonthDays) -> DayMask
+        ensures { result ≡ named }
+    {
+        let days = day_bits(&named);
+        let days_left = days_left_bits(&named);
+        DayMask { days, days_left }
+    }
+
+    /// The days, as they are named.
+    pub(crate) fn named(self) -> MonthDays
+        ensures { result ≡ self }
+    {
+        if self.days_left == LAST_DAY {
+            return MonthDays::Last;
+        }
+        match self.days {
+            ANY_DAY => MonthDays::Any,
+            ODD_DAYS => MonthDays::Odd,
+            EVEN_DAYS => MonthDays::Even,
+            one => MonthDays::One(MonthDay {
+                number: one.trailing_zeros() as u8,
+            }),
+        }
+    }
 
     /// Whether the day is one of these in its month.
     pub(crate) fn holds(self, day: Day) -> bool
         ensures { result ≡ in_month_days self day }
     {
-        match self {
-            MonthDays::Any => true,
-            MonthDays::Last => day.days_left_in_month() == 0,
-            MonthDays::Odd => day.day_of_month() % 2 == 1,
-            MonthDays::Even => day.day_of_month() % 2 == 0,
-            MonthDays::One(number) => day.day_of_month() == number.number(),
-        }
+        has_both(self.days, self.days_left, day)
+    }
+}
+
+fn day_bits(named: &MonthDays) -> u32
+    ensures value { result ≡ day_mask named.now }
+    ensures range { AreMonthDays named.now }
+{
+    match named {
+        MonthDays::Any | MonthDays::Last => ANY_DAY,
+        MonthDays::Odd => ODD_DAYS,
+        MonthDays::Even => EVEN_DAYS,
+        MonthDays::One(day) => 1 << day.number(),
+    }
+}
+
+fn days_left_bits(named: &MonthDays) -> u32
+    ensures { result ≡ days_left_mask named.now }
+{
+    match named {
+        MonthDays::Last => LAST_DAY,
+        _ => ANY_DAYS_LEFT,
     }
 }
 

@@ -1,17 +1,23 @@
-ghost use Rattle.std.specs.Prelude.{◌≡◌, ℕ, ◌↔◌, IsSome, IfSome};
+ghost use Rattle.std.specs.Prelude.{◌≡◌, ◌↔◌, IsSome, IfSome};
 ghost use Rattle.std.specs.Int.{IsInRange};
+ghost use Rattle.dates.specs.Masks.{month_mask};
+ghost use Rattle.dates.specs.Months.{AreMonths};
 
+use crate::masks::has_bit;
 use crate::{Day, notation};
 use std::fmt;
 use std::marker::Model;
 
 /// A month from 1, January, to 12, December.
-#[derive(Clone, Copy, Debug, PartialEq, Eq)]
+#[derive(Clone, Copy)]
 pub struct Month {
     number: u8,
 }
 
 impl Model for Month {
+    ghost use Rattle.std.specs.Prelude.{ℕ};
+    ghost use Rattle.std.specs.Int.{IsInRange};
+
     ghost Value = { ℕ };
 
     ghost view = { λ m. m.number };
@@ -45,7 +51,7 @@ impl Month {
 
 /// The months that a date pattern or a week-and-day names. The standard writes the odd months as
 /// 13 and the even ones as 14.
-#[derive(Clone, Copy, Debug, PartialEq, Eq)]
+#[derive(Clone, Copy)]
 pub enum Months {
     Any,
     Odd,
@@ -54,7 +60,7 @@ pub enum Months {
 }
 
 impl Months {
-    ghost use Rattle.dates.specs.Months.{in_months, months_at, one_month, AreMonths};
+    ghost use Rattle.dates.specs.Months.{months_at, one_month};
 
     /// Reads two digits, `odd`, `even` or `*`.
     #[tactic(auto, unfolding(crate::specs::Months::months_at))]
@@ -79,17 +85,78 @@ impl Months {
             _ => None,
         }
     }
+}
+
+/// The bits 1 to 12.
+const ANY_MONTH: u32 = 0x1ffe;
+
+const ODD_MONTHS: u32 = 0x0aaa;
+
+const EVEN_MONTHS: u32 = 0x1554;
+
+/// Months as a mask, with a bit for each of the months 1 to 12. Contracts see it as the months that it names.
+#[derive(Clone, Copy, Debug, PartialEq, Eq)]
+pub(crate) struct MonthMask {
+    bits: u32,
+}
+
+impl Model for MonthMask {
+    ghost use Rattle.dates.specs.declared.months.Months.{Months};
+    ghost use Rattle.dates.specs.Masks.{month_mask, months_of, IsMonthMask};
+
+    ghost Value = { Months };
+
+    ghost view = { λ m. months_of m.bits };
+
+    ghost invariant = { λ m. IsMonthMask m.bits };
+
+    ghost inverse = { λ months. record { bits = month_mask months } };
+
+    ghost inverse_ok = { λ m held i. record { bits = held.0 i } };
+}
+
+impl MonthMask {
+    ghost use Rattle.dates.specs.Months.{in_months};
+
+    /// The mask of the months that are named.
+    pub(crate) fn of(months: Months) -> MonthMask
+        ensures { result ≡ months }
+    {
+        let bits = month_bits(months);
+        MonthMask { bits }
+    }
+
+    /// The months, as they are named.
+    pub(crate) fn named(self) -> Months
+        ensures { result ≡ self }
+    {
+        match self.bits {
+            ANY_MONTH => Months::Any,
+            ODD_MONTHS => Months::Odd,
+            EVEN_MONTHS => Months::Even,
+            one => Months::One(Month {
+                number: one.trailing_zeros() as u8,
+            }),
+        }
+    }
 
     /// Whether the day's month is one of these.
     pub(crate) fn holds(self, day: Day) -> bool
         ensures { result ≡ in_months self day }
     {
-        match self {
-            Months::Any => true,
-            Months::Odd => day.month() % 2 == 1,
-            Months::Even => day.month() % 2 == 0,
-            Months::One(month) => day.month() == month.number(),
-        }
+        has_bit(self.bits, day.month())
+    }
+}
+
+fn month_bits(months: Months) -> u32
+    ensures value { result ≡ month_mask months }
+    ensures range { AreMonths months }
+{
+    match months {
+        Months::Any => ANY_MONTH,
+        Months::Odd => ODD_MONTHS,
+        Months::Even => EVEN_MONTHS,
+        Months::One(month) => 1 << month.number(),
     }
 }
 

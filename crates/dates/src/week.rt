@@ -1,12 +1,15 @@
 ghost use Rattle.std.specs.Prelude.{◌≡◌};
+ghost use Rattle.dates.specs.Masks.{week_mask, weeks_left_mask};
 
 use crate::Day;
+use crate::masks::{ANY_DAY, ANY_DAYS_LEFT, has_both};
 use std::fmt;
+use std::marker::Model;
 
 /// A week of a month: seven days counted from its start, or from its end.
 ///
 /// Weeks 1 to 6 are the standard's. Weeks 7 to 9 are this profile's own.
-#[derive(Clone, Copy, Debug, PartialEq, Eq)]
+#[derive(Clone, Copy)]
 pub enum Week {
     /// Week 1: the days 1 to 7.
     First,
@@ -29,7 +32,7 @@ pub enum Week {
 }
 
 impl Week {
-    ghost use Rattle.dates.specs.Week.{in_week, in_weeks, week_at, weeks_at};
+    ghost use Rattle.dates.specs.Week.{week_at, weeks_at};
 
     /// Reads one digit.
     #[tactic(auto, unfolding(crate::specs::Week::week_at))]
@@ -50,25 +53,6 @@ impl Week {
         }
     }
 
-    /// Whether the day lies in this week of its month.
-    fn holds(self, day: Day) -> bool
-        ensures { result ≡ in_week self day }
-    {
-        let weeks_before = (day.day_of_month() - 1) / 7;
-        let weeks_after = day.days_left_in_month() / 7;
-        match self {
-            Week::First => weeks_before == 0,
-            Week::Second => weeks_before == 1,
-            Week::Third => weeks_before == 2,
-            Week::Fourth => weeks_before == 3,
-            Week::Fifth => weeks_before == 4,
-            Week::Last => weeks_after == 0,
-            Week::SecondLast => weeks_after == 1,
-            Week::ThirdLast => weeks_after == 2,
-            Week::FourthLast => weeks_after == 3,
-        }
-    }
-
     /// Reads one digit, or `*` for any week.
     #[tactic(auto, unfolding(crate::specs::Week::weeks_at))]
     pub(crate) fn read_or_any(text: &str) -> Option<Option<Week>>
@@ -79,15 +63,96 @@ impl Week {
             _ => Some(Some(Week::read(text)?)),
         }
     }
+}
+
+/// Weeks of a month as two masks, both of which must hold: with a bit for each of the days 1 to 31, and with one
+/// for each number of days left in the month, 0 to 30. Contracts see it as the week that it names, or any.
+#[derive(Clone, Copy, Debug, PartialEq, Eq)]
+pub(crate) struct WeekMask {
+    days: u32,
+    days_left: u32,
+}
+
+impl Model for WeekMask {
+    ghost use Rattle.std.specs.Prelude.{Option};
+    ghost use Rattle.dates.specs.declared.week.Week.{Week};
+    ghost use Rattle.dates.specs.Masks.{week_mask, weeks_left_mask, weeks_of, IsWeekMask};
+
+    ghost Value = { Option Week };
+
+    ghost view = { λ m. weeks_of m.days m.days_left };
+
+    ghost invariant = { λ m. IsWeekMask m.days m.days_left };
+
+    ghost inverse = { λ weeks. record { days = week_mask weeks; days_left = weeks_left_mask weeks } };
+
+    ghost inverse_ok = { λ m held i. record { days = held.0 i; days_left = held.1 i } };
+}
+
+impl WeekMask {
+    ghost use Rattle.dates.specs.Week.{in_weeks};
+
+    /// The masks of a week, or of any.
+    pub(crate) fn of(named: Option<Week>) -> WeekMask
+        ensures { result ≡ named }
+    {
+        let days = week_bits(named);
+        let days_left = weeks_left_bits(named);
+        WeekMask { days, days_left }
+    }
+
+    /// The week, or any, as it is named.
+    pub(crate) fn named(self) -> Option<Week>
+        ensures { result ≡ self }
+    {
+        match self.days_left {
+            0x7f => Some(Week::Last),
+            0x3f80 => Some(Week::SecondLast),
+            0x1f_c000 => Some(Week::ThirdLast),
+            0xfe0_0000 => Some(Week::FourthLast),
+            _ => match self.days {
+                0xfe => Some(Week::First),
+                0x7f00 => Some(Week::Second),
+                0x3f_8000 => Some(Week::Third),
+                0x1fc0_0000 => Some(Week::Fourth),
+                0xe000_0000 => Some(Week::Fifth),
+                _ => None,
+            },
+        }
+    }
 
     /// Whether the day lies in the week named of its month, or in any.
-    pub(crate) fn holds_or_any(weeks: Option<Week>, day: Day) -> bool
-        ensures { result ≡ in_weeks weeks day }
+    pub(crate) fn holds(self, day: Day) -> bool
+        ensures { result ≡ in_weeks self day }
     {
-        match weeks {
-            Some(week) => week.holds(day),
-            None => true,
-        }
+        has_both(self.days, self.days_left, day)
+    }
+}
+
+// Weeks 1 to 5 are counted by the day of the month.
+fn week_bits(named: Option<Week>) -> u32
+    ensures { result ≡ week_mask named }
+{
+    match named {
+        Some(Week::First) => 0xfe,
+        Some(Week::Second) => 0x7f00,
+        Some(Week::Third) => 0x3f_8000,
+        Some(Week::Fourth) => 0x1fc0_0000,
+        Some(Week::Fifth) => 0xe000_0000,
+        _ => ANY_DAY,
+    }
+}
+
+// Weeks 6 to 9 are counted by the days that follow in the month.
+fn weeks_left_bits(named: Option<Week>) -> u32
+    ensures { result ≡ weeks_left_mask named }
+{
+    match named {
+        Some(Week::Last) => 0x7f,
+        Some(Week::SecondLast) => 0x3f80,
+        Some(Week::ThirdLast) => 0x1f_c000,
+        Some(Week::FourthLast) => 0xfe0_0000,
+        _ => ANY_DAYS_LEFT,
     }
 }
 

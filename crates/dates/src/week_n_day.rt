@@ -1,22 +1,33 @@
 ghost use Rattle.std.specs.Prelude.{◌≡◌};
 
-use crate::week::WeekOrAny;
-use crate::weekday::{WeekdayOrAny, read_weekday_or_any, weekday_holds};
+use crate::months::MonthMask;
+use crate::week::{WeekMask, WeekOrAny};
+use crate::weekday::{WeekdayMask, WeekdayOrAny, read_weekday_or_any};
 use crate::{Day, EntryFault, Months, Week, Weekday, notation};
 use std::fmt;
 
-/// A week-and-day, the standard's WeekNDay: the days of a weekday in a week of a month.
+/// A week-and-day, the standard's WeekNDay: the days of a weekday in a week of a month, each kept
+/// as masks, from which the names are read back.
 #[derive(Clone, Copy, Debug, PartialEq, Eq)]
 pub struct WeekNDay {
-    pub months: Months,
-    /// The week, or any.
-    pub week: Option<Week>,
-    /// The weekday, or any.
-    pub weekday: Option<Weekday>,
+    months: MonthMask,
+    week: WeekMask,
+    weekday: WeekdayMask,
 }
 
 impl WeekNDay {
     ghost use Rattle.dates.specs.WeekNDay.{in_week_n_day, week_n_day_at};
+
+    /// The week-and-day with these fields; a week or a weekday that is `None` is any.
+    pub fn new(months: Months, week: Option<Week>, weekday: Option<Weekday>) -> WeekNDay
+        ensures { result ≡ record { months = months; week = week; weekday = weekday } }
+    {
+        WeekNDay {
+            months: MonthMask::of(months),
+            week: WeekMask::of(week),
+            weekday: WeekdayMask::of(weekday),
+        }
+    }
 
     /// Reads `M:K:W`.
     #[tactic(auto, unfolding(crate::specs::WeekNDay::week_n_day_at))]
@@ -27,20 +38,21 @@ impl WeekNDay {
         let months = Months::read(months).ok_or(EntryFault::Month)?;
         let week = Week::read_or_any(week).ok_or(EntryFault::Week)?;
         let weekday = read_weekday_or_any(weekday).ok_or(EntryFault::Weekday)?;
-        Ok(WeekNDay {
-            months,
-            week,
-            weekday,
-        })
+        Ok(WeekNDay::new(months, week, weekday))
+    }
+
+    /// The months, as they are named.
+    pub(crate) fn months(&self) -> Months
+        ensures { result ≡ self.now.months }
+    {
+        self.months.named()
     }
 
     /// Whether the day is one of these.
     pub fn holds(&self, day: Day) -> bool
         ensures { result ≡ in_week_n_day self.now day }
     {
-        self.months.holds(day)
-            && Week::holds_or_any(self.week, day)
-            && weekday_holds(self.weekday, day)
+        self.months.holds(day) && self.week.holds(day) && self.weekday.holds(day)
     }
 }
 
@@ -51,7 +63,11 @@ impl fmt::Display for WeekNDay {
     ghost output = { λ x. Some (week_n_day_text x) };
 
     fn fmt<W: fmt::Write>(&self, f: &mut fmt::Formatter<W>) -> fmt::Result {
-        let (week, weekday) = (WeekOrAny(self.week), WeekdayOrAny(self.weekday));
-        write!(f, "wnd:{}:{}:{}", self.months, week, weekday)
+        let months = self.months.named();
+        let (week, weekday) = (
+            WeekOrAny(self.week.named()),
+            WeekdayOrAny(self.weekday.named()),
+        );
+        write!(f, "wnd:{months}:{week}:{weekday}")
     }
 }

@@ -1,12 +1,12 @@
--- What `max_by_key` and `min_by_key` find after `filter`.
+-- What `min_by_key` finds after `filter`.
 use Rattle.std.proofs.Common.{◌≡◌, Bool, true, false, List, [], ◌∷◌, Option, Some, None, map, refl, sym, ap, ◌∙◌, subst, inl, inr, Bor}
 use Rattle.std.specs.declared.cmp.Ordering.{Ordering}
 use Rattle.std.specs.declared.cmp.Ordering.TheVariants.{Less, Equal, Greater}
 use Rattle.std.specs.Fn.{CalledAt}
-use Rattle.std.specs.Iterator.{Drains, DrainsIf, KeyTurn, PicksByKey, PicksMaxByKey, PicksMinByKey}
+use Rattle.std.specs.Iterator.{Drains, DrainsIf, KeyTurn, PicksByKey, PicksMinByKey}
 use Rattle.std.specs.List.{FoldsTo, filter}
 use Rattle.std.specs.Option.{option_copied, option_map}
-use Rattle.std.specs.Ordering.{is_gt, is_le, max_by_ordering, min_by_ordering}
+use Rattle.std.specs.Ordering.{is_gt, min_by_ordering}
 use Rattle.std.proofs.lemmas.Bool.{cases_Bool}
 use Rattle.std.proofs.lemmas.Iterator.{YieldsList, items_from_drains}
 use denote.Param.Members.{Mut}
@@ -84,17 +84,6 @@ module _ {A B F K : Type 0} (v : A → B) (key : B → K) (gives_way : B → B �
         sym (all_turns ((d.3, d.2), d.0) d.1 (d.4, y) (record { callee = first.0; its_key = first.1 }) d.7)
         ∙ ap (best_from any gives_way None) (items_from_drains (d.0 ∷ d.1) (drains_if (d.0 ∷ d.1) d.5) gives)
 
--- the greatest by key, of equal ones the last
-max_takes : {A : Type 0} (o : Ordering) (a b : A) → is_le o ≡ true → max_by_ordering o a b ≡ b
-max_takes Less a b e = refl
-max_takes Equal a b e = refl
-max_takes Greater a b e = cc
-
-max_keeps : {A : Type 0} (o : Ordering) (a b : A) → is_le o ≡ false → max_by_ordering o a b ≡ a
-max_keeps Less a b e = cc
-max_keeps Equal a b e = cc
-max_keeps Greater a b e = refl
-
 -- the least by key, of equal ones the first
 min_takes : {A : Type 0} (o : Ordering) (a b : A) → is_gt o ≡ true → min_by_ordering o a b ≡ b
 min_takes Less a b e = cc
@@ -107,12 +96,6 @@ min_keeps Equal a b e = refl
 min_keeps Greater a b e = cc
 
 module _ {A B K : Type 0} (v : A → B) (key : B → K) (gives_way : B → B → Bool) (cmp : K → K → Ordering) where
-  orders_max : ((x y : B) → gives_way x y ≡ is_le (cmp (key x) (key y))) → Orders v key gives_way max_by_ordering max_by_ordering cmp
-  orders_max agrees = record {
-    takes = λ a b e. let le = sym (agrees (v a) (v b)) ∙ e in (max_takes _ a b le, max_takes _ _ _ le);
-    keeps = λ a b e. let gt = sym (agrees (v a) (v b)) ∙ e in (max_keeps _ a b gt, max_keeps _ _ _ gt);
-  }
-
   orders_min : ((x y : B) → gives_way x y ≡ is_gt (cmp (key x) (key y))) → Orders v key gives_way min_by_ordering min_by_ordering cmp
   orders_min agrees = record {
     takes = λ a b e. let gt = sym (agrees (v a) (v b)) ∙ e in (min_takes _ a b gt, min_takes _ _ _ gt);
@@ -127,16 +110,6 @@ copied_map (Some x) = refl
 module _ {B F K S : Type 0} (key : B → K) {gives_way : B → B → Bool} (settles : Settles gives_way) (passes : B → Bool) (xs : List B)
     {steps : S → Option (Bor B) → S → Type 0} {g : Mut F (Bor (Bor B) × Unit {0}) K} (cmp : K → K → Ordering) {s : S} {f : F}
     (r : Option (Bor B)) where
-  pub chosen-max_by_key : PicksMaxByKey steps g cmp s f r → YieldsList steps (λ x. x.now) s (filter passes xs)
-      → ((x : Bor B) (k : K) (q : F) → CalledAt g f x k q → (q ≡ f) × (k ≡ key x.now))
-      → ((x y : B) → gives_way x y ≡ is_le (cmp (key x) (key y)))
-      → option_copied r ≡ chosen passes gives_way xs
-  chosen-max_by_key d gives calls agrees =
-      let orders = orders_max (λ x. x.now) key gives_way cmp agrees in
-      copied_map r
-      ∙ picked (λ x. x.now) key gives_way max_by_ordering max_by_ordering g cmp f orders calls steps s (filter passes xs) r d gives
-      ∙ best_from-filter passes gives_way None xs ∙ sym (chosen-best_from passes gives_way settles xs)
-
   pub chosen-min_by_key : PicksMinByKey steps g cmp s f r → YieldsList steps (λ x. x.now) s (filter passes xs)
       → ((x : Bor B) (k : K) (q : F) → CalledAt g f x k q → (q ≡ f) × (k ≡ key x.now))
       → ((x y : B) → gives_way x y ≡ is_gt (cmp (key x) (key y)))

@@ -225,7 +225,7 @@ holds_if test None = true
 holds_if test (Some x) = test x
 
 module _ {A : Type 0} (passes : A → Bool) (gives_way : A → A → Bool) where
-  kept-holds : (test : A → Bool) (best : Option A) (x : A) → (passes x ≡ true → test x ≡ true) → holds_if test best ≡ true
+  pub kept-holds : (test : A → Bool) (best : Option A) (x : A) → (passes x ≡ true → test x ≡ true) → holds_if test best ≡ true
       → holds_if test (kept passes gives_way best x) ≡ true
   kept-holds test None x here held = elim (cases_Bool (passes x)) [
     | inl passed ↦ rw passed (here passed)
@@ -239,7 +239,7 @@ module _ {A : Type 0} (passes : A → Bool) (gives_way : A → A → Bool) where
     ]
   ]
 
-  best_from-holds : (each test : A → Bool) → ((x : A) → each x ≡ true → passes x ≡ true → test x ≡ true)
+  pub best_from-holds : (each test : A → Bool) → ((x : A) → each x ≡ true → passes x ≡ true → test x ≡ true)
       → (best : Option A) (xs : List A) → holds_if test best ≡ true
       → list_all each xs ≡ true → holds_if test (best_from passes gives_way best xs) ≡ true
   best_from-holds each test follows best [] held all = held

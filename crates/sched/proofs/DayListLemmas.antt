@@ -1,6 +1,5 @@
 -- The order of a list's times.
 use Rattle.std.proofs.Common.{◌≡◌, ℕ, true, false, nat_le, arith}
-use Rattle.std.specs.Ordering.{is_le, nat_cmp}
 use Rattle.std.proofs.lemmas.Bool.Decides.{nat_tests}
 use Rattle.sched.specs.DayList.{gives_way_later}
 use Rattle.sched.proofs.ChosenLemmas.{Settles}
@@ -13,6 +12,3 @@ past b q z h k = grind (arith, nat_tests)
 
 pub settles_later : Settles gives_way_later
 settles_later = record { onward = λ q b z. onward q.time b.time z.time; past = λ b q z. past b.time q.time z.time }
-
-pub later-is_le : (x y : ℕ) → nat_le x y ≡ is_le (nat_cmp x y)
-later-is_le x y = grind (arith, nat_tests)

@@ -7,3 +7,7 @@ pub mod QuietLemmas
 pub mod LawLemmas
 pub mod FirstLemmas
 pub mod ValueLemmas
+pub mod RisingLemmas
+pub mod ByTimeLemmas
+pub mod AroundLemmas
+pub mod SpanLemmas

@@ -15,7 +15,8 @@ use Rattle.sched.specs.declared.exception.Exception.{Exception}
 use Rattle.sched.specs.declared.schedule.Schedule.{Schedule}
 use Rattle.sched.specs.DayList.{latest, list_value, gives_way_later}
 use Rattle.sched.specs.Exceptions.{in_effect, speaks, exception_now, exceptional_value, gives_way_to_lower}
-use Rattle.sched.specs.Named.{times_of, exception_times, named_times}
+use Rattle.sched.specs.DayList.{times_of}
+use Rattle.sched.specs.Named.{exception_times, named_times}
 use Rattle.sched.specs.Schedule.{schedule_value, first_value, weekday_list}
 use Rattle.sched.specs.Segments.{value_eq}
 use Rattle.sched.proofs.ChosenLemmas.{chosen-agree, chosen-holds, holds_if}

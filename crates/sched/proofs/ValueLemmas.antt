@@ -35,7 +35,7 @@ not_both s t i k one two = ⊎_elim
     (λ a. ⊎_elim (λ b. omega (arith, a, b)) (λ b. let e = b.0 in omega (arith, a, e)) two)
     (λ a. let e = a.0 in let h = a.1 in ⊎_elim (λ b. omega (arith, e, b)) (λ b. let k = b.1 in omega (arith, h, k)) two) one
 
-later_orders : Orders gives_way_later IsLater
+pub later_orders : Orders gives_way_later IsLater
 later_orders = record {
   settles = settles_later;
   gave = λ y x k i below gives. ⊎_elim (λ less. inl less) (λ same. inr (same, below)) (at_most y.time x.time gives);

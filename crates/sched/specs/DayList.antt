@@ -1,4 +1,4 @@
-use Rattle.std.specs.Prelude.{ℕ, Bool, nat_le, List, Option, ℤ, option_and_then}
+use Rattle.std.specs.Prelude.{ℕ, Bool, nat_le, List, map, Option, ℤ, option_and_then}
 use Rattle.sched.specs.declared.day_list.TimeValue.{TimeValue}
 use Rattle.sched.specs.Chosen.{chosen}
 
@@ -13,3 +13,6 @@ latest list time = chosen (λ x. nat_le x.time time) gives_way_later list
 -- the value of a list at a time; none is NULL
 abbrev pub list_value : List TimeValue → ℕ → Option ℤ
 list_value list time = option_and_then (λ x. x.value) (latest list time)
+
+abbrev pub times_of : List TimeValue → List ℕ
+times_of list = map (λ x. x.time) list

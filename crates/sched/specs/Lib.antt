@@ -1,3 +1,4 @@
+pub mod ByTime
 pub mod Calendar
 pub mod Chosen
 pub mod DayList
@@ -6,5 +7,7 @@ pub mod Named
 pub mod Schedule
 pub mod SegmentLaws
 pub mod Segments
+pub mod Spans
 pub mod TimeText
+pub mod TimesAround
 pub mod ValueCases

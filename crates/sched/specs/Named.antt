@@ -1,15 +1,12 @@
-use Rattle.std.specs.Prelude.{ℕ, if◌then◌else◌, List, [], ◌∷◌, ◌++◌, map}
+use Rattle.std.specs.Prelude.{ℕ, if◌then◌else◌, List, [], ◌∷◌, ◌++◌}
 use Rattle.std.specs.List.{flat_map}
 use Rattle.jiff_core.specs.declared.civil.date.Date.{Date}
 use Rattle.sched.specs.declared.calendar.Calendar.{Calendar}
-use Rattle.sched.specs.declared.day_list.TimeValue.{TimeValue}
 use Rattle.sched.specs.declared.exception.Exception.{Exception}
 use Rattle.sched.specs.declared.schedule.Schedule.{Schedule}
+use Rattle.sched.specs.DayList.{times_of}
 use Rattle.sched.specs.Exceptions.{in_effect}
 use Rattle.sched.specs.Schedule.{weekday_list}
-
-abbrev pub times_of : List TimeValue → List ℕ
-times_of list = map (λ x. x.time) list
 
 abbrev pub exception_times : List Calendar → Date → Exception → List ℕ
 exception_times calendars day exception = if in_effect calendars day exception then times_of exception.times else []

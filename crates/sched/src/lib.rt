@@ -5,8 +5,8 @@
 //!
 //! A `Schedule` holds exceptions, a `DayList` of time values for each weekday, and a default. An
 //! `Exception` is in effect on the days of its `Period`, which is an entry of `dates` or a `Calendar` that
-//! is handed in. A day and a `Time` go in, and the value comes out; a day alone gives its segments, each
-//! the time from which a value stands.
+//! is handed in. A day and a `Time` go in, and the value comes out, alone or with the `Span` of the day
+//! over which it stands; a day alone gives its segments, each the time from which a value stands.
 #![tactic(auto)]
 
 pub use calendar::{CalId, Calendar, CalendarEntry};
@@ -17,6 +17,7 @@ pub use laws::{
     value_stands_between_segments,
 };
 pub use schedule::Schedule;
+pub use span::Span;
 pub use time::Time;
 
 mod calendar;
@@ -25,4 +26,7 @@ mod exception;
 mod laws;
 mod schedule;
 mod segments;
+mod span;
 mod time;
+#[cfg(test)]
+mod trials;

@@ -2,7 +2,8 @@
 ghost use Rattle.std.specs.Prelude.{◌≡◌, ◌++◌, not, Some, IfOk, OnOk};
 ghost use Rattle.std.specs.List.{flat_map};
 ghost use Rattle.std.specs.Option.{option_eq};
-ghost use Rattle.sched.specs.Named.{exception_times, named_times, times_of};
+ghost use Rattle.sched.specs.DayList.{times_of};
+ghost use Rattle.sched.specs.Named.{exception_times, named_times};
 ghost use Rattle.sched.specs.Schedule.{schedule_value};
 ghost use Rattle.sched.specs.Segments.{last_value, segments_of, value_eq, with_change};
 

@@ -1,5 +1,5 @@
 //! A time of day.
-ghost use Rattle.std.specs.Prelude.{◌≡◌, ◌<◌, ◌↔◌, IsSome, IfSome, ◌%◌, ◌/◌};
+ghost use Rattle.std.specs.Prelude.{◌≡◌, ◌-◌, ◌<◌, ◌↔◌, IsSome, IfSome, ◌%◌, ◌/◌};
 
 use std::fmt;
 use std::marker::Model;
@@ -30,6 +30,11 @@ impl Time {
     /// 00:00:00.00.
     pub const MIDNIGHT: Time = Time { hundredths: 0 };
 
+    /// 23:59:59.99.
+    pub const LAST: Time = Time {
+        hundredths: 8_639_999,
+    };
+
     /// The time so many hundredths of a second after midnight, if it is on the same day.
     pub fn new(hundredths: u32) -> Option<Time>
         ensures exists { IsSome result ↔ (hundredths < 8_640_000) }
@@ -39,6 +44,15 @@ impl Time {
             Some(Time { hundredths })
         } else {
             None
+        }
+    }
+
+    /// The time a hundredth of a second before; of midnight itself.
+    pub(crate) fn hundredth_before(self) -> Time
+        ensures { result ≡ self - 1 }
+    {
+        Time {
+            hundredths: self.hundredths.saturating_sub(1),
         }
     }
 

@@ -1,5 +1,5 @@
 use Rattle.std.proofs.Common.{◌≡◌, ◌++◌, take}
-use Rattle.sched.specs.Named.{times_of}
+use Rattle.sched.specs.DayList.{times_of}
 use Rattle.sched.proofs.segments.push_times.Given as goal
 
 abbrev pub invariant-loop-time_value : goal.invariant-loop-time_value
