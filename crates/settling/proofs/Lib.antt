@@ -1,3 +1,5 @@
 pub mod HoldLemmas
 pub mod StepLemmas
 pub mod ValueLemmas
+pub mod KeptLemmas
+pub mod TurnLemmas

@@ -80,13 +80,13 @@ cleared_by-same : (cs ds : List Calendar) (local : LocalTime) (shown : Shown)
 unfolding falls_quiet
 cleared_by-same cs ds local shown = refl
 
-written-same : (cs ds : List Calendar) (local : LocalTime) (shown : Shown) (schedules : List NamedSchedule)
+pub written-same : (cs ds : List Calendar) (local : LocalTime) (shown : Shown) (schedules : List NamedSchedule)
     → hold_on local.day cs ≡ hold_on local.day ds → written (now_at cs local) shown schedules ≡ written (now_at ds local) shown schedules
 unfolding written
 written-same cs ds local shown schedules same =
     λ i. flat_map (cleared_by-same cs ds local shown i) schedules ++ flat_map (put_by-same cs ds local shown same i) schedules
 
-told-same : (cs ds : List Calendar) (local : LocalTime) (shown : Shown) (schedules : List NamedSchedule)
+pub told-same : (cs ds : List Calendar) (local : LocalTime) (shown : Shown) (schedules : List NamedSchedule)
     → hold_on local.day cs ≡ hold_on local.day ds → told (now_at cs local) shown schedules ≡ told (now_at ds local) shown schedules
 unfolding told
 told-same cs ds local shown schedules same = λ i. flat_map (shown_by-same cs ds local shown same i) schedules

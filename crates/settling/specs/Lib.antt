@@ -1,3 +1,4 @@
 pub mod Calendars
+pub mod Kept
 pub mod Settled
 pub mod Turns

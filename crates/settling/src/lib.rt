@@ -5,8 +5,10 @@
 //! Calendars have the entries of the file and those that were imported (`specs/Calendars.antt`).
 #![tactic(auto)]
 
-pub use settlement::{Settlement, settle};
+pub use kept::Kept;
+pub use settlement::{Settlement, settle, settle_again};
 pub use today::calendars_today;
 
+mod kept;
 mod settlement;
 mod today;

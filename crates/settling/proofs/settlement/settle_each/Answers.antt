@@ -1,39 +1,50 @@
-use Rattle.std.proofs.Common.{◌<◌, None, length, ap, arith}
+use Rattle.std.proofs.Common.{◌≡◌, ◌<◌, ◌∙◌, None, Some, length, ap, arith, subst}
 use Rattle.std.specs.List.{flat_map}
+use Rattle.std.specs.Prelude.{slice_get}
 use Rattle.store.proofs.ReadLemmas.{Reads-then, kept-read}
 use Rattle.store.specs.Standing.{Content}
+use Rattle.settling.specs.Kept.{current_of}
 use Rattle.settling.specs.Settled.{cleared_by, put_by, shown_by}
 use Rattle.settling.specs.Turns.{now_at}
+use Rattle.settling.proofs.KeptLemmas.{here_get}
 use Rattle.settling.proofs.StepLemmas.{each-more, own-turn, priority-first}
 use Rattle.settling.proofs.settlement.settle_each.Goals as goal
 
-pub loop-schedule-preserved : goal.loop-schedule-preserved
-loop-schedule-preserved g c =
+pub loop-index-preserved : goal.loop-index-preserved
+loop-index-preserved g c =
     let first = g.S.Store.standing c.args.store.now in
-    let read = g.S.Store.standing c.loop-schedule.store in
+    let read = g.S.Store.standing c.loop-index.store in
     let last = g.S.Store.standing c.settle_one.new.store in
-    let so_far = c.loop-schedule.invariant in
-    let now = now_at c.args.calendars.now c.args.local.now in
+    let so_far = c.loop-index.invariant in
+    let now = now_at c.args.kept.now.calendars.items c.args.local.now in
     let shown = first.content.tables.shown in
     let schedules = c.args.schedules.now in
-    let at = c.loop-schedule.schedule-index in
-    let s = c.schedule-item.result in
-    let within : at < length schedules = omega (arith, c.loop-schedule-test.true) in
-    let old = c.loop-schedule.all in
+    let at = c.loop-index.index in
+    let s = c.index-schedules-index.result in
+    let within : at < length schedules = omega (arith, c.loop-index-test.true) in
+    let here : slice_get schedules at ≡ Some s = here_get schedules at s within c.index-schedules-index.is in
+    let same_day = so_far.day ∙ c.requires.day in
+    let value : c.current-value.result ≡ current_of now s =
+    subst (λ calendars. c.current-value.result ≡ current_of (now_at calendars.items c.args.local.now) s) so_far.calendars
+    (c.current-value.ensures.current schedules same_day here so_far.spans) in
+    let old = c.loop-index.all in
     let new = c.settle_one.new.written in
     let before = λ (honest : last.is_honest). c.in_ok-settle_one.ensures.reads.goes.honest honest in
     let turned = λ (honest : last.is_honest). own-turn now shown read.content.tables.shown s old new
     (ap (λ (content : Content). content.tables.shown) (kept-read first read so_far.reads (before honest)))
-    (c.in_ok-settle_one.ensures.turns honest) in
+    (c.in_ok-settle_one.ensures.turns honest now value) in
     record {
       reads = Reads-then None first read last so_far.reads c.in_ok-settle_one.ensures.reads;
-      priorities = (priority-first schedules at s within c.schedule-item.is so_far.priorities).1;
+      priorities = (priority-first schedules at s within c.index-schedules-index.is so_far.priorities).1;
       cleared = λ honest. each-more (cleared_by now shown) schedules at s old.cleared.items new.cleared.items
-          (flat_map (cleared_by now shown) schedules) within c.schedule-item.is (turned honest).0 (so_far.cleared (before honest));
+          (flat_map (cleared_by now shown) schedules) within c.index-schedules-index.is (turned honest).0 (so_far.cleared (before honest));
       put = λ honest. each-more (put_by now shown) schedules at s old.put.items new.put.items
-          (flat_map (put_by now shown) schedules) within c.schedule-item.is (turned honest).1 (so_far.put (before honest));
+          (flat_map (put_by now shown) schedules) within c.index-schedules-index.is (turned honest).1 (so_far.put (before honest));
       told = λ honest. each-more (shown_by now shown) schedules at s old.shown.items new.shown.items
-          (flat_map (shown_by now shown) schedules) within c.schedule-item.is (turned honest).2 (so_far.told (before honest));
+          (flat_map (shown_by now shown) schedules) within c.index-schedules-index.is (turned honest).2 (so_far.told (before honest));
       placed_cleared = c.in_ok-settle_one.ensures.cleared;
       placed_put = c.in_ok-settle_one.ensures.put;
+      spans = c.current-value.ensures.spans schedules same_day here so_far.spans;
+      day = c.current-value.ensures.day ∙ so_far.day;
+      calendars = c.current-value.ensures.calendars ∙ so_far.calendars;
     }

@@ -5,17 +5,18 @@ use Rattle.building.specs.declared.named_schedule.NamedSchedule.{NamedSchedule}
 use Rattle.store.specs.Change.{IsPlace}
 use Rattle.store.specs.Standing.{Reads}
 use Rattle.building.specs.Priority.{is_write_priority}
+use Rattle.settling.specs.Kept.{HasSpans}
 use Rattle.settling.specs.Settled.{cleared_by, put_by, shown_by}
 use Rattle.settling.specs.Turns.{now_at}
 use Rattle.settling.proofs.settlement.settle_each.Given as goal
 
 -- what was written so far, and what the rest of the schedules write
-abbrev pub invariant-loop-schedule : goal.invariant-loop-schedule
-invariant-loop-schedule g l =
+abbrev pub invariant-loop-index : goal.invariant-loop-index
+invariant-loop-index g l =
     let first = g.S.Store.standing l.initial.store in
-    let now = now_at l.calendars l.local in
+    let now = now_at l.initial.kept.calendars.items l.local in
     let shown = first.content.tables.shown in
-    let rest = drop l.schedule-index l.schedules in
+    let rest = drop l.index l.schedules in
     record {
       reads : Reads None first (g.S.Store.standing l.store);
       priorities : IsTrue (list_all (λ (schedule : NamedSchedule). is_write_priority schedule.priority) rest);
@@ -27,4 +28,7 @@ invariant-loop-schedule g l =
           ≡ flat_map (shown_by now shown) l.schedules;
       placed_cleared : All IsPlace l.all.cleared.items;
       placed_put : All IsPlace l.all.put.items;
+      spans : HasSpans l.schedules l.kept;
+      day : l.kept.day ≡ l.initial.kept.day;
+      calendars : l.kept.calendars ≡ l.initial.kept.calendars;
     }
