@@ -1,5 +1,5 @@
 -- The change of a tick or an import makes the tables of one delivery more.
-use Rattle.std.proofs.Common.{◌≡◌, ℕ, ◌-◌, ◌++◌, Bool, true, false, not, List, [], ◌∷◌, Option, Some, None, ◌&&◌, ◌||◌, is_some, length, nat_lt, rules, ℤ}
+use Rattle.std.proofs.Common.{◌≡◌, ℕ, ◌-◌, ◌++◌, Bool, true, false, not, List, [], ◌∷◌, Option, Some, None, ◌&&◌, ◌||◌, is_some, length, nat_lt, rules, ℤ, arith}
 use Rattle.std.proofs.Common.{refl, sym, ap, ◌∙◌, subst}
 use Rattle.std.specs.List.{list_all, position_or_len}
 use Rattle.std.proofs.lemmas.Bool.{false≢true}
@@ -10,7 +10,9 @@ use Rattle.deliveries.specs.declared.reply.Reply.TheVariants as answer_of
 use Rattle.deliveries.specs.Clocked.{Settles}
 use Rattle.deliveries.specs.Delivered.{Holds}
 use Rattle.deliveries.specs.Events.{has_calendar, is_later, is_moment, last_tick_of, machine}
-use Rattle.deliveries.specs.Machine.{added, local_of}
+use Rattle.deliveries.specs.Laws.{HasDistinctSchedules}
+use Rattle.deliveries.specs.Machine.{added, local_of, writes_of}
+use Rattle.deliveries.proofs.QuietLemmas.{Quiet-machine, with_rows-known}
 use Rattle.deliveries.specs.Reply.{refused_record, reply}
 use Rattle.deliveries.specs.Tables.{tables}
 use Rattle.deliveries.proofs.ClockLemmas.{Tells-tables, machine-last_tick, reply-imported, reply-ticked, tables-imported, tables-last_tick, tables-shown, tables-ticked, with_items-none}
@@ -112,3 +114,19 @@ module _ (b : Building) (E : List Delivery) (old : Standing) (held : Holds b E o
     imported-reply writes is =
         (λ i. answer_of.Imported (length (items_are i)) (length rows - length (items_are i)) ((is ∙ ap length settled-here.places) i))
         ∙ sym (reply-imported b E rows none)
+
+pub none_in : {A : Type 0} (xs : List A) → length xs ≡ 0 → xs ≡ []
+none_in [] is = refl
+none_in (x ∷ xs) is = absurd (omega arith)
+
+-- rows that are all known are answered so, and nothing is written
+pub reply-known : (b : Building) (E : List Delivery) (rows : List CalendarEntry) → refused_record b rows ≡ None
+    → added b (machine b E).imported rows ≡ [] → HasDistinctSchedules b
+    → reply b E (Import rows) ≡ answer_of.Imported 0 (length rows) 0
+reply-known b E rows none nothing distinct =
+    let m = machine b E in
+    let whole : length rows - 0 ≡ length rows = omega arith in
+    reply-imported b E rows none
+    ∙ (λ i. let now = with_rows-known b m rows nothing i in
+    answer_of.Imported (length (nothing i)) (length rows - length (nothing i)) (writes_of b now now.last_tick))
+    ∙ (λ i. answer_of.Imported 0 (whole i) (length ((Quiet-machine b E distinct).0 i)))

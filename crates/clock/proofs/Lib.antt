@@ -1,3 +1,4 @@
 pub mod AddedLemmas
 pub mod ClockedLemmas
 pub mod KnowingLemmas
+pub mod TodayLemmas

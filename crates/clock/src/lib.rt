@@ -7,9 +7,9 @@
 #![tactic(auto)]
 
 pub use adding::add_row;
-pub use importing::deliver_import;
+pub use importing::{deliver_import, deliver_import_after};
 pub use known::Known;
-pub use ticking::deliver_tick;
+pub use ticking::{deliver_tick, deliver_tick_after};
 
 mod adding;
 mod changing;

@@ -5,7 +5,7 @@ use Rattle.deliveries.proofs.ClockLemmas.{reply-refused, tables-refused}
 use Rattle.deliveries.proofs.DeliveredLemmas.{Delivers-read_only}
 use Rattle.clock.proofs.ClockedLemmas.{not_all-known}
 use Rattle.store.proofs.ReadLemmas.{changes_once_then}
-use Rattle.clock.proofs.importing.deliver_import.Goals as goal
+use Rattle.clock.proofs.importing.deliver_import_after.Goals as goal
 
 pub returns-in-Some-clause-delivers : goal.returns-in-Some-clause-delivers
 returns-in-Some-clause-delivers g c = λ earlier honest held.
