@@ -3,6 +3,7 @@ pub mod ClockLemmas
 pub mod DeliveredLemmas
 pub mod EmptyLemmas
 pub mod EventLemmas
+pub mod ImportedLemmas
 pub mod MachineLemmas
 pub mod MovedLemmas
 pub mod QuietLemmas

@@ -1,5 +1,5 @@
 -- One delivery to a store that holds the tables of earlier ones.
-use Rattle.std.specs.Prelude.{◌≡◌, ◌⊎◌, List, [], ◌∷◌, ◌++◌, Result, Ok, Err}
+use Rattle.std.specs.Prelude.{◌≡◌, ◌⊎◌, false, List, [], ◌∷◌, ◌++◌, Result, Ok, Err}
 use Rattle.store.specs.declared.fault.StoreFault.{StoreFault}
 use Rattle.store.specs.declared.fault.StoreFault.TheVariants.{NoMemory, Failed, Shut, BadRow}
 use Rattle.store.specs.Standing.{Content, Standing, sound}
@@ -28,3 +28,7 @@ Delivers building earlier delivery (Err NoMemory) now = Holds building earlier n
 Delivers building earlier delivery (Err Failed) now = LeavesEither building earlier (earlier ++ delivery ∷ []) now
 Delivers building earlier delivery (Err Shut) now = Holds building earlier now
 Delivers building earlier delivery (Err BadRow) now = ⊥
+
+-- what is imported stays as it is, as long as the store is open
+abbrev pub KeepsImported : Standing → Standing → Type 0
+KeepsImported old new = new.is_honest → new.is_shut ≡ false → new.content.tables.imported ≡ old.content.tables.imported

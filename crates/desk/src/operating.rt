@@ -1,10 +1,11 @@
 //! The desk.
-ghost use Rattle.std.specs.Prelude.{◌≡◌, ◌<◌, ◌⊎◌, List, [], None, Some, IfErr, IfOk, length, string_bytes};
+ghost use Rattle.std.specs.Prelude.{◌≡◌, ◌<◌, ◌⊎◌, false, List, [], None, Some, IfErr, IfOk, length, string_bytes};
 ghost use Rattle.std.specs.Bool.{IsTrue};
 ghost use Rattle.std.specs.Result.{result_err};
 ghost use Rattle.day_reports.specs.DayReport.{report_text};
 ghost use Rattle.points.specs.Rights.{point_named};
 ghost use Rattle.settling.specs.Calendars.{Tells};
+ghost use Rattle.settling.specs.Kept.{AreSpans, AreToday};
 ghost use Rattle.store.specs.declared.fault.StoreFault.TheVariants.{BadRow, NoMemory, Shut};
 ghost use Rattle.store.specs.Standing.{ChangesOnce, Goes, Reads, sound};
 ghost use Rattle.store.specs.Tables.{Text, no_tables};
@@ -17,21 +18,27 @@ ghost use Rattle.desk.specs.PointState.{state_of};
 use crate::opening::look_over;
 use crate::point_state::PointState;
 use building::Building;
-use clock::{deliver_import, deliver_tick};
+use clock::{deliver_import_after, deliver_tick_after};
 use dates::Day;
 use day_reports::day_report;
 use deliveries::{Delivery, Reply};
 use panel_commands::{deliver_command, deliver_skip};
 use points::Name;
+use settling::Kept;
 use std::alloc::Global;
 use store::{Store, StoreFault};
 
-/// A desk of a building, over a store of its tables.
+/// A desk of a building, over a store of its tables. Beside the store it keeps what was found of the day of the last tick: which
+/// calendars hold on it, and of each schedule the span over which its value stands.
 #[derive(Drop)]
-pub struct Desk<S> {
+pub struct Desk<S: Store + Drop> {
     alloc: Global,
     building: Building,
     store: S,
+    kept: Kept,
+    ghost spans: { AreSpans building kept },
+    ghost today: { (S.standing store).is_honest → (S.standing store).is_shut ≡ false
+        → AreToday building (S.standing store).content.tables.imported kept },
 }
 
 impl<S: Store + Drop> Desk<S> {
@@ -46,6 +53,7 @@ impl<S: Store + Drop> Desk<S> {
             alloc,
             building,
             store,
+            kept: Kept::new(),
         }
     }
 
@@ -70,6 +78,7 @@ impl<S: Store + Drop> Desk<S> {
                 alloc,
                 building,
                 store,
+                kept: Kept::new(),
             }),
             Err(fault) => Err((fault, store)),
         }
@@ -87,6 +96,14 @@ impl<S: Store + Drop> Desk<S> {
         ensures { result ≡ self.store }
     {
         self.store
+    }
+
+    /// How often a schedule was evaluated since the desk was opened; the count stays at its greatest value. A schedule whose
+    /// value stands over the time of a tick is not evaluated again.
+    pub fn evaluations(&self) -> u64
+        ensures { result ≡ self.now.kept.evaluations }
+    {
+        self.kept.evaluations()
     }
 
     /// Carries out one delivery and answers it: of whatever list the store holds the tables, it then holds those
@@ -121,13 +138,18 @@ impl<S: Store + Drop> Desk<S> {
                 panel,
                 *upto,
             ),
-            Delivery::Tick { at } => {
-                deliver_tick(self.alloc, &mut self.store, &self.building, *at)
-            }
-            Delivery::Import { rows } => deliver_import(
+            Delivery::Tick { at } => deliver_tick_after(
                 self.alloc,
                 &mut self.store,
                 &self.building,
+                &mut self.kept,
+                *at,
+            ),
+            Delivery::Import { rows } => deliver_import_after(
+                self.alloc,
+                &mut self.store,
+                &self.building,
+                &mut self.kept,
                 rows.as_slice(),
             ),
         }

@@ -6,7 +6,7 @@ ghost use Rattle.window.specs.Taken.{Ask, front};
 ghost use Rattle.deliveries.specs.declared.delivery.Delivery.{Delivery as a_delivery};
 ghost use Rattle.deliveries.specs.declared.delivery.Delivery.TheVariants as delivery_of;
 ghost use Rattle.deliveries.specs.Accepted.{number_upto, panel_named, taken_by};
-ghost use Rattle.deliveries.specs.Delivered.{Delivers, Holds};
+ghost use Rattle.deliveries.specs.Delivered.{Delivers, Holds, KeepsImported};
 ghost use Rattle.panel_commands.specs.Planned.{IsPlanned};
 
 use crate::carrying_out::{carry_out, is_in_range};
@@ -44,6 +44,7 @@ fn answer_plan<S: Store>(
     requires known { panel_named building.now panel.now.name ≡ Some panel.now }
     ensures goes { Goes (result_err result) (S.standing store.old) (S.standing store.new) }
     ensures changes_once { ChangesOnce (result_err result) (S.standing store.old) (S.standing store.new) }
+    ensures imported { KeepsImported (S.standing store.old) (S.standing store.new) }
     ensures delivers { (earlier : List a_delivery) (delivery : a_delivery) (ask : Ask)
         → IsPlanned building.now earlier delivery ask panel.now.name next number plan.now
         → (S.standing store.new).is_honest → Holds building.now earlier (S.standing store.old)
@@ -76,6 +77,7 @@ fn answer_known_command<S: Store>(
     requires known { panel_named building.now panel.now.name ≡ Some panel.now }
     ensures goes { Goes (result_err result) (S.standing store.old) (S.standing store.new) }
     ensures changes_once { ChangesOnce (result_err result) (S.standing store.old) (S.standing store.new) }
+    ensures imported { KeepsImported (S.standing store.old) (S.standing store.new) }
     ensures delivers { (earlier : List a_delivery) → next ≡ front (taken_by building.now panel.now.name earlier)
         → (S.standing store.new).is_honest → Holds building.now earlier (S.standing store.old)
         → Delivers building.now earlier (delivery_of.Command panel.now.name number content.now) result (S.standing store.new) }
@@ -101,6 +103,7 @@ fn answer_known_skip<S: Store>(
     requires known { panel_named building.now panel.now.name ≡ Some panel.now }
     ensures goes { Goes (result_err result) (S.standing store.old) (S.standing store.new) }
     ensures changes_once { ChangesOnce (result_err result) (S.standing store.old) (S.standing store.new) }
+    ensures imported { KeepsImported (S.standing store.old) (S.standing store.new) }
     ensures delivers { (earlier : List a_delivery) → next ≡ front (taken_by building.now panel.now.name earlier)
         → (S.standing store.new).is_honest → Holds building.now earlier (S.standing store.old)
         → Delivers building.now earlier (delivery_of.Skip panel.now.name upto) result (S.standing store.new) }
@@ -126,6 +129,7 @@ pub fn deliver_command<S: Store>(
 ) -> Result<Reply, StoreFault>
     ensures goes { Goes (result_err result) (S.standing store.old) (S.standing store.new) }
     ensures changes_once { ChangesOnce (result_err result) (S.standing store.old) (S.standing store.new) }
+    ensures imported { KeepsImported (S.standing store.old) (S.standing store.new) }
     ensures delivers { (earlier : List a_delivery) → (S.standing store.new).is_honest → Holds building.now earlier (S.standing store.old)
         → Delivers building.now earlier (delivery_of.Command name.now number content.now) result (S.standing store.new) }
 {
@@ -146,6 +150,7 @@ pub fn deliver_skip<S: Store>(
 ) -> Result<Reply, StoreFault>
     ensures goes { Goes (result_err result) (S.standing store.old) (S.standing store.new) }
     ensures changes_once { ChangesOnce (result_err result) (S.standing store.old) (S.standing store.new) }
+    ensures imported { KeepsImported (S.standing store.old) (S.standing store.new) }
     ensures delivers { (earlier : List a_delivery) → (S.standing store.new).is_honest → Holds building.now earlier (S.standing store.old)
         → Delivers building.now earlier (delivery_of.Skip name.now upto) result (S.standing store.new) }
 {

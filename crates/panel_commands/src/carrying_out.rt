@@ -4,6 +4,7 @@ ghost use Rattle.std.specs.List.{All, list_all};
 ghost use Rattle.std.specs.Option.{option_map_or};
 ghost use Rattle.std.specs.Result.{result_err};
 ghost use Rattle.deliveries.specs.Accepted.{panel_named};
+ghost use Rattle.deliveries.specs.Delivered.{KeepsImported};
 ghost use Rattle.deliveries.specs.Moved.{parked_rows};
 ghost use Rattle.store.specs.Change.{CanStand, IsKeptRow, IsNumber, IsPlace};
 ghost use Rattle.window.specs.declared.numbered_content.NumberedContent.{NumberedContent as an_entry};
@@ -129,6 +130,7 @@ pub fn carry_out<S: Store>(
     requires ranges { IsInRange plan.now }
     ensures carries { Carries building.now panel.now.name plan.now result (S.standing store.old) (S.standing store.new) }
     ensures changes_once { ChangesOnce (result_err result) (S.standing store.old) (S.standing store.new) }
+    ensures imported { KeepsImported (S.standing store.old) (S.standing store.new) }
 {
     let acted = act_on_each(alloc, store, building, panel, plan.apply.as_slice())?;
     let answer = first_answer(acted.rows.as_slice());

@@ -1,4 +1,4 @@
-use Rattle.std.proofs.Common.{◌≡◌, ◌∙◌, [], List, length, sym, ap, subst, Some, None, to_z, of_z, w64, rules}
+use Rattle.std.proofs.Common.{◌≡◌, [], List, length, sym, subst, Some, None, to_z, of_z, w64, rules}
 use Rattle.deliveries.specs.declared.delivery.Delivery.TheVariants.{Tick}
 use Rattle.deliveries.specs.declared.reply.Reply.TheVariants.{Ticked}
 use Rattle.deliveries.specs.Clocked.{Settles}
@@ -7,9 +7,9 @@ use Rattle.settling.specs.Calendars.{with_items}
 use Rattle.settling.proofs.KeptLemmas.{no_items}
 use Rattle.store.specs.Tables.{Text}
 use Rattle.clock.proofs.ClockedLemmas.{Settled-over, ticked-reply, ticked-tables}
-use Rattle.store.proofs.ReadLemmas.{changes_once_commit, kept-read}
-use Rattle.store.specs.Standing.{Content}
-use Rattle.clock.proofs.TodayLemmas.{commit_imported, today_of}
+use Rattle.store.proofs.ReadLemmas.{changes_once_commit}
+use Rattle.deliveries.proofs.ImportedLemmas.{imported_commit, imported_then}
+use Rattle.clock.proofs.TodayLemmas.{today_of}
 use Rattle.clock.proofs.ticking.tick_at.Goals as goal
 
 pub returns-in-Ok-clause-delivers : goal.returns-in-Ok-clause-delivers
@@ -69,8 +69,8 @@ returns-in-Ok-clause-today g c = λ honest going today.
     let commits = c.in-Ok.ensures.commits in
     let before = commits.goes.honest honest in
     let same : third.content.tables.imported ≡ first.content.tables.imported =
-    commit_imported c.in_ok-change.change None second third commits c.in_ok-change.ensures.imports honest going
-    ∙ ap (λ (content : Content). content.tables.imported) (kept-read first second c.in_ok-change.ensures.reads before) in
+    imported_then first second third c.in_ok-change.ensures.reads commits.goes.honest
+    (imported_commit c.in_ok-change.change None second third commits c.in_ok-change.ensures.imports) honest going in
     today_of b first.content.tables.imported third.content.tables.imported c.ticked_change.new.kept same
     (c.in_ok-change.ensures.today before today)
 
@@ -83,7 +83,7 @@ returns-clause-today g c = λ honest going today.
     let commits = c.in-Err.ensures.commits in
     let before = commits.goes.honest honest in
     let same : third.content.tables.imported ≡ first.content.tables.imported =
-    commit_imported c.in_ok-change.change (Some c.in-Err.fault) second third commits c.in_ok-change.ensures.imports honest going
-    ∙ ap (λ (content : Content). content.tables.imported) (kept-read first second c.in_ok-change.ensures.reads before) in
+    imported_then first second third c.in_ok-change.ensures.reads commits.goes.honest
+    (imported_commit c.in_ok-change.change (Some c.in-Err.fault) second third commits c.in_ok-change.ensures.imports) honest going in
     today_of b first.content.tables.imported third.content.tables.imported c.ticked_change.new.kept same
     (c.in_ok-change.ensures.today before today)

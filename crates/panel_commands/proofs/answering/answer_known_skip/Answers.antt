@@ -8,6 +8,7 @@ use Rattle.window.specs.Taken as asks
 use Rattle.panel_commands.specs.Planned.{IsPlanned}
 use Rattle.panel_commands.proofs.PlannedLemmas.{planned-skip}
 use Rattle.store.proofs.ReadLemmas.{changes_once_then}
+use Rattle.deliveries.proofs.ImportedLemmas.{imported_then}
 use Rattle.panel_commands.proofs.answering.answer_known_skip.Goals as goal
 
 pub returns-in_default-clause-delivers : goal.returns-in_default-clause-delivers
@@ -38,3 +39,8 @@ returns-clause-delivers g c = λ earlier next_is honest held.
 pub returns-clause-changes_once : goal.returns-clause-changes_once
 returns-clause-changes_once g c =
     changes_once_then _ _ _ _ c.in_ok-view.ensures.reads c.answer_plan.ensures.goes.honest c.answer_plan.ensures.changes_once
+
+pub returns-clause-imported : goal.returns-clause-imported
+returns-clause-imported g c =
+    imported_then (g.S.Store.standing c.args.store.now) (g.S.Store.standing c.view_for_skip.new.store)
+    (g.S.Store.standing c.answer_plan.new.store) c.in_ok-view.ensures.reads c.answer_plan.ensures.goes.honest c.answer_plan.ensures.imported

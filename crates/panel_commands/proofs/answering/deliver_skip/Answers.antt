@@ -7,6 +7,7 @@ use Rattle.deliveries.proofs.StepLemmas.{reply-unknown, tables-unknown}
 use Rattle.panel_commands.proofs.CommandLemmas.{name_of-named, named-again}
 use Rattle.panel_commands.proofs.PlannedLemmas.{next-held}
 use Rattle.store.proofs.ReadLemmas.{changes_once_then}
+use Rattle.deliveries.proofs.ImportedLemmas.{imported_then}
 use Rattle.panel_commands.proofs.answering.deliver_skip.Goals as goal
 
 pub answer_known_skip-requires-clause-known : goal.answer_known_skip-requires-clause-known
@@ -39,3 +40,8 @@ returns-in-None-clause-delivers g c = λ earlier honest held.
 pub returns-in-Some-clause-changes_once : goal.returns-in-Some-clause-changes_once
 returns-in-Some-clause-changes_once g c =
     changes_once_then _ _ _ _ c.in_ok-next.ensures.reads c.answer_known_skip.ensures.goes.honest c.answer_known_skip.ensures.changes_once
+
+pub returns-in-Some-clause-imported : goal.returns-in-Some-clause-imported
+returns-in-Some-clause-imported g c =
+    imported_then (g.S.Store.standing c.args.store.now) (g.S.Store.standing c.panel_next.new.self)
+    (g.S.Store.standing c.answer_known_skip.new.store) c.in_ok-next.ensures.reads c.answer_known_skip.ensures.goes.honest c.answer_known_skip.ensures.imported

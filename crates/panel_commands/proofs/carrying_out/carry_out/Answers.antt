@@ -3,6 +3,7 @@ use Rattle.deliveries.specs.Moved.{answered_rows, places_after_each}
 use Rattle.panel_commands.specs.Carried.{first_told}
 use Rattle.store.proofs.ReadLemmas.{changes_once_commit}
 use Rattle.panel_commands.proofs.CarryLemmas.{Carries-committed, change-moved, first_told-answered}
+use Rattle.deliveries.proofs.ImportedLemmas.{imported_commit, imported_then}
 use Rattle.panel_commands.proofs.carrying_out.carry_out.Goals as goal
 
 pub returns-clause-carries : goal.returns-clause-carries
@@ -54,3 +55,15 @@ pub returns-in-Ok-clause-changes_once : goal.returns-in-Ok-clause-changes_once
 returns-in-Ok-clause-changes_once g c =
     changes_once_commit c.in_ok-change.change _ _ (g.S.Store.standing c.act_on_each.new.store) _ c.in_ok-acted.ensures.reads
     c.in-Ok.ensures.commits
+
+pub returns-clause-imported : goal.returns-clause-imported
+returns-clause-imported g c =
+    imported_then (g.S.Store.standing c.args.store.now) (g.S.Store.standing c.act_on_each.new.store)
+    (g.S.Store.standing c.commit.new.self) c.in_ok-acted.ensures.reads c.in-Err.ensures.commits.goes.honest
+    (imported_commit c.in_ok-change.change _ (g.S.Store.standing c.act_on_each.new.store) (g.S.Store.standing c.commit.new.self) c.in-Err.ensures.commits c.in_ok-change.ensures.change.imported)
+
+pub returns-in-Ok-clause-imported : goal.returns-in-Ok-clause-imported
+returns-in-Ok-clause-imported g c =
+    imported_then (g.S.Store.standing c.args.store.now) (g.S.Store.standing c.act_on_each.new.store)
+    (g.S.Store.standing c.commit.new.self) c.in_ok-acted.ensures.reads c.in-Ok.ensures.commits.goes.honest
+    (imported_commit c.in_ok-change.change _ (g.S.Store.standing c.act_on_each.new.store) (g.S.Store.standing c.commit.new.self) c.in-Ok.ensures.commits c.in_ok-change.ensures.change.imported)

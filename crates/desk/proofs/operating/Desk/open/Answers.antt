@@ -13,3 +13,10 @@ returns-in-Ok-clause-begins g c = λ empty honest.
     let old = g.S.Store.standing c.args.store in
     let new = g.S.Store.standing c.look_over.new.store in
     Opens-empty c.args.building old new c.in-Ok.ensures honest empty
+
+-- nothing is kept
+pub invariant_of-result : goal.invariant_of-result
+invariant_of-result g c = record {
+  spans = c.new.ensures.spans c.args.building;
+  today = λ _ _. c.new.ensures.today c.args.building (g.S.Store.standing c.look_over.new.store).content.tables.imported;
+}
