@@ -258,7 +258,14 @@ fn settle_on<S: Store>(
     ensures day { kept.new.day ≡ kept.old.day }
     ensures calendars { kept.new.calendars ≡ kept.old.calendars }
 {
-    let all = settle_each(alloc, store, kept, evaluations, building.schedules(), &local)?;
+    let all = settle_each(
+        alloc,
+        store,
+        kept,
+        evaluations,
+        building.schedules(),
+        &local,
+    )?;
     Ok(joined(all)?)
 }
 
@@ -310,7 +317,14 @@ pub fn settle<S: Store>(
 {
     kept.forget();
     let mut day = new_day(alloc, store, building, items, local.day)?;
-    settle_on(alloc, store, building, &mut day, &mut kept.evaluations, local)
+    settle_on(
+        alloc,
+        store,
+        building,
+        &mut day,
+        &mut kept.evaluations,
+        local,
+    )
 }
 
 // The day, if it is the one that is kept, or else a new one.
@@ -367,7 +381,14 @@ pub fn settle_again<S: Store>(
         → AreToday building.now (S.standing store.old).content.tables.imported kept.new }
 {
     let mut day = day_of(alloc, store, building, kept, local.day)?;
-    let settlement = settle_on(alloc, store, building, &mut day, &mut kept.evaluations, local)?;
+    let settlement = settle_on(
+        alloc,
+        store,
+        building,
+        &mut day,
+        &mut kept.evaluations,
+        local,
+    )?;
     kept.day = Some(day);
     Ok(settlement)
 }
