@@ -47,7 +47,7 @@ impl Time {
         }
     }
 
-    /// The time a hundredth of a second before; of midnight itself.
+    /// The time a hundredth of a second before; of midnight, midnight itself.
     pub(crate) fn hundredth_before(self) -> Time
         ensures { result ≡ self - 1 }
     {
