@@ -1,8 +1,8 @@
 -- No difference is found just where tables agree.
-use Rattle.std.proofs.Common.{◌≡◌, ◌∙◌, ℕ, zero, suc, ◌+◌, ◌-◌, ◌≤◌, ◌<◌, ◌==◌, ◌↔◌, min, max, Bool, true, false, List, [], ◌∷◌, ◌++◌, length, map, Option, refl, sym, ap, subst, arith}
+use Rattle.std.proofs.Common.{◌≡◌, ◌∙◌, ℕ, zero, suc, ◌-◌, ◌≤◌, ◌<◌, ◌==◌, min, max, Bool, true, false, List, [], ◌∷◌, ◌++◌, map, refl, sym, ap, subst, arith}
 use Rattle.std.specs.Bool.{IsTrue}
 use Rattle.std.specs.FinMap.{get}
-use Rattle.std.specs.List.{AllZip, Contains, flat_map, list_any, range_with_len}
+use Rattle.std.specs.List.{AllZip, Contains, flat_map}
 use Rattle.std.specs.Cmp.{decided}
 use Rattle.std.specs.Str.{bytes_eq}
 use Rattle.std.proofs.lemmas.Bool.Decides.{Decides-eqb}
@@ -10,7 +10,6 @@ use Rattle.std.proofs.Math.Nat.{le-max_right, max-eq_left, min-eq_left}
 use Rattle.std.proofs.lemmas.Grind.{flat_map-append}
 use Rattle.std.proofs.lemmas.Map.Views.{Contains-from_any, list_any-from_Contains}
 use Rattle.std.proofs.lemmas.Slice.Eq.{bytes_eq-Decides}
-use Rattle.building.specs.Building.{Building}
 use Rattle.building.specs.declared.named_calendar.NamedCalendar.{NamedCalendar}
 use Rattle.building.specs.declared.named_schedule.NamedSchedule.{NamedSchedule}
 use Rattle.dates.specs.declared.entry.Entry.{Entry}
@@ -22,7 +21,7 @@ use Rattle.store.specs.Tables.{Tables, Text}
 use Rattle.record_check.specs.Agreeing.{Agree, AgreeAtPanel, AgreeAtPoint, NoDifferenceWhereTablesAgree}
 use Rattle.record_check.specs.declared.difference.Difference.{Difference}
 use Rattle.record_check.specs.declared.difference.Difference.TheVariants.{Command, LastTick, NextNumber, NotRecorded, Place, RecordedAlone, Shown}
-use Rattle.record_check.specs.Differences.{AreDifferences, OfCalendar, OfCalendars, between, end_number, first_number, is_among, numbers_of, of_command, of_entries, of_last_tick, of_next, of_panel, of_point, of_schedule, of_value, same_row, same_shown, same_value}
+use Rattle.record_check.specs.Differences.{OfCalendar, between, end_number, first_number, is_among, numbers_of, of_command, of_entries, of_last_tick, of_next, of_panel, of_point, of_schedule, of_value, same_row, same_shown, same_value}
 use Rattle.record_check.specs.Unless.{unless}
 use Rattle.record_check.proofs.NothingLemmas.{all-none, both-none, no-both, none-at, none-in, none-unless, range-none, unless-none}
 use Rattle.record_check.proofs.SameLemmas.{row-Decides, shown-Decides, value-Decides}
