@@ -4,7 +4,7 @@
 Usage: try_record.py PROGRAM
 
 A list that is served stands in the record as it came, and what delivers nothing leaves no line. A record that can't be
-written ends the run. The page of C of `stop_each.py` stops a run at each call that changes the record or the database, or
+written ends the run, and so does a file that ends as no line of a record begins, which is left as it is. The page of C of `stop_each.py` stops a run at each call that changes the record or the database, or
 has the call fail: what got a reply stands in the record, a delivery whose line failed is not made, and the next run with
 the record leaves the tables of its list. What is wanted is what the plain slow program tells. The last line printed is
 `N passed, M failed`.
@@ -47,6 +47,10 @@ NOT_MADE = response(500, b'{"answer":"store"}')
 PENDING = command("P2", 3, "R101-SET", 15, 2300)
 TICK, IMPORT = Tick(174890160000), Import((("HOLIDAYS", "2025-06-02"), ("HOLIDAYS", "2025-06-09")))
 SENT = (light(5), light(5), TICK, IMPORT, Skip("P1", 9))
+# What a stop may leave of a line, and what no record ends with.
+TORN = b'{"panel":"P'
+BEGUN = (b"", b"{", b'{"n', TORN, b'{"import":"calendar,entry', b'{"tick":1748844')
+NO_LINES = (b"hello", b"[", b'{"torn":', b"\0\0\0", LINE[1:-1])
 
 
 class Error(IntEnum):
@@ -244,6 +248,36 @@ def a_record_that_another_desk_keeps_is_not_taken(program, folder):
     expect(recorded.bytes_of(folder), LINE)
 
 
+# ---- a file that is no record
+
+def a_file_that_ends_as_no_line_is_left_as_it_is(program, folder):
+    """Whether or not whole lines stand before. Nothing is delivered."""
+    put_down(folder)
+    (folder / "holidays.csv").write_text("calendar,entry\nHOLIDAYS,2025-06-09\n")
+    before = databases.held(folder)
+    asks = (["tick", "building.toml", "desk.db", "174890160000"], ["import", "building.toml", "desk.db", "holidays.csv"],
+            ["serve", "building.toml", "desk.db", "127.0.0.1:0", "--requests", "1"])
+    for text in (lines + end for lines in (b"", recorded.lines_of(EACH_KIND)) for end in NO_LINES):
+        for words in asks:
+            (folder / recorded.NAME).write_bytes(text)
+            ran = subprocess.run([program, *words, *recorded.KEPT], cwd=folder, capture_output=True, timeout=SECONDS)
+            told = f"desk: the last line of {recorded.NAME} is not a delivery\n".encode()
+            expect((text, words, ran.returncode, ran.stdout, ran.stderr), (text, words, 1, b"", told))
+            expect((recorded.bytes_of(folder), databases.held(folder)), (text, before))
+
+
+def what_a_stop_left_of_a_line_is_taken_off(program, folder):
+    put_down(folder)
+    listed = [*EACH_KIND]
+    for number, end in enumerate(BEGUN):
+        (folder / recorded.NAME).write_bytes(recorded.lines_of(listed) + end)
+        tick = Tick(TICK.at + number)
+        reply = run_of(BUILDING, [*listed, tick])[0][-1]
+        by_words(program, folder, tick, reply)
+        listed.append(tick)
+        recorded.in_step(folder, BUILDING, listed)
+
+
 # ---- trouble at each call
 
 class Trial:
@@ -266,7 +300,7 @@ class Trial:
 
     def begin(self):
         databases.put_back(self.folder / "kept", self.folder)
-        (self.folder / recorded.NAME).write_bytes(recorded.lines_of(self.listed) + b'{"torn":')
+        (self.folder / recorded.NAME).write_bytes(recorded.lines_of(self.listed) + TORN)
 
     def run(self, environment):
         """What a run that makes each delivery in turn got before it ended: how many whole replies, what came after them, and
@@ -301,7 +335,7 @@ class Trial:
         list, or where it is not said that they are exactly those with what was answered, also those with one less."""
         unanswered = self.sent[count] if count < len(self.sent) else None
         made = [*self.listed, *self.sent[:count]]
-        found = recorded.found_after(self.folder, made, unanswered, b'{"torn":' if count == 0 else b"")
+        found = recorded.found_after(self.folder, made, unanswered, TORN if count == 0 else b"")
         held = databases.held(self.folder)
         wanted = [self.tables[count + 1]]
         if not exactly:
@@ -409,6 +443,8 @@ TESTS = (
     a_record_is_begun_anew_as_the_document_tells,
     a_record_that_another_desk_keeps_is_not_taken,
     a_record_that_can_not_be_opened_ends_the_run,
+    a_file_that_ends_as_no_line_is_left_as_it_is,
+    what_a_stop_left_of_a_line_is_taken_off,
     a_served_record_meets_trouble,
     a_recorded_tick_meets_trouble,
     a_recorded_import_meets_trouble,

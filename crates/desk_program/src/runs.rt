@@ -146,8 +146,11 @@ where
                 out,
                 fault,
             )
+            .into_ended()
         }
-        Asked::Tick { at } => tick(alloc, input_of(file), opener, recording, *at, out, fault),
+        Asked::Tick { at } => {
+            tick(alloc, input_of(file), opener, recording, *at, out, fault).into_ended()
+        }
         Asked::Report { date } => report(alloc, input_of(file), opener, date, out, fault),
         Asked::Serve(serving) => serve(rt, input_of(file), opener, recording, serving, out, fault),
     }

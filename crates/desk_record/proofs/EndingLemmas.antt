@@ -10,6 +10,7 @@ use Rattle.desk_record.specs.LastLine.{TellsLast}
 use Rattle.desk_record.specs.Lines.{IsLine, IsWhole, whole_lines}
 use Rattle.desk_record.specs.Recorded.{Follows, HasTables, IsBehind, IsLineOf, listed}
 use Rattle.desk_record.specs.Resuming.{IsMended, KeepsLines}
+use Rattle.desk_record.specs.Torn.{IsTorn}
 use Rattle.desk_record.proofs.DiskLemmas.{cut-done}
 use Rattle.desk_record.proofs.InStepLemmas.{listed-put, listed-same}
 use Rattle.desk_record.proofs.LineLemmas.{IsWhole-more, whole-append, whole_lines-none}
@@ -47,12 +48,14 @@ record IsCut (b : Building) (file : List ℕ) (whole : ℕ) : Type 0 where
   within : whole ≤ length file
   ended : IsWhole (take whole file)
   lists : listed b (take whole file) ≡ listed b file
+  torn : (rest : List ℕ) × (file ≡ take whole file ++ rest) × IsTorn rest
 
 cut-of : (b : Building) (file : List ℕ) (whole : ℕ) (delivery : Option Delivery) → TellsLast b file whole delivery → IsCut b file whole
 cut-of b file whole None (start, none) = record {
   within = omega (arith, start);
   ended = inl (ap (λ n. take n file) start);
-  lists = ap (λ n. listed b (take n file)) start ∙ sym (listed-same b [] file (whole_lines-none file none));
+  lists = ap (λ n. listed b (take n file)) start ∙ sym (listed-same b [] file (whole_lines-none file none.0));
+  torn = (file, sym (ap (λ n. take n file ++ file) start), none);
 }
 cut-of b file whole (Some d) (before, line, after, is, size, first, tells, none) =
     let front = before ++ (line ++ 10 ∷ []) in
@@ -61,7 +64,8 @@ cut-of b file whole (Some d) (before, line, after, is, size, first, tells, none)
     record {
       within = omega (arith, size, ap length all, length-append front after);
       ended = subst IsWhole (sym cut) (IsWhole-more before line);
-      lists = ap (listed b) cut ∙ sym (ap (listed b) all ∙ listed-cut b front after (IsWhole-more before line) none);
+      lists = ap (listed b) cut ∙ sym (ap (listed b) all ∙ listed-cut b front after (IsWhole-more before line) none.0);
+      torn = (after, all ∙ ap (λ lines. lines ++ after) (sym cut), none);
     }
 
 module _ (b : Building) (file new : List ℕ) (whole : ℕ) (delivery : Option Delivery) (tells : TellsLast b file whole delivery)
@@ -75,6 +79,7 @@ module _ (b : Building) (file new : List ℕ) (whole : ℕ) (delivery : Option D
       let is = cut-done file new whole left.within cut size in
       record {
         whole = subst IsWhole (sym is) left.ended;
+        torn = let (rest, joined, torn) = left.torn in (rest, joined ∙ ap (λ lines. lines ++ rest) (sym is), torn);
         lists = ap (listed b) is ∙ left.lists;
         on_disk = only;
       }
@@ -92,8 +97,8 @@ only-whole b list content none (inr (earlier, last, is, held)) = absurd (no-last
 pub has-none : (b : Building) (file : List ℕ) (whole : ℕ) (delivery : Option Delivery) (store : Standing) → delivery ≡ None
     → TellsLast b file whole delivery → IsBehind b (listed b file) store → HasTables b (listed b file) store
 has-none b file whole None store is (start, none) behind = record {
-  holds = λ opened. only-whole b (listed b file) store.content (listed-none b file none) (behind.holds opened);
-  leaves = λ content left. only-whole b (listed b file) content (listed-none b file none) (behind.leaves content left);
+  holds = λ opened. only-whole b (listed b file) store.content (listed-none b file none.0) (behind.holds opened);
+  leaves = λ content left. only-whole b (listed b file) content (listed-none b file none.0) (behind.leaves content left);
 }
 has-none b file whole (Some d) store is tells behind = absurd (let no : ⊥ = cc in no)
 
@@ -103,7 +108,7 @@ module _ (b : Building) (file : List ℕ) (whole : ℕ) (d : Delivery) (old new 
       → IsBehind b (listed b file) old → HasTables b (listed b file) new
   has-last delivery is tells made behind =
       let (before, line, after, all, size, first, told, none) = subst (TellsLast b file whole) is tells in
-      let lists = listed-last b file before line after d all first told none in
+      let lists = listed-last b file before line after d all first told none.0 in
       subst (λ list. HasTables b list new) (sym lists) (made (listed b before) (subst (λ list. IsBehind b list old) lists behind))
 
   pub stays-behind : (delivery : Option Delivery) → delivery ≡ Some d → TellsLast b file whole delivery
@@ -111,5 +116,5 @@ module _ (b : Building) (file : List ℕ) (whole : ℕ) (d : Delivery) (old new 
       → IsBehind b (listed b file) old → IsBehind b (listed b file) new
   stays-behind delivery is tells kept behind =
       let (before, line, after, all, size, first, told, none) = subst (TellsLast b file whole) is tells in
-      let lists = listed-last b file before line after d all first told none in
+      let lists = listed-last b file before line after d all first told none.0 in
       subst (λ list. IsBehind b list new) (sym lists) (kept (listed b before) (subst (λ list. IsBehind b list old) lists behind))

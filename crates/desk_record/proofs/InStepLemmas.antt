@@ -44,6 +44,12 @@ listed-put b d bytes line whole is =
     listed-more b d bytes line (bytes ++ (line ++ 10 ∷ [])) is
     (whole-append bytes (line ++ 10 ∷ []) whole ∙ ap (λ lines. whole_lines bytes ++ lines) (whole_lines-one line is.one))
 
+-- a record that a delivery was written down in tells it last
+pub listed-written : (b : Building) (d : Delivery) (old new : RecordStanding) (store : Standing) → InStep b old store → HasWritten b d old new
+    → listed b new.bytes ≡ listed b old.bytes ++ d ∷ []
+listed-written b d old new store step (line, is, put) =
+    ap (listed b) put.bytes ∙ listed-put b d old.bytes line (step.level put.was_open).whole is
+
 -- what a stop leaves of one line more
 pub Follows-between : (b : Building) (d : Delivery) (bytes line left : List ℕ) (content : Content) → IsWhole bytes → IsLineOf b d line
     → IsBetween bytes (bytes ++ (line ++ 10 ∷ [])) left → content ≡ sound (tables b (listed b bytes)) → Follows b (listed b left) content

@@ -1,7 +1,8 @@
 -- The last line of bytes, and of a file that they end.
 use Rattle.std.proofs.Common.{◌≡◌, ℕ, ◌+◌, ◌==◌, false, List, [], ◌∷◌, ◌++◌, length, take, drop, ◌-◌, Option, Some, None, refl, sym, ap, ◌∙◌, subst, append_assoc, arith, inl, inr, length-append}
-use Rattle.std.proofs.lemmas.List.{append-nil}
+use Rattle.std.proofs.lemmas.List.{append-nil, length-drop, take_all}
 use Rattle.std.proofs.lemmas.List.Folds.{list_any-append}
+use Rattle.std.specs.Bool.{IsTrue}
 use Rattle.std.proofs.Math.Seq.{drop-append_seam, take-append_seam}
 use Rattle.building.specs.Building.{Building}
 use Rattle.deliveries.specs.declared.delivery.Delivery.{Delivery}
@@ -10,6 +11,7 @@ use Rattle.delivery_lines.specs.DeliveryLine.{told_of}
 use Rattle.desk_record.specs.declared.last_line.LastLine.{LastLine}
 use Rattle.desk_record.specs.LastLine.{HasLastLine, IsLastEnd, IsWholeBehind, TellsLast}
 use Rattle.desk_record.specs.Lines.{IsLine, IsWhole}
+use Rattle.desk_record.specs.Torn.{IsTorn, may_be_torn}
 
 IsLine-push : (bytes : List ℕ) (byte : ℕ) → IsLine bytes → (byte == 10) ≡ false → IsLine (bytes ++ byte ∷ [])
 IsLine-push bytes byte none other =
@@ -57,6 +59,13 @@ empty-of : (front : List ℕ) → length front ≡ 0 → front ≡ []
 empty-of [] size = refl
 empty-of (byte ∷ front) size = absurd (omega (arith, size))
 
+-- a file that is one line without its end
+pub tells-none : (from : ℕ) (bytes : List ℕ) → from ≡ 0 → IsLine bytes → IsTrue (may_be_torn bytes)
+    → (file front : List ℕ) → file ≡ front ++ bytes → length front ≡ from → IsTorn file
+tells-none from bytes start one torn file front joined size =
+    let is : file ≡ bytes = joined ∙ ap (λ first. first ++ bytes) (empty-of front (size ∙ start)) in
+    subst IsTorn (sym is) (one, torn)
+
 IsWhole-behind : (from : ℕ) (front before : List ℕ) → length front ≡ from → IsWholeBehind from before → IsWhole (front ++ before)
 IsWhole-behind from front before size (inl (start, none)) =
     inl (ap (λ rest. front ++ rest) none ∙ append-nil front ∙ empty-of front (size ∙ start))
@@ -72,10 +81,22 @@ line-of bytes before line after start end is from to =
     ap (λ n. drop n bytes) (sym from) ∙ ap (drop (length before)) is ∙ drop-append_seam before (line ++ 10 ∷ after) in
     ap (λ n. take n (drop start bytes)) size ∙ ap (take (length line)) rest ∙ take-append_seam line (10 ∷ after)
 
+-- what stands after the last line
+after-of : (bytes before line after : List ℕ) (end : ℕ) → bytes ≡ before ++ (line ++ 10 ∷ after) → length (before ++ line) ≡ end
+    → take (length bytes - (end + 1)) (drop (end + 1) bytes) ≡ after
+after-of bytes before line after end is size =
+    let front = (before ++ line) ++ 10 ∷ [] in
+    let split : bytes ≡ front ++ after =
+    is ∙ sym (append_assoc before line (10 ∷ after)) ∙ sym (append_assoc (before ++ line) (10 ∷ []) after) in
+    let sized : length front ≡ end + 1 = length-append (before ++ line) (10 ∷ []) ∙ ap (λ n. n + 1) size in
+    take_all (length bytes - (end + 1)) (drop (end + 1) bytes) (omega (arith, length-drop (end + 1) bytes))
+    ∙ ap (λ n. drop n bytes) (sym sized) ∙ ap (drop (length front)) split ∙ drop-append_seam front after
+
 pub tells-last : (b : Building) (d : Delivery) (from : ℕ) (bytes : List ℕ) (last : LastLine) → HasLastLine from bytes (Some last)
+    → IsTrue (may_be_torn (take (length bytes - (last.end + 1)) (drop (last.end + 1) bytes)))
     → told_of b (take (last.end - last.start) (drop last.start bytes)) ≡ Some (told.Delivery d)
     → (file front : List ℕ) → file ≡ front ++ bytes → length front ≡ from → TellsLast b file (from + last.end + 1) (Some d)
-tells-last b d from bytes last (before, line, after, is, start, end, whole, one, none) tells file front joined size =
+tells-last b d from bytes last (before, line, after, is, start, end, whole, one, none) torn tells file front joined size =
     let same = line-of bytes before line after last.start last.end is start end in (
       front ++ before,
       line,
@@ -84,7 +105,7 @@ tells-last b d from bytes last (before, line, after, is, start, end, whole, one,
       sized,
       IsWhole-behind from front before size whole,
       record { one = one; tells = subst (λ text. told_of b text ≡ Some (told.Delivery d)) same tells },
-      none,
+      (none, subst (λ rest. IsTrue (may_be_torn rest)) (after-of bytes before line after last.end is end) torn),
     )
   where
     sized : length ((front ++ before) ++ (line ++ 10 ∷ [])) ≡ from + last.end + 1

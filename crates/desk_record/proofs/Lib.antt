@@ -8,3 +8,4 @@ pub mod InStepLemmas
 pub mod LastLemmas
 pub mod LineLemmas
 pub mod ResumeLemmas
+pub mod TornLemmas

@@ -5,6 +5,7 @@ use Rattle.deliveries.specs.declared.delivery.Delivery.{Delivery}
 use Rattle.desk_record.specs.declared.last_line.LastLine.{LastLine}
 use Rattle.desk_record.specs.Lines.{IsLine, IsWhole}
 use Rattle.desk_record.specs.Recorded.{IsLineOf}
+use Rattle.desk_record.specs.Torn.{IsTorn}
 
 -- where the last line end of bytes stands
 abbrev pub IsLastEnd : Option ℕ → List ℕ → Type 0
@@ -23,9 +24,10 @@ HasLastLine from bytes (Some last) =
     (before : List ℕ) × (line : List ℕ) × (after : List ℕ) × (bytes ≡ before ++ (line ++ 10 ∷ after))
     × (length before ≡ last.start) × (length (before ++ line) ≡ last.end) × IsWholeBehind from before × IsLine line × IsLine after
 
--- the delivery that the last whole line of a file tells, and how many bytes are whole lines; none where there is no line
+-- the delivery that the last whole line of a file tells, and how many bytes are whole lines; none where there is no line.
+-- What stands after them may be torn.
 abbrev pub TellsLast : Building → List ℕ → ℕ → Option Delivery → Type 0
-TellsLast building file whole None = (whole ≡ 0) × IsLine file
+TellsLast building file whole None = (whole ≡ 0) × IsTorn file
 TellsLast building file whole (Some delivery) =
     (before : List ℕ) × (line : List ℕ) × (after : List ℕ) × (file ≡ before ++ (line ++ 10 ∷ after))
-    × (length (before ++ (line ++ 10 ∷ [])) ≡ whole) × IsWhole before × IsLineOf building delivery line × IsLine after
+    × (length (before ++ (line ++ 10 ∷ [])) ≡ whole) × IsWhole before × IsLineOf building delivery line × IsTorn after

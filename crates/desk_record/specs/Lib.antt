@@ -8,3 +8,4 @@ pub mod RecordStanding
 pub mod Recorded
 pub mod Recording
 pub mod Resuming
+pub mod Torn

@@ -1,9 +1,10 @@
 //! A delivery that is written down before it is made.
-ghost use Rattle.std.specs.Prelude.{◌≡◌, List, Err};
+ghost use Rattle.std.specs.Prelude.{◌≡◌, List, None, Err, OnOk};
 ghost use Rattle.deliveries.specs.Delivered.{Holds};
 ghost use Rattle.deliveries.specs.declared.delivery.Delivery.{Delivery as a_delivery};
 ghost use Rattle.desk_record.specs.Delivering.{DeliversOrNot};
 ghost use Rattle.desk_record.specs.Recorded.{InStep};
+ghost use Rattle.desk_record.specs.Recording.{HasWritten};
 ghost use Rattle.store.specs.declared.fault.StoreFault.{StoreFault as a_fault};
 ghost use Rattle.store.specs.Standing.{Goes};
 
@@ -52,6 +53,9 @@ pub fn deliver<S: Store + Drop, R: Recorder>(
         → DeliversOrNot desk.old.building earlier delivery.now result (S.standing desk.new.store) }
     ensures goes { (fault : a_fault) → result ≡ Err (Undelivered.Store fault)
         → Goes (Some fault) (S.standing desk.old.store) (S.standing desk.new.store) }
+    ensures goes_on { OnOk result (Goes None (S.standing desk.old.store) (S.standing desk.new.store)) }
+    ensures written { OnOk result ((R.standing recorder.new).is_honest
+        → HasWritten desk.old.building delivery.now (R.standing recorder.old) (R.standing recorder.new)) }
     ensures recorded { (S.standing desk.new.store).is_honest → (R.standing recorder.new).is_honest
         → InStep desk.old.building (R.standing recorder.old) (S.standing desk.old.store)
         → InStep desk.old.building (R.standing recorder.new) (S.standing desk.new.store) }

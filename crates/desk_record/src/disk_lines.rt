@@ -42,7 +42,8 @@ impl<D: Disk> DiskLines<D> {
 
     /// The disk, as it stands.
     pub(crate) fn into_disk(self) -> D
-        ensures { result ≡ self.disk }
+        ensures disk { result ≡ self.disk }
+        ensures on_disk { self.is_shut ≡ false → IsTrue (D.Disk.is_clean result) → Only (D.Disk.seen result) (D.Disk.may_leave result) }
     {
         self.disk
     }

@@ -1,6 +1,7 @@
 //! The last whole line of a file.
 ghost use Rattle.std.specs.Prelude.{◌≡◌, ◌+◌, ◌<◌, ◌^◌, ℕ, List, ◌++◌, length, IfOk, IfErr};
 ghost use Rattle.desk_record.specs.LastLine.{HasLastLine, IsLastEnd, TellsLast};
+ghost use Rattle.desk_record.specs.Torn.{begin_alike, may_be_torn};
 
 use crate::resume_fault::ResumeFault;
 use building::Building;
@@ -51,6 +52,24 @@ fn last_line(from: usize, bytes: &[u8]) -> Result<Option<LastLine>, ResumeFault>
     }
 }
 
+/// Whether one of the two begins the other.
+fn begin_alike(head: &[u8], bytes: &[u8]) -> bool
+    ensures { result ≡ begin_alike head.now bytes.now }
+{
+    head.starts_with(bytes) || bytes.starts_with(head)
+}
+
+/// Whether bytes may be the beginning of a line that was being written: they begin as one of the kinds of lines that are
+/// written, or are themselves the beginning of such a beginning.
+fn may_be_torn(bytes: &[u8]) -> bool
+    ensures { result ≡ may_be_torn bytes.now }
+{
+    begin_alike(b"{\"number\":", bytes)
+        || begin_alike(b"{\"panel\":\"", bytes)
+        || begin_alike(b"{\"tick\":", bytes)
+        || begin_alike(b"{\"import\":\"", bytes)
+}
+
 /// How many bytes of a file are whole lines, and the delivery that the last of them tells, if there is one.
 #[derive(Drop)]
 pub(crate) struct Ending {
@@ -58,7 +77,8 @@ pub(crate) struct Ending {
     pub delivery: Option<Delivery>,
 }
 
-/// What the last whole line tells in the end of a file, which begins at `from`.
+/// What the last whole line tells in the end of a file, which begins at `from`. Bytes after it that are no beginning of a
+/// line that is written are no delivery: then the file is no record, or somebody else wrote there.
 pub(crate) fn read_ending(
     alloc: Global,
     scratch: &mut Scratch,
@@ -71,11 +91,18 @@ pub(crate) fn read_ending(
         → IfOk result (λ told. TellsLast building.now file told.whole told.delivery) }
 {
     let Some(last) = last_line(from, bytes)? else {
-        return Ok(Ending {
-            whole: 0,
-            delivery: None,
-        });
+        return if may_be_torn(bytes) {
+            Ok(Ending {
+                whole: 0,
+                delivery: None,
+            })
+        } else {
+            Err(ResumeFault::NotDelivery)
+        };
     };
+    if !may_be_torn(&bytes[last.end + 1..]) {
+        return Err(ResumeFault::NotDelivery);
+    }
     let line = &bytes[last.start..last.end];
     match told_of(alloc, scratch, building, line) {
         Ok(Told::Delivery(delivery)) => Ok(Ending {

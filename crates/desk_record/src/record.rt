@@ -41,9 +41,11 @@ impl<D: Disk> Record<D> {
         }
     }
 
-    /// The disk, as it stands.
+    /// The disk, as it stands: while the record is open, a stop leaves just its bytes.
     pub fn into_disk(self) -> D
-        ensures { result ≡ self.lines.disk }
+        ensures disk { result ≡ self.lines.disk }
+        ensures on_disk { self.lines.is_shut ≡ false → IsTrue (D.Disk.is_clean result)
+            → Only (D.Disk.seen result) (D.Disk.may_leave result) }
     {
         self.lines.into_disk()
     }

@@ -11,7 +11,8 @@ pub enum ResumeFault {
     NotWritten,
     /// Memory was refused.
     NoMemory,
-    /// The last line is no delivery, or is longer than 1 MiB; nothing has changed.
+    /// The last line is no delivery, or is longer than 1 MiB, or what stands after it is no beginning of a line that is
+    /// written; nothing has changed.
     NotDelivery,
     /// The last line was not delivered once more.
     Store(StoreFault),

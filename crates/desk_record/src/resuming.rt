@@ -1,10 +1,10 @@
 //! A record that is taken up again.
-ghost use Rattle.std.specs.Prelude.{◌≡◌, ◌+◌, ◌<◌, ◌^◌, ℕ, List, length, IfErr, IfOk, OnErr, OnOk};
+ghost use Rattle.std.specs.Prelude.{◌≡◌, ◌+◌, ◌<◌, ◌^◌, ℕ, List, length, Err, IfErr, IfOk, OnErr, OnOk};
 ghost use Rattle.std.specs.Bool.{IsTrue};
 ghost use Rattle.sqlite_disk.specs.Disk.{Cut, Only};
 ghost use Rattle.desk_record.specs.LastLine.{TellsLast};
 ghost use Rattle.desk_record.specs.Recorded.{HasTables, InStep, IsBehind, listed};
-ghost use Rattle.desk_record.specs.Resuming.{IsEndOf, IsMended, KeepsLines};
+ghost use Rattle.desk_record.specs.Resuming.{IsEndOf, IsMended, KeepsLines, LosesTorn};
 ghost use Rattle.store.specs.declared.fault.StoreFault.{StoreFault as a_fault};
 ghost use Rattle.store.specs.Standing.{Goes};
 
@@ -60,6 +60,7 @@ fn mend<D: Disk>(disk: &mut D, whole: usize) -> Result<(), ResumeFault>
     ensures len { OnOk result (length (D.Disk.seen disk.new) ≡ whole) }
     ensures on_disk { OnOk result (Only (D.Disk.seen disk.new) (D.Disk.may_leave disk.new)) }
     ensures usable { OnOk result (IsTrue (D.Disk.is_usable disk.new)) }
+    ensures told { IfErr result (λ fault. fault ≡ ResumeFault.NotWritten) }
 {
     disk.set_len(whole).or(Err(ResumeFault::NotWritten))?;
     disk.sync().or(Err(ResumeFault::NotWritten))
@@ -76,6 +77,7 @@ fn catch_up_store<S: Store + Drop>(desk: &mut Desk<S>, ending: &Ending) -> Resul
         → TellsLast desk.old.building file ending.now.whole ending.now.delivery
         → IsBehind desk.old.building (listed desk.old.building file) (S.standing desk.old.store)
         → IsBehind desk.old.building (listed desk.old.building file) (S.standing desk.new.store)) }
+    ensures told { IfErr result (λ fault. fault ≡ ResumeFault.NotDelivery → ⊥) }
     ensures building { desk.new.building ≡ desk.old.building }
 {
     match &ending.delivery {
@@ -89,7 +91,7 @@ fn catch_up_store<S: Store + Drop>(desk: &mut Desk<S>, ending: &Ending) -> Resul
 
 /// Takes off what stands after the whole lines of a record, and makes the delivery of the last of them once more. Answers how
 /// many bytes there are then.
-fn catch_up<S: Store + Drop, D: Disk>(
+pub(crate) fn catch_up<S: Store + Drop, D: Disk>(
     alloc: Global,
     scratch: &mut Scratch,
     desk: &mut Desk<S>,
@@ -106,6 +108,7 @@ fn catch_up<S: Store + Drop, D: Disk>(
         → HasTables desk.old.building (listed desk.old.building (D.Disk.seen disk.old)) (S.standing desk.new.store)) }
     ensures keeps { OnErr result (IsTrue (D.Disk.is_clean disk.new)
         → KeepsLines desk.old.building (D.Disk.seen disk.old) (D.Disk.seen disk.new)) }
+    ensures refused { result ≡ Err ResumeFault.NotDelivery → D.Disk.seen disk.new ≡ D.Disk.seen disk.old }
     ensures behind { OnErr result ((S.standing desk.new.store).is_honest → IsTrue (D.Disk.is_clean disk.new)
         → IsBehind desk.old.building (listed desk.old.building (D.Disk.seen disk.old)) (S.standing desk.old.store)
         → IsBehind desk.old.building (listed desk.old.building (D.Disk.seen disk.old)) (S.standing desk.new.store)) }
@@ -123,8 +126,9 @@ fn catch_up<S: Store + Drop, D: Disk>(
 
 /// Takes a record up again, for a desk over the store that was kept beside it: takes off what stands after its last line,
 /// which was never delivered, and delivers the last line once more, since it was delivered or not; it is not written down
-/// again. An empty file is an empty record. At most the last 1 MiB is read. After a fault the store is behind the record as
-/// before, and nothing is off the file but what stood after its last line.
+/// again. What stands there has to begin as a line that is written: a file that holds something else is not changed. An
+/// empty file is an empty record. At most the last 1 MiB is read. After a fault the store is behind the record as before,
+/// and nothing is off the file but what stood after its last line.
 pub fn resume<S: Store + Drop, D: Disk + Drop>(
     alloc: Global,
     desk: &mut Desk<S>,
@@ -132,6 +136,8 @@ pub fn resume<S: Store + Drop, D: Disk + Drop>(
 ) -> Result<Record<D>, ResumeFault>
     ensures lists { IfOk result (λ taken. IsTrue (D.Disk.is_clean taken.lines.disk)
         → listed desk.old.building (D.Disk.seen taken.lines.disk) ≡ listed desk.old.building (D.Disk.seen disk)) }
+    ensures torn { IfOk result (λ taken. IsTrue (D.Disk.is_clean taken.lines.disk)
+        → LosesTorn (D.Disk.seen disk) (D.Disk.seen taken.lines.disk)) }
     ensures in_step { IfOk result (λ taken. (S.standing desk.new.store).is_honest
         → IsTrue (D.Disk.is_clean taken.lines.disk)
         → IsBehind desk.old.building (listed desk.old.building (D.Disk.seen disk)) (S.standing desk.old.store)

@@ -2,11 +2,12 @@
 use crate::delivering::{Undelivered, deliver};
 use crate::record::Record;
 use crate::recorder::Recorder;
-use crate::resuming::resume;
+use crate::resuming::{catch_up, resume};
 use building::Building;
 use dates::Entry;
 use deliveries::Delivery;
 use desk::Desk;
+use json::Scratch;
 use listing::Listing;
 use mem_store::MemStore;
 use points::{Content, Name};
@@ -37,6 +38,17 @@ const LINES: &str = r#"{"number":1,"panel":"P1","point":"LIGHT","priority":8,"va
 {"tick":100}
 {"import":"calendar,entry\nHOLIDAYS,2026-12-25\n"}
 "#;
+
+/// What no record ends with, alone and behind a whole line.
+const NO_RECORDS: [&str; 4] = ["hello", "[", "{\"torn\":", "{\"tick\":100}\nhello"];
+
+/// What a stop may leave of the first line.
+const BEGUN: [&str; 4] = [
+    "{",
+    "{\"ti",
+    "{\"panel\":\"P1\",\"sk",
+    "{\"import\":\"calendar",
+];
 
 /// The calls of a disk that take up an empty record: its length, a read, a cut and a sync.
 const CALLS_OF_RESUME: u64 = 4;
@@ -85,6 +97,12 @@ fn taken_up<S: Store + Drop, D: Disk + Drop>(
     disk: D,
 ) -> Option<Record<D>> {
     resume(alloc, desk, disk).ok()
+}
+
+// Whether a file is taken for a record, without what is promised of it.
+fn is_taken_up<S: Store + Drop>(alloc: Global, desk: &mut Desk<S>, disk: &mut Memory) -> bool {
+    let mut scratch = Scratch::new(alloc);
+    catch_up(alloc, &mut scratch, desk, disk).is_ok()
 }
 
 // Whether each is delivered, without what is promised of it.
@@ -140,6 +158,32 @@ fn the_last_line_is_delivered_and_what_is_torn_is_off(rt: HostRuntime) -> Result
     let record = taken_up(alloc, &mut desk, disk).expect(&rt, "a record");
     assert_eq!(rt; record.into_disk().bytes(), b"{\"tick\":100}\n".as_slice());
     assert_eq!(rt; last_tick(desk)?, Some(100));
+    Ok(())
+}
+
+#[test]
+fn a_file_that_ends_as_no_line_is_left_as_it_is(rt: HostRuntime) -> Result<(), Fail> {
+    let alloc = rt.alloc();
+    for text in NO_RECORDS {
+        let mut disk = Memory::new(alloc);
+        disk.write_at(0, text.as_bytes())?;
+        let mut desk = desk_over(alloc, MemStore::new(alloc))?.expect(&rt, "a desk");
+        assert!(rt; !is_taken_up(alloc, &mut desk, &mut disk));
+        assert_eq!(rt; disk.bytes(), text.as_bytes());
+    }
+    Ok(())
+}
+
+#[test]
+fn the_beginning_of_a_line_is_off(rt: HostRuntime) -> Result<(), Fail> {
+    let alloc = rt.alloc();
+    for text in BEGUN {
+        let mut disk = Memory::new(alloc);
+        disk.write_at(0, text.as_bytes())?;
+        let mut desk = desk_over(alloc, MemStore::new(alloc))?.expect(&rt, "a desk");
+        assert!(rt; is_taken_up(alloc, &mut desk, &mut disk));
+        assert_eq!(rt; disk.bytes(), b"".as_slice());
+    }
     Ok(())
 }
 

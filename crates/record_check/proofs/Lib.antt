@@ -1,2 +1,5 @@
+pub mod AgreeLemmas
 pub mod CutLemmas
+pub mod NothingLemmas
+pub mod SameLemmas
 pub mod WalkLemmas

@@ -1,3 +1,4 @@
+pub mod Agreeing
 pub mod Compared
 pub mod DifferenceLine
 pub mod Differences

@@ -2,3 +2,4 @@ pub mod Answered
 pub mod Listening
 pub mod Reported
 pub mod Keeper
+pub mod Recorded

@@ -1,11 +1,12 @@
 //! A tick, and an import, from the file of the building to the line of the reply.
-ghost use Rattle.std.specs.Prelude.{◌≡◌, List, ℕ, None, Some, IfOk};
+ghost use Rattle.std.specs.Prelude.{◌≡◌, List, ℕ, None, Some, IfOk, IsSome};
 ghost use Rattle.std.specs.Io.KnownBytes.{Keeps};
 ghost use Rattle.desk_console.specs.Input.{bytes_of};
 ghost use Rattle.store_runs.specs.Answered.{IsAnswered, IsImport, IsTick};
+ghost use Rattle.store_runs.specs.Recorded.{IsRecorded};
 
 use crate::answering::{Answered, answer};
-use crate::ended::{Ended, Stopped};
+use crate::ended::{Delivered, Ended, Stopped};
 use crate::keeper::Recording;
 use building::Building;
 use deliveries::{Delivery, Reply};
@@ -31,25 +32,36 @@ pub fn tick<'a, B: Read + Drop, S: Store + Drop, D: Disk + Drop, O, Q, W: Write,
     at: i64,
     out: &mut W,
     fault: &mut F,
-) -> Ended<S>
+) -> Delivered<S, D>
 where
     O: FnOnce() -> Result<S, OpenFault>,
     Q: FnOnce() -> Result<D, OpenFault>,
     Q: Drop,
     requires opens { O.IsAlwaysCallable opener }
     requires records { Q.IsAlwaysCallable recording.opener }
-    ensures done { result.status ≡ Status.Done → recording.entry.path ≡ None → (file_bytes : List ℕ)
+    ensures done { result.ended.status ≡ Status.Done → recording.entry.path ≡ None → (file_bytes : List ℕ)
         → bytes_of B.remaining file.entry.reader ≡ Some file_bytes
-        → (left : S) × (result.store ≡ Some left)
+        → (left : S) × (result.ended.store ≡ Some left)
         × IsAnswered S.standing (O.post opener) (IsTick at) file_bytes left (W.contents out.old) (W.contents out.new) }
-    ensures quiet { result.status ≡ Status.Done → Keeps (F.contents fault.old) (F.contents fault.new) }
+    ensures recorded { result.ended.status ≡ Status.Done → IsSome recording.entry.path → (file_bytes : List ℕ)
+        → bytes_of B.remaining file.entry.reader ≡ Some file_bytes
+        → (left : S) × (disk : D) × (result.ended.store ≡ Some left) × (result.disk ≡ Some disk)
+        × IsRecorded S.standing D.Disk.seen D.Disk.may_leave D.Disk.is_clean (O.post opener) (Q.post recording.entry.opener)
+        (IsTick at) file_bytes left disk (W.contents out.old) (W.contents out.new) }
+    ensures quiet { result.ended.status ≡ Status.Done → Keeps (F.contents fault.old) (F.contents fault.new) }
 {
     match tick_over(alloc, file, opener, recording, at, out) {
-        Ok(Answered { reply, store }) => Ended {
-            status: status_of(reply),
-            store: Some(store),
+        Ok(Answered { reply, store, disk }) => Delivered {
+            ended: Ended {
+                status: status_of(reply),
+                store: Some(store),
+            },
+            disk,
         },
-        Err(end) => end.tell(alloc, fault),
+        Err(end) => Delivered {
+            ended: end.tell(alloc, fault),
+            disk: None,
+        },
     }
 }
 
@@ -60,16 +72,20 @@ fn tick_over<'a, B: Read + Drop, S: Store + Drop, D: Disk + Drop, O, Q, W: Write
     recording: Recording<'a, Q>,
     at: i64,
     out: &mut W,
-) -> Result<Answered<S>, Stopped<'a, S>>
+) -> Result<Answered<S, D>, Stopped<'a, S>>
 where
     O: FnOnce() -> Result<S, OpenFault>,
     Q: FnOnce() -> Result<D, OpenFault>,
     Q: Drop,
     requires opens { O.IsAlwaysCallable opener }
     requires records { Q.IsAlwaysCallable recording.opener }
-    ensures { recording.entry.path ≡ None → IfOk result (λ told. (file_bytes : List ℕ)
+    ensures answered { recording.entry.path ≡ None → IfOk result (λ told. (file_bytes : List ℕ)
         → bytes_of B.remaining file.entry.reader ≡ Some file_bytes
         → IsAnswered S.standing (O.post opener) (IsTick at) file_bytes told.store (W.contents out.old) (W.contents out.new)) }
+    ensures recorded { IsSome recording.entry.path → IfOk result (λ told. (file_bytes : List ℕ)
+        → bytes_of B.remaining file.entry.reader ≡ Some file_bytes → (disk : D) × (told.disk ≡ Some disk)
+        × IsRecorded S.standing D.Disk.seen D.Disk.may_leave D.Disk.is_clean (O.post opener) (Q.post recording.entry.opener)
+        (IsTick at) file_bytes told.store disk (W.contents out.old) (W.contents out.new)) }
 {
     let building = read_building(alloc, file)?;
     let delivery = Delivery::Tick { at };
@@ -106,26 +122,44 @@ pub fn import<
     recording: Recording<'a, Q>,
     out: &mut W,
     fault: &mut F,
-) -> Ended<S>
+) -> Delivered<S, D>
 where
     O: FnOnce() -> Result<S, OpenFault>,
     Q: FnOnce() -> Result<D, OpenFault>,
     Q: Drop,
     requires opens { O.IsAlwaysCallable opener }
     requires records { Q.IsAlwaysCallable recording.opener }
-    ensures done { result.status ≡ Status.Done → recording.entry.path ≡ None → (file_bytes list_bytes : List ℕ)
+    ensures done { result.ended.status ≡ Status.Done → recording.entry.path ≡ None → (file_bytes list_bytes : List ℕ)
         → bytes_of B.remaining file.entry.reader ≡ Some file_bytes
         → bytes_of L.remaining list.entry.reader ≡ Some list_bytes
-        → (left : S) × (result.store ≡ Some left)
+        → (left : S) × (result.ended.store ≡ Some left)
         × IsAnswered S.standing (O.post opener) (IsImport list_bytes) file_bytes left (W.contents out.old) (W.contents out.new) }
-    ensures quiet { result.status ≡ Status.Done → Keeps (F.contents fault.old) (F.contents fault.new) }
+    ensures recorded { result.ended.status ≡ Status.Done → IsSome recording.entry.path → (file_bytes list_bytes : List ℕ)
+        → bytes_of B.remaining file.entry.reader ≡ Some file_bytes
+        → bytes_of L.remaining list.entry.reader ≡ Some list_bytes
+        → (left : S) × (disk : D) × (result.ended.store ≡ Some left) × (result.disk ≡ Some disk)
+        × IsRecorded S.standing D.Disk.seen D.Disk.may_leave D.Disk.is_clean (O.post opener) (Q.post recording.entry.opener)
+        (IsImport list_bytes) file_bytes left disk (W.contents out.old) (W.contents out.new) }
+    ensures quiet { result.ended.status ≡ Status.Done → Keeps (F.contents fault.old) (F.contents fault.new) }
 {
     match import_over(alloc, file, list, opener, recording, out) {
-        Ok(Answered { reply: _, store }) => Ended {
-            status: Status::Done,
-            store: Some(store),
+        Ok(
+            Answered {
+                reply: _,
+                store,
+                disk,
+            },
+        ) => Delivered {
+            ended: Ended {
+                status: Status::Done,
+                store: Some(store),
+            },
+            disk,
         },
-        Err(end) => end.tell(alloc, fault),
+        Err(end) => Delivered {
+            ended: end.tell(alloc, fault),
+            disk: None,
+        },
     }
 }
 
@@ -136,17 +170,22 @@ fn import_over<'a, B: Read + Drop, L: Read + Drop, S: Store + Drop, D: Disk + Dr
     opener: O,
     recording: Recording<'a, Q>,
     out: &mut W,
-) -> Result<Answered<S>, Stopped<'a, S>>
+) -> Result<Answered<S, D>, Stopped<'a, S>>
 where
     O: FnOnce() -> Result<S, OpenFault>,
     Q: FnOnce() -> Result<D, OpenFault>,
     Q: Drop,
     requires opens { O.IsAlwaysCallable opener }
     requires records { Q.IsAlwaysCallable recording.opener }
-    ensures { recording.entry.path ≡ None → IfOk result (λ told. (file_bytes list_bytes : List ℕ)
+    ensures answered { recording.entry.path ≡ None → IfOk result (λ told. (file_bytes list_bytes : List ℕ)
         → bytes_of B.remaining file.entry.reader ≡ Some file_bytes
         → bytes_of L.remaining list.entry.reader ≡ Some list_bytes
         → IsAnswered S.standing (O.post opener) (IsImport list_bytes) file_bytes told.store (W.contents out.old) (W.contents out.new)) }
+    ensures recorded { IsSome recording.entry.path → IfOk result (λ told. (file_bytes list_bytes : List ℕ)
+        → bytes_of B.remaining file.entry.reader ≡ Some file_bytes
+        → bytes_of L.remaining list.entry.reader ≡ Some list_bytes → (disk : D) × (told.disk ≡ Some disk)
+        × IsRecorded S.standing D.Disk.seen D.Disk.may_leave D.Disk.is_clean (O.post opener) (Q.post recording.entry.opener)
+        (IsImport list_bytes) file_bytes told.store disk (W.contents out.old) (W.contents out.new)) }
 {
     let building = read_building(alloc, file)?;
     let delivery = read_import(alloc, &building, list)?;

@@ -14,6 +14,22 @@ pub struct Ended<S> {
     pub store: Option<S>,
 }
 
+/// How a run that delivers ended, and the disk of its record, as it stands then, if one is kept and the delivery was answered.
+#[derive(Drop)]
+pub struct Delivered<S, D> {
+    pub ended: Ended<S>,
+    pub disk: Option<D>,
+}
+
+impl<S, D: Drop> Delivered<S, D> {
+    /// Lets the record's disk go.
+    pub fn into_ended(self) -> Ended<S>
+        ensures { result ≡ self.ended }
+    {
+        self.ended
+    }
+}
+
 /// Why a run ended early, and the store that it had opened, as it stands then.
 #[derive(Drop)]
 pub(crate) struct Stopped<'a, S> {

@@ -1,6 +1,10 @@
 //! The record of a run.
-ghost use Rattle.std.specs.Prelude.{◌≡◌, None};
+ghost use Rattle.std.specs.Prelude.{◌≡◌, List, None, IfOk};
+ghost use Rattle.deliveries.specs.declared.delivery.Delivery.{Delivery as a_delivery};
+ghost use Rattle.desk_record.specs.Recorded.{listed};
+ghost use Rattle.store_runs.specs.Answered.{Opens};
 ghost use Rattle.store_runs.specs.Keeper.{standing_of};
+ghost use Rattle.store_runs.specs.Recorded.{IsTakenUp};
 
 use building::Building;
 use deliveries::Delivery;
@@ -92,7 +96,7 @@ fn fault_of<'a>(fault: ResumeFault, path: &'a str) -> RunFault<'a> {
 }
 
 /// Begins with the record of a path: takes off a last line without its end, and makes its last delivery once more.
-fn resume_at<'a, S: Store + Drop, D: Disk + Drop, Q>(
+pub(crate) fn resume_at<'a, S: Store + Drop, D: Disk + Drop, Q>(
     alloc: Global,
     desk: &mut Desk<S>,
     path: &'a str,
@@ -101,7 +105,12 @@ fn resume_at<'a, S: Store + Drop, D: Disk + Drop, Q>(
 where
     Q: FnOnce() -> Result<D, OpenFault>,
     requires { Q.IsAlwaysCallable opener }
-    ensures { desk.new.building ≡ desk.old.building }
+    ensures taken { (earlier : List a_delivery)
+        → Opens (Q.post opener) (λ disk. listed desk.old.building (D.Disk.seen disk) ≡ earlier)
+        → IfOk result (λ taken. IsTakenUp desk.old.building earlier (⟦<Record<D> as Recorder>⟧.standing taken)
+        (S.standing desk.old.store) (S.standing desk.new.store)) }
+    ensures honest { (S.standing desk.new.store).is_honest → (S.standing desk.old.store).is_honest }
+    ensures building { desk.new.building ≡ desk.old.building }
 {
     let disk = match opener() {
         Ok(disk) => disk,

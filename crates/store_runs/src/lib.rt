@@ -4,11 +4,12 @@
 //! print the reply as a line; `report` prints the report of a day. `serve` listens on an address and holds many
 //! connections at once, in one thread: the request of each is answered (`panel_http`) as soon as it is whole, and no client
 //! holds the others up. A connection is let go 5 seconds after it was taken. Each hands back the store that it opened, as
-//! it stands then, also where a fault ended it; `finish` closes it, and gives the status of the whole run.
+//! it stands then, also where a fault ended it; `finish` closes it, and gives the status of the whole run. `tick` and
+//! `import` hand back the disk of their record too, if they keep one and were answered.
 #![tactic(auto)]
 
 pub use clock_run::{import, tick};
-pub use ended::{Ended, finish};
+pub use ended::{Delivered, Ended, finish};
 pub use keeper::Recording;
 pub use report_run::report;
 pub use server_run::{Serving, serve};

@@ -11,6 +11,11 @@ returns-in_err-write_down-clause-recorded g c = λ honest honest_record step.
     InStep-refused c.args.desk.now.building first written (g.S.Store.standing c.args.desk.now.store) step c.args.delivery.now
     c.in_err-write_down.field-0.0 honest_record writes
 
+pub returns-in-Ok-clause-written : goal.returns-in-Ok-clause-written
+returns-in-Ok-clause-written g c = λ honest_record.
+    written-line c.args.desk.now.building c.args.delivery.now (g.R.Recorder.standing c.args.recorder.now)
+    (g.R.Recorder.standing c.write_down.new.self) honest_record (rw c.building.ensures at c.in_ok-write_down.ensures)
+
 pub returns-in-Ok-clause-recorded : goal.returns-in-Ok-clause-recorded
 returns-in-Ok-clause-recorded g c = λ honest honest_record step.
     let first = g.R.Recorder.standing c.args.recorder.now in

@@ -1,16 +1,19 @@
 use Rattle.std.proofs.Common.{◌≡◌, ◌++◌, ◌∷◌, [], sym, subst}
 use Rattle.std.specs.Io.KnownBytes.{Appends}
+use Rattle.std.specs.Prelude.{IfOk}
 use Rattle.deliveries.specs.Reply.{reply}
 use Rattle.delivery_lines.specs.ReplyText.{reply_line}
 use Rattle.building.specs.Building.{Building}
+use Rattle.desk_record.specs.Recorded.{IsBehind, listed}
+use Rattle.store_runs.specs.Recorded.{Records}
 use Rattle.deliveries.specs.Delivered.{Holds}
 use Rattle.store_runs.proofs.answering.answer.Goals as goal
 
-pub returns-in-Ok : goal.returns-in-Ok
-returns-in-Ok g c = λ unrecorded earlier opens honest.
+pub returns-in-Ok-clause-answers : goal.returns-in-Ok-clause-answers
+returns-in-Ok-clause-answers g c = λ unrecorded earlier opens honest.
     let same : c.in_ok-desk.desk.building ≡ c.args.building = c.in_ok-desk.ensures.building in
     let honest_now = subst (λ s. (g.S.Store.standing s).is_honest) c.into_store-store.ensures honest in
-    let held = c.in_ok-desk.ensures.holds earlier opens (c.in-Ok.ensures.honest unrecorded honest_now) in
+    let held = c.in_ok-desk.ensures.holds earlier opens (c.in-Ok.ensures.honest honest_now) in
     let told = c.in-Ok.ensures.answers unrecorded earlier honest_now
     (subst (λ (b : Building). Holds b earlier (g.S.Store.standing c.in_ok-desk.desk.store)) (sym same) held) in
     record {
@@ -22,3 +25,23 @@ returns-in-Ok g c = λ unrecorded earlier opens honest.
           (subst (λ s. Holds c.in_ok-desk.desk.building (earlier ++ c.args.delivery.now ∷ []) (g.S.Store.standing s))
           (sym c.into_store-store.ensures) told.holds);
     }
+
+pub returns-in-Ok-clause-recorded : goal.returns-in-Ok-clause-recorded
+returns-in-Ok-clause-recorded g c = λ kept.
+    let same : c.in_ok-desk.desk.building ≡ c.args.building = c.in_ok-desk.ensures.building in
+    let (disk, is, records) = c.in-Ok.ensures.recorded kept in (
+      disk,
+      is,
+      λ earlier opens_record opens honest clean.
+          let honest_now = subst (λ s. (g.S.Store.standing s).is_honest) c.into_store-store.ensures honest in
+          let behind = c.in_ok-desk.ensures.behind earlier opens (c.in-Ok.ensures.honest honest_now) in
+          let told = records earlier
+          (λ opened may. subst (λ (b : Building). IfOk opened (λ it. listed b (g.D.Disk.seen it) ≡ earlier)) (sym same) (opens_record opened may))
+          (subst (λ (b : Building). IsBehind b earlier (g.S.Store.standing c.in_ok-desk.desk.store)) (sym same) behind) honest_now clean in
+          subst (λ s. Records c.args.building earlier c.args.delivery.now (g.S.Store.standing s) (g.D.Disk.seen disk) (g.D.Disk.may_leave disk)
+          (g.W.Write.contents c.args.out.now) (g.W.Write.contents c.deliver-told.new.out))
+          (sym c.into_store-store.ensures)
+          (subst (λ (b : Building). Records b earlier c.args.delivery.now (g.S.Store.standing c.deliver-told.new.desk.store)
+          (g.D.Disk.seen disk) (g.D.Disk.may_leave disk) (g.W.Write.contents c.args.out.now) (g.W.Write.contents c.deliver-told.new.out))
+          same told),
+    )

@@ -1,6 +1,7 @@
 use Rattle.std.proofs.Common.{subst}
 use Rattle.std.specs.Io.KnownBytes.{Appends}
 use Rattle.delivery_lines.specs.ReplyText.{reply_line}
+use Rattle.store_runs.proofs.RecordedLemmas.{adds}
 use Rattle.store_runs.proofs.answering.deliver_kept.Goals as goal
 
 pub returns-clause-answers : goal.returns-clause-answers
@@ -11,3 +12,11 @@ returns-clause-answers g c = λ earlier honest held.
           delivers.0 c.in_ok-print_reply.ensures;
       holds = delivers.1;
     }
+
+pub returns-clause-recorded : goal.returns-clause-recorded
+returns-clause-recorded g c = λ honest honest_record step.
+    let told = c.in-Ok.ensures in
+    adds c.args.desk.now.building c.args.delivery.now (g.R.Recorder.standing c.args.recorder.now) (g.R.Recorder.standing c.deliver.new.recorder)
+    (g.S.Store.standing c.args.desk.now.store) (g.S.Store.standing c.deliver.new.desk.store) c.in-Ok.reply
+    (g.W.Write.contents c.args.out.now) (g.W.Write.contents c.print_reply.new.out) step (told.recorded honest honest_record step)
+    (told.written honest_record) told.goes_on (λ earlier held. told.delivers earlier honest held) c.in_ok-print_reply.ensures
