@@ -4,12 +4,12 @@
 //! deliveries of a list over it in memory, and prints what each line is answered (`answer_line`) and then the line of each point
 //! (`point_lines`). `answer_line` delivers to a desk what a line tells (`delivery_lines`), and gives the text of the
 //! reply. `straighten` reads the whole list first, and then prints its straight list (`desk_straighten`), a line for each
-//! delivery. `list_deliveries` is what a run that reads the whole list first calls. What they share with the other subcommands, faults and statuses among it, is `desk_console`'s.
+//! delivery. `list_deliveries` is what a run that reads the whole list first calls, or `read_deliveries` with a reader of its own. What they share with the other subcommands, faults and statuses among it, is `desk_console`'s.
 #![tactic(auto)]
 
 pub use describe_run::describe;
 pub use line_answer::answer_line;
-pub use list_reading::list_deliveries;
+pub use list_reading::{list_deliveries, read_deliveries};
 pub use replay_run::replay;
 pub use straighten_run::straighten;
 

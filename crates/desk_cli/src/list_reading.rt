@@ -40,8 +40,9 @@ where
     }
 }
 
-/// The deliveries of each line that the reader has left, up to a moment.
-fn read_deliveries<'a, D: Read + Drop>(
+/// The deliveries of each line that the reader of the file of this path has left, up to a moment, as `list_deliveries` reads
+/// them.
+pub fn read_deliveries<'a, D: Read + Drop>(
     alloc: Global,
     building: &Building,
     path: &'a str,

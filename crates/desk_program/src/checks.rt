@@ -136,5 +136,5 @@ where
             Err(fault) => Err(fault),
         }
     };
-    check_record(rt.alloc(), building, list, database, finder, out, fault)
+    check_record(rt.alloc(), building, list, database, finder, out, fault).status
 }

@@ -1,5 +1,6 @@
 pub mod AgreeLemmas
 pub mod CutLemmas
 pub mod NothingLemmas
+pub mod RunLemmas
 pub mod SameLemmas
 pub mod WalkLemmas

@@ -12,7 +12,7 @@
 pub use comparing::{CompareFault, compare_tables};
 pub use difference::Difference;
 pub use laws::no_difference_where_tables_agree;
-pub use record_run::check_record;
+pub use record_run::{RecordChecked, check_record};
 
 mod adding;
 mod calendars;

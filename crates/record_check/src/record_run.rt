@@ -1,14 +1,19 @@
 //! The comparison of a database with a record.
-ghost use Rattle.std.specs.Prelude.{◌≡◌, List, IfOk, None, Ok, OnOk, string_bytes};
-ghost use Rattle.std.specs.Io.KnownBytes.{Keeps};
+ghost use Rattle.std.specs.Prelude.{◌≡◌, List, [], ℕ, IfOk, IfSome, None, Ok, OnOk, Some, length, string_bytes};
+ghost use Rattle.std.specs.Io.Buffered.{reader_remaining};
+ghost use Rattle.std.specs.Io.KnownBytes.{Appends, Keeps};
 ghost use Rattle.building.specs.Building.{contents_of};
 ghost use Rattle.building.specs.BuildingFile.{building_of};
 ghost use Rattle.deliveries.specs.Delivered.{Holds};
 ghost use Rattle.deliveries.specs.Tables.{tables};
+ghost use Rattle.desk_cli.specs.ListLines.{Collects};
+ghost use Rattle.desk_cli.specs.Replay.{lines_of};
+ghost use Rattle.desk_console.specs.Input.{bytes_of};
+ghost use Rattle.desk_console.specs.Printed.{AppendsStart};
 ghost use Rattle.store.specs.Standing.{Reads, sound};
-ghost use Rattle.store.specs.Tables.{no_tables};
+ghost use Rattle.store.specs.Tables.{Tables, no_tables};
 ghost use Rattle.record_check.specs.Differences.{AreDifferences};
-ghost use Rattle.record_check.specs.RecordRun.{Differ, IsCompared};
+ghost use Rattle.record_check.specs.RecordRun.{Differ, Finds, HasLeft, IsCompared, IsComparison, IsRecordChecked, IsVerdict, Lists, SaysNoMore};
 
 use crate::comparing::compare_tables;
 use crate::difference::Difference;
@@ -18,8 +23,8 @@ use crate::whole_list::read_whole;
 use building::Building;
 use deliveries::Delivery;
 use desk::Desk;
-use desk_cli::list_deliveries;
-use desk_console::{Input, Listed, RunFault, Status, print_whole, read_start};
+use desk_cli::read_deliveries;
+use desk_console::{Input, Listed, RunFault, Status, flush, print_text, read_start};
 use mem_store::MemStore;
 use std::alloc::Global;
 use std::io::{self, BufReader, Cursor, Read, Write};
@@ -97,8 +102,10 @@ fn compare<'a, S: Store>(
     store: &mut S,
     deliveries: &[Delivery],
 ) -> Result<(Status, String), RecordFault<'a>>
-    ensures { (S.standing store.new).is_honest → IfOk result (λ told. IsCompared building.now file.now deliveries.now
+    ensures compared { (S.standing store.new).is_honest → IfOk result (λ told. IsCompared building.now file.now deliveries.now
         (S.standing store.old).content.tables told.0 (string_bytes told.1)) }
+    ensures verdict { IfOk result (λ told. IsVerdict (length deliveries.now) (string_bytes told.1)) }
+    ensures honest { OnOk result ((S.standing store.new).is_honest → (S.standing store.old).is_honest) }
 {
     let found = compare_deliveries(alloc, building, file, store, deliveries)?;
     if found.is_empty() {
@@ -123,6 +130,8 @@ fn opened<'a, S: Store + Drop, O>(
 where
     O: FnOnce() -> Result<Option<S>, OpenFault>,
     requires { O.IsAlwaysCallable finder }
+    ensures { (tables : Tables) → Finds (O.post finder) (λ store. (S.standing store).content.tables ≡ tables)
+        → IfOk result (λ store. (S.standing store).is_honest → (S.standing store).content.tables ≡ tables) }
 {
     let building = Building::read(alloc, file)?;
     let store = match finder() {
@@ -145,29 +154,53 @@ fn recorded<'a, D: Read + Drop, P>(
 where
     P: FnOnce() -> io::Result<BufReader<D>>,
     requires { P.IsAlwaysCallable list.open }
+    ensures { IfOk result (λ deliveries. (bytes : List ℕ)
+        → HasLeft (P.post list.entry.open) (reader_remaining D.remaining) bytes → Lists building.now bytes deliveries.items) }
 {
     let path = list.path;
-    let lines = Cursor::new(read_whole(alloc, list)?);
-    let whole = Listed {
-        path,
-        open: move || BufReader::new(alloc, lines),
-    };
-    list_deliveries(alloc, building, whole, None)
+    let whole = read_whole(alloc, list)?;
+    deliveries_in(alloc, building, path, whole)
 }
 
-fn check_over<'a, B: Read + Drop, D: Read + Drop, P, S: Store + Drop, O, W: Write>(
+/// The deliveries of lines that were read from the file of this path.
+fn deliveries_in<'a>(
+    alloc: Global,
+    building: &Building,
+    path: &'a str,
+    whole: Vec<u8>,
+) -> Result<Vec<Delivery>, RunFault<'a>>
+    ensures { IfOk result (λ deliveries. Collects building.now (lines_of whole.items) [] deliveries.items) }
+{
+    match BufReader::new(alloc, Cursor::new(whole)) {
+        Ok(lines) => read_deliveries(alloc, building, path, lines, None),
+        Err(error) => Err(RunFault::of_read(&error, path)),
+    }
+}
+
+/// What is to be printed of a comparison, the status then, and the store whose tables were compared.
+#[derive(Drop)]
+struct Comparison<S> {
+    status: Status,
+    text: String,
+    store: S,
+}
+
+fn compare_over<'a, B: Read + Drop, D: Read + Drop, P, S: Store + Drop, O>(
     alloc: Global,
     file: Input<'a, B>,
     list: Listed<'a, P>,
     database: &'a str,
     finder: O,
-    out: &mut W,
-) -> Result<Status, RecordFault<'a>>
+) -> Result<Comparison<S>, RecordFault<'a>>
 where
     P: FnOnce() -> io::Result<BufReader<D>>,
     O: FnOnce() -> Result<Option<S>, OpenFault>,
     requires list { P.IsAlwaysCallable list.open }
     requires found { O.IsAlwaysCallable finder }
+    ensures { IfOk result (λ told. (file_bytes list_bytes : List ℕ)
+        → bytes_of B.remaining file.entry.reader ≡ Some file_bytes
+        → HasLeft (P.post list.entry.open) (reader_remaining D.remaining) list_bytes
+        → IsComparison S.standing (O.post finder) file_bytes list_bytes told.status (string_bytes told.text) told.store) }
 {
     let file = read_start(alloc, file)?;
     let building = Building::read(alloc, file.as_slice())?;
@@ -180,8 +213,62 @@ where
         &mut store,
         deliveries.as_slice(),
     )?;
-    print_whole(out, text.as_str())?;
-    Ok(status)
+    Ok(Comparison {
+        status,
+        text,
+        store,
+    })
+}
+
+/// Prints a text whole, or where the output fails a beginning of it.
+fn print_all<'a, W: Write>(out: &mut W, text: &str) -> Result<(), RunFault<'a>>
+    ensures whole { OnOk result (Appends (W.contents out.old) (W.contents out.new) text.now) }
+    ensures no_more { AppendsStart (W.contents out.old) (W.contents out.new) text.now }
+{
+    print_text(out, text.as_bytes())?;
+    flush(out)
+}
+
+/// Prints a comparison, and hands on its store if that was whole.
+fn print_comparison<S: Drop, W: Write, F: Write>(
+    alloc: Global,
+    comparison: Comparison<S>,
+    out: &mut W,
+    fault: &mut F,
+) -> RecordChecked<S>
+    ensures whole { IfSome result.store (λ left. (left ≡ comparison.store) × (result.status ≡ comparison.status)
+        × Appends (W.contents out.old) (W.contents out.new) (string_bytes comparison.text)) }
+    ensures part { result.store ≡ None → result.status ≡ Status.Done → ⊥ }
+    ensures quiet { result.status ≡ Status.Done → Keeps (F.contents fault.old) (F.contents fault.new) }
+    ensures no_more { AppendsStart (W.contents out.old) (W.contents out.new) (string_bytes comparison.text) }
+{
+    let Comparison {
+        status,
+        text,
+        store,
+    } = comparison;
+    match print_all(out, text.as_str()) {
+        Ok(()) => RecordChecked {
+            status,
+            store: Some(store),
+        },
+        Err(end) => {
+            let end = RecordFault::from(end).after(out.flush());
+            end.print(alloc, fault);
+            RecordChecked {
+                status: end.status(),
+                store: None,
+            }
+        }
+    }
+}
+
+/// How a comparison with a record ended, and the store whose tables were compared, as it stands then, if what is said of them
+/// was printed whole.
+#[derive(Drop)]
+pub struct RecordChecked<S> {
+    pub status: Status,
+    pub store: Option<S>,
 }
 
 /// Prints whether the tables of the store that is found are those that the whole lines of a record leave in the building of a
@@ -200,20 +287,32 @@ pub fn check_record<'a, B: Read + Drop, D: Read + Drop, P, S: Store + Drop, O, W
     finder: O,
     out: &mut W,
     fault: &mut F,
-) -> Status
+) -> RecordChecked<S>
 where
     P: FnOnce() -> io::Result<BufReader<D>>,
     O: FnOnce() -> Result<Option<S>, OpenFault>,
     requires list { P.IsAlwaysCallable list.open }
     requires found { O.IsAlwaysCallable finder }
-    ensures quiet { result ≡ Status.Done → Keeps (F.contents fault.old) (F.contents fault.new) }
+    ensures checked { IfSome result.store (λ left. (file_bytes list_bytes : List ℕ)
+        → bytes_of B.remaining file.entry.reader ≡ Some file_bytes
+        → HasLeft (P.post list.entry.open) (reader_remaining D.remaining) list_bytes
+        → IsRecordChecked S.standing (O.post finder) file_bytes list_bytes result.status left (W.contents out.old) (W.contents out.new)) }
+    ensures unchecked { result.store ≡ None → result.status ≡ Status.Done → ⊥ }
+    ensures quiet { result.status ≡ Status.Done → Keeps (F.contents fault.old) (F.contents fault.new) }
+    ensures no_more { (file_bytes list_bytes : List ℕ)
+        → bytes_of B.remaining file.entry.reader ≡ Some file_bytes
+        → HasLeft (P.post list.entry.open) (reader_remaining D.remaining) list_bytes
+        → SaysNoMore file_bytes list_bytes (W.contents out.old) (W.contents out.new) }
 {
-    match check_over(alloc, file, list, database, finder, out) {
-        Ok(status) => status,
+    match compare_over(alloc, file, list, database, finder) {
+        Ok(comparison) => print_comparison(alloc, comparison, out, fault),
         Err(end) => {
             let end = end.after(out.flush());
             end.print(alloc, fault);
-            end.status()
+            RecordChecked {
+                status: end.status(),
+                store: None,
+            }
         }
     }
 }

@@ -1,8 +1,7 @@
 //! The whole lines of a record.
 ghost use Rattle.std.specs.Prelude.{◌≡◌, List, ℕ, IfOk, Some};
 ghost use Rattle.std.specs.Io.Buffered.{reader_remaining};
-ghost use Rattle.desk_cli.specs.Replay.{Opens};
-ghost use Rattle.desk_console.specs.Input.{bytes_of};
+ghost use Rattle.record_check.specs.RecordRun.{HasLeft};
 ghost use Rattle.record_check.specs.WholeLines.{IsCut, IsLastEnd};
 
 use desk_console::{Listed, RunFault};
@@ -60,7 +59,7 @@ where
     O: FnOnce() -> io::Result<BufReader<D>>,
     requires { O.IsAlwaysCallable list.open }
     ensures { IfOk result (λ whole. (bytes : List ℕ)
-        → Opens (O.post list.entry.open) (bytes_of (reader_remaining D.remaining)) bytes → IsCut bytes whole.items) }
+        → HasLeft (O.post list.entry.open) (reader_remaining D.remaining) bytes → IsCut bytes whole.items) }
 {
     let Listed { path, open } = list;
     match open() {

@@ -1,0 +1,50 @@
+-- What a run finds out before it prints.
+use Rattle.std.proofs.Common.{◌≡◌, ◌∙◌, ℕ, List, [], ap, inl, inr, subst, sym, take}
+use Rattle.building.specs.Building.{Building}
+use Rattle.building.specs.BuildingFile.{building_of}
+use Rattle.deliveries.specs.declared.delivery.Delivery.{Delivery}
+use Rattle.desk_cli.specs.ListLines.{Collects}
+use Rattle.desk_cli.specs.Replay.{lines_of}
+use Rattle.desk_console.specs.declared.status.Status.{Status}
+use Rattle.desk_console.proofs.ReadingLemmas.{building_of-taken}
+use Rattle.store.specs.Tables.{Tables}
+use Rattle.record_check.specs.declared.difference.Difference.{Difference}
+use Rattle.record_check.specs.RecordRun.{Differ, IsCompared, Lists}
+use Rattle.record_check.specs.WholeLines.{IsCut}
+
+pub lists-of : (b : Building) (bytes whole : List ℕ) (deliveries : List Delivery) → IsCut bytes whole
+    → Collects b (lines_of whole) [] deliveries → Lists b bytes deliveries
+lists-of b bytes whole deliveries cut collects = record {
+  whole = whole;
+  cut = cut;
+  told = collects.read;
+  told_is = collects.read_is;
+  are = collects.added;
+}
+
+-- ---- of a file of which the first bytes were read
+
+module _ (b : Building) (file start : List ℕ) (held : Tables) (begins : start ≡ take 1_048_577 file) where
+  differ-taken : (deliveries : List Delivery) (found : List Difference) → Differ b start deliveries held found → Differ b file deliveries held found
+  differ-taken deliveries found differ = record {
+    replayed = differ.replayed;
+    replayed_is = building_of-taken file _ (ap building_of (sym begins) ∙ differ.replayed_is);
+    found_are = differ.found_are;
+  }
+
+  pub compared-taken : (deliveries : List Delivery) (status : Status) (text : List ℕ) → IsCompared b start deliveries held status text
+      → IsCompared b file deliveries held status text
+  compared-taken deliveries status text (inl (same, is_done, is)) = inl (differ-taken deliveries [] same, is_done, is)
+  compared-taken deliveries status text (inr (inl (before, last, is_more, same, is_done, is))) =
+      inr (inl (before, last, is_more, differ-taken before [] same, is_done, is))
+  compared-taken deliveries status text (inr (inr (found, differ, is_fault, is))) =
+      inr (inr (found, differ-taken deliveries found differ, is_fault, is))
+
+-- the same of deliveries and tables that are known by another name
+pub compared-of : (b : Building) (file start : List ℕ) (held tables : Tables) (deliveries of : List Delivery) (status : Status) (text : List ℕ)
+    → start ≡ take 1_048_577 file → deliveries ≡ of → held ≡ tables → IsCompared b start deliveries held status text
+    → IsCompared b file of tables status text
+compared-of b file start held tables deliveries of status text begins are is compared =
+    compared-taken b file start tables begins of status text
+    (subst (λ ts. IsCompared b start of ts status text) is
+    (subst (λ ds. IsCompared b start ds held status text) are compared))
