@@ -1,28 +1,13 @@
--- What a run finds out before it prints.
+-- What is compared of a file of which the first bytes were read.
 use Rattle.std.proofs.Common.{◌≡◌, ◌∙◌, ℕ, List, [], ap, inl, inr, subst, sym, take}
 use Rattle.building.specs.Building.{Building}
 use Rattle.building.specs.BuildingFile.{building_of}
 use Rattle.deliveries.specs.declared.delivery.Delivery.{Delivery}
-use Rattle.desk_cli.specs.ListLines.{Collects}
-use Rattle.desk_cli.specs.Replay.{lines_of}
 use Rattle.desk_console.specs.declared.status.Status.{Status}
 use Rattle.desk_console.proofs.ReadingLemmas.{building_of-taken}
 use Rattle.store.specs.Tables.{Tables}
 use Rattle.record_check.specs.declared.difference.Difference.{Difference}
-use Rattle.record_check.specs.RecordRun.{Differ, IsCompared, Lists}
-use Rattle.record_check.specs.WholeLines.{IsCut}
-
-pub lists-of : (b : Building) (bytes whole : List ℕ) (deliveries : List Delivery) → IsCut bytes whole
-    → Collects b (lines_of whole) [] deliveries → Lists b bytes deliveries
-lists-of b bytes whole deliveries cut collects = record {
-  whole = whole;
-  cut = cut;
-  told = collects.read;
-  told_is = collects.read_is;
-  are = collects.added;
-}
-
--- ---- of a file of which the first bytes were read
+use Rattle.record_check.specs.RecordRun.{Differ, IsCompared}
 
 module _ (b : Building) (file start : List ℕ) (held : Tables) (begins : start ≡ take 1_048_577 file) where
   differ-taken : (deliveries : List Delivery) (found : List Difference) → Differ b start deliveries held found → Differ b file deliveries held found

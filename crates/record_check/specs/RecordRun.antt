@@ -77,9 +77,8 @@ abbrev pub IsRecordChecked : {S : Type 0} → (S → Standing) → (Result (Opti
 IsRecordChecked standing may_find file list status left old new =
     (text : List ℕ) × IsComparison standing may_find file list status text left × Appends old new text
 
--- nothing was printed; or the file is a building, the record lists deliveries for it, and a beginning of what may be said of
--- so many was printed
-abbrev pub SaysNoMore : (file list : List ℕ) → Option (List ℕ) → Option (List ℕ) → Type 0
-SaysNoMore file list old new = Keeps old new ⊎ ((building : Building) × (deliveries : List Delivery) × (text : List ℕ)
-    × (building_of file ≡ Ok (contents_of building)) × Lists building list deliveries × IsVerdict (length deliveries) text
-    × AppendsStart old new text)
+-- nothing was printed, or a beginning of such a text
+abbrev pub SaysNoMore : {S : Type 0} → (S → Standing) → (Result (Option S) OpenFault → Type 0) → (file list : List ℕ)
+    → Option (List ℕ) → Option (List ℕ) → Type 0
+SaysNoMore {S} standing may_find file list old new = Keeps old new ⊎ ((status : Status) × (text : List ℕ) × (left : S)
+    × IsComparison standing may_find file list status text left × AppendsStart old new text)

@@ -302,7 +302,7 @@ where
     ensures no_more { (file_bytes list_bytes : List ℕ)
         → bytes_of B.remaining file.entry.reader ≡ Some file_bytes
         → HasLeft (P.post list.entry.open) (reader_remaining D.remaining) list_bytes
-        → SaysNoMore file_bytes list_bytes (W.contents out.old) (W.contents out.new) }
+        → SaysNoMore S.standing (O.post finder) file_bytes list_bytes (W.contents out.old) (W.contents out.new) }
 {
     match compare_over(alloc, file, list, database, finder) {
         Ok(comparison) => print_comparison(alloc, comparison, out, fault),

@@ -3,13 +3,10 @@ use Rattle.record_check.proofs.record_run.check_record.Goals as goal
 
 pub returns-in-Ok-clause-no_more : goal.returns-in-Ok-clause-no_more
 returns-in-Ok-clause-no_more g c = λ file_bytes list_bytes file list.
-    let told = c.in-Ok.ensures file_bytes list_bytes file list in
     inr (
-      told.building,
-      told.deliveries,
+      c.in-Ok.comparison.status,
       string_bytes c.in-Ok.comparison.text,
-      told.building_is,
-      told.lists,
-      told.verdict,
+      c.in-Ok.comparison.store,
+      c.in-Ok.ensures file_bytes list_bytes file list,
       c.print_comparison.ensures.no_more,
     )
