@@ -212,7 +212,7 @@ def stop(servers):
 # ---- rows
 
 def amount(seconds):
-    return f"{seconds * 1e3:.1f} ms" if seconds > 2e-3 else f"{seconds * 1e6:.0f} µs"
+    return f"{seconds * 1e3:.1f} ms" if seconds > 2e-3 else f"{seconds * 1e6:.{0 if seconds > 2e-5 else 2}f} µs"
 
 
 def show(name, pairs, wanted, least=None):
@@ -245,6 +245,7 @@ def blocks():
 def show_served(programs):
     servers = serving(programs)
     try:
+        taken(servers, [tick(NEW_YEAR + 1), *reports(0, 1)])
         for name, wanted, requests in blocks():
             pairs = [taken(servers, block, turn) for turn, block in enumerate(requests)]
             if name:
@@ -346,7 +347,8 @@ def counted(program, name, requests):
 
 def show_instructions(programs):
     keep(programs, "thousand", "ready", [tick(NEW_YEAR + 1)] + commands(range(1, 1002)))
-    first = [tick(NEW_YEAR + 2)]
+    # a report reads each point, which is known from then on
+    first = [tick(NEW_YEAR + 2), *reports(0, 1)]
     start = {name: [counted(program, name, first) for program in programs] for name in ("ready", "thousand")}
     rows = [
         ("a tick each quarter of an hour", "ready", [tick(NEW_YEAR + (place + 1) * QUARTER) for place in range(TICKS_COUNTED)]),
