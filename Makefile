@@ -28,6 +28,7 @@ bench: desk
 	@python3 scripts/bench_database.py
 	@python3 scripts/bench_server.py
 	@python3 scripts/bench_schedules.py
+	@python3 scripts/bench_clock.py
 
 page: desk
 	@python3 scripts/show_page

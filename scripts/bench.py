@@ -320,4 +320,5 @@ def main():
         show_instructions_of_straightening()
 
 
-main()
+if __name__ == "__main__":
+    main()

@@ -6,12 +6,12 @@
 // the row that falls out, and prints the reply. With a port of the loopback it makes no commands itself: it takes them as
 // requests over HTTP, one connection after another, as `desk serve` does, and answers each with its reply. It takes what
 // the load sends as it stands, and looks for nothing wrong in it.
+#include "plain_sqlite.h"
 #include <arpa/inet.h>
 #include <cstdio>
 #include <cstdlib>
 #include <cstring>
 #include <netinet/in.h>
-#include <sqlite3.h>
 #include <string>
 #include <sys/socket.h>
 #include <unistd.h>
@@ -19,42 +19,6 @@
 namespace {
 
 constexpr int kKept = 1000;
-
-void check(sqlite3 *db, int told) {
-    if (told != SQLITE_OK && told != SQLITE_DONE && told != SQLITE_ROW) {
-        std::fprintf(stderr, "plain_desk: %s\n", sqlite3_errmsg(db));
-        std::exit(1);
-    }
-}
-
-class Statement {
-public:
-    Statement(sqlite3 *db, const char *sql) : db_(db) { check(db, sqlite3_prepare_v2(db, sql, -1, &statement_, nullptr)); }
-    ~Statement() { sqlite3_finalize(statement_); }
-    Statement &text(int at, const std::string &value) {
-        sqlite3_bind_text(statement_, at, value.data(), static_cast<int>(value.size()), SQLITE_TRANSIENT);
-        return *this;
-    }
-    Statement &number(int at, sqlite3_int64 value) {
-        sqlite3_bind_int64(statement_, at, value);
-        return *this;
-    }
-    bool step() {
-        int told = sqlite3_step(statement_);
-        check(db_, told);
-        return told == SQLITE_ROW;
-    }
-    sqlite3_int64 column(int at) { return sqlite3_column_int64(statement_, at); }
-    void reset() { sqlite3_reset(statement_); }
-    void run() {
-        step();
-        reset();
-    }
-
-private:
-    sqlite3 *db_;
-    sqlite3_stmt *statement_ = nullptr;
-};
 
 const char *const kTables =
     "PRAGMA journal_mode = WAL; PRAGMA synchronous = FULL;"
