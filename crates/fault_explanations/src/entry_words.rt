@@ -89,7 +89,11 @@ fn is_range_end(text: &str) -> bool {
 /// The day that a pattern alone names, where the calendar has it.
 fn day_of(pattern: Pattern) -> Option<Day> {
     let year = i32::from(pattern.year()?.number());
-    Day::new(year, month_of(pattern.months())?, day_of_month(pattern.days())?)
+    Day::new(
+        year,
+        month_of(pattern.months())?,
+        day_of_month(pattern.days())?,
+    )
 }
 
 /// The number of the month, where it is one alone.
