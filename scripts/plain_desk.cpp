@@ -6,15 +6,12 @@
 // the row that falls out, and prints the reply. With a port of the loopback it makes no commands itself: it takes them as
 // requests over HTTP, one connection after another, as `desk serve` does, and answers each with its reply. It takes what
 // the load sends as it stands, and looks for nothing wrong in it.
+#include "plain_loopback.h"
 #include "plain_sqlite.h"
-#include <arpa/inet.h>
 #include <cstdio>
 #include <cstdlib>
 #include <cstring>
-#include <netinet/in.h>
 #include <string>
-#include <sys/socket.h>
-#include <unistd.h>
 
 namespace {
 
@@ -74,11 +71,6 @@ struct Desk {
     }
 };
 
-void give_up(const char *why) {
-    std::perror(why);
-    std::exit(1);
-}
-
 // The text behind this key, up to the next quote, comma or brace.
 std::string member(const std::string &text, const char *key) {
     size_t from = text.find(key);
@@ -89,55 +81,13 @@ std::string member(const std::string &text, const char *key) {
     return text.substr(from, text.find_first_of("\",}", from) - from);
 }
 
-// One request: the head to its empty line, and as much of a body as its length says.
-std::string request_of(int client) {
-    std::string request;
-    for (char part[4096];;) {
-        size_t head = request.find("\r\n\r\n");
-        if (head != std::string::npos && request.size() >= head + 4 + std::stoul(member(request, "Content-Length: "))) {
-            return request;
-        }
-        ssize_t more = recv(client, part, sizeof part, 0);
-        if (more <= 0) {
-            give_up("recv");
-        }
-        request.append(part, more);
-    }
-}
-
-void answer(Desk &desk, int client) {
-    std::string request = request_of(client);
+std::string response_to(Desk &desk, const std::string &request) {
     size_t from = std::strlen("POST /panels/");
     std::string panel = request.substr(from, request.find('/', from) - from);
     std::string body = desk.command(panel, std::stoll(member(request, "\"number\":")), member(request, "\"point\":\""),
                                     std::stoi(member(request, "\"priority\":")), std::stoll(member(request, "\"value\":")));
-    std::string response = "HTTP/1.1 200 OK\r\nContent-Type: application/json\r\nContent-Length: " + std::to_string(body.size()) +
-                           "\r\nConnection: close\r\n\r\n" + body;
-    if (send(client, response.data(), response.size(), 0) != static_cast<ssize_t>(response.size())) {
-        give_up("send");
-    }
-    close(client);
-}
-
-void serve(Desk &desk, int port, int requests) {
-    int listener = socket(AF_INET, SOCK_STREAM, 0), on = 1;
-    setsockopt(listener, SOL_SOCKET, SO_REUSEADDR, &on, sizeof on);
-    sockaddr_in address{};
-    address.sin_family = AF_INET;
-    address.sin_port = htons(static_cast<uint16_t>(port));
-    address.sin_addr.s_addr = htonl(INADDR_LOOPBACK);
-    if (bind(listener, reinterpret_cast<const sockaddr *>(&address), sizeof address) != 0 || listen(listener, 128) != 0) {
-        give_up("listen");
-    }
-    std::puts("listening");
-    std::fflush(stdout);
-    for (int taken = 0; taken < requests; ++taken) {
-        int client = accept(listener, nullptr, nullptr);
-        if (client < 0) {
-            give_up("accept");
-        }
-        answer(desk, client);
-    }
+    return "HTTP/1.1 200 OK\r\nContent-Type: application/json\r\nContent-Length: " + std::to_string(body.size()) +
+           "\r\nConnection: close\r\n\r\n" + body;
 }
 
 // Commands in each panel's number order, the same as those of the bench.
@@ -164,7 +114,7 @@ int main(int count, char **words) {
     {
         Desk desk(db);
         if (count == 6) {
-            serve(desk, std::atoi(words[5]), commands);
+            serve_each(std::atoi(words[5]), commands, [&](const std::string &request) { return response_to(desk, request); });
         } else {
             deliver(desk, panels, points, commands);
         }

@@ -7,15 +7,12 @@
 // the desk's durability and by statements that are prepared once. BUILDING is the text that bench_clock.py writes; the zone
 // is UTC0. It takes what it is told as it stands, and looks for nothing wrong in it.
 #include "plain_building.h"
+#include "plain_loopback.h"
 #include "plain_sqlite.h"
-#include <arpa/inet.h>
 #include <chrono>
 #include <cstring>
 #include <iostream>
-#include <netinet/in.h>
 #include <string_view>
-#include <sys/socket.h>
-#include <unistd.h>
 
 namespace {
 
@@ -431,28 +428,6 @@ void replay(Desk &desk, const char *path) {
     std::fputs(desk.point_lines().c_str(), stdout);
 }
 
-void give_up(const char *why) {
-    std::perror(why);
-    std::exit(1);
-}
-
-// One request: the head to its empty line, and as much of a body as its length says.
-std::string request_of(int client) {
-    std::string request;
-    for (char part[65'536];;) {
-        size_t head = request.find("\r\n\r\n"), length = request.find("Content-Length: ");
-        size_t body = length < head ? std::strtoul(&request[length + 16], nullptr, 10) : 0;
-        if (head != std::string::npos && request.size() >= head + 4 + body) {
-            return request;
-        }
-        ssize_t more = recv(client, part, sizeof part, 0);
-        if (more <= 0) {
-            give_up("recv");
-        }
-        request.append(part, more);
-    }
-}
-
 const char *status_of(const std::string &reply) {
     static const std::pair<const char *, const char *> kStatuses[] = {
         {"parked", "202 Accepted"}, {"bad_", "400 Bad Request"}, {"no_panel", "404 Not Found"}, {"differs", "409 Conflict"},
@@ -481,29 +456,6 @@ std::string response_to(Desk &desk, const std::string &request) {
     const char *type = target[0] == "reports" ? "text/plain" : "application/json";
     return std::string("HTTP/1.1 ") + status_of(reply) + "\r\nContent-Type: " + type + "\r\nContent-Length: " +
         std::to_string(reply.size()) + "\r\nConnection: close\r\n\r\n" + reply;
-}
-
-// Serves so many requests on a port of the loopback, one connection after another.
-void serve(Desk &desk, int port, int requests) {
-    int listener = socket(AF_INET, SOCK_STREAM, 0), on = 1;
-    setsockopt(listener, SOL_SOCKET, SO_REUSEADDR, &on, sizeof on);
-    sockaddr_in address{};
-    address.sin_family = AF_INET;
-    address.sin_port = htons(static_cast<uint16_t>(port));
-    address.sin_addr.s_addr = htonl(INADDR_LOOPBACK);
-    if (bind(listener, reinterpret_cast<const sockaddr *>(&address), sizeof address) != 0 || listen(listener, 128) != 0) {
-        give_up("listen");
-    }
-    std::puts("listening");
-    std::fflush(stdout);
-    for (int taken = 0; taken < requests; ++taken) {
-        int client = accept(listener, nullptr, nullptr);
-        std::string response = response_to(desk, request_of(client));
-        if (send(client, response.data(), response.size(), 0) != static_cast<ssize_t>(response.size())) {
-            give_up("send");
-        }
-        close(client);
-    }
 }
 
 // The same schedule and times as scripts/schedules_bench has.
@@ -554,7 +506,8 @@ int main(int count, char **words) {
         Desk desk(building_of(words[2]), &tables);
         desk.read(db);
         if (run == "serve") {
-            serve(desk, std::atoi(words[4]), std::atoi(words[5]));
+            serve_each(std::atoi(words[4]), std::atoi(words[5]),
+                       [&](const std::string &request) { return response_to(desk, request); });
         } else {
             std::ifstream csv(words[4]);
             std::puts(desk.import({std::istreambuf_iterator<char>(csv), {}}).c_str());
