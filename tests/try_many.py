@@ -34,6 +34,8 @@ STALLED, HONEST, PATIENCE = 500, 20, 1
 # How many connections a desk holds at once, and what it takes of memory at most, in kB.
 HELD, MEMORY = 512, 64 * 1024
 BODY = 262_144
+# How many names that there are not are asked for, and how many kB a desk may grow meanwhile.
+SOME_NAMES, MANY_NAMES, GROWN = 300, 6_000, 256
 NOPE = get("/points/NOPE")
 NO_POINT = response(404, b'{"answer":"no_point"}')
 IMPORT_HEAD = b"POST /imports HTTP/1.1\r\nContent-Length: %d\r\n\r\n" % BODY
@@ -224,6 +226,32 @@ def bodies_that_are_half_sent_take_little_memory(program, folder):
         for client in clients:
             client.close()
         server.end()
+
+
+def memory_now(server):
+    """The memory that a desk has now, in kB."""
+    status = pathlib.Path(f"/proc/{server.ran.pid}/status").read_text()
+    return next(int(line.split()[1]) for line in status.splitlines() if line.startswith("VmRSS"))
+
+
+def asked_for(server, places):
+    """A point and a panel of a name of its own for each of these places, which the building lacks."""
+    command = b'{"number":1,"point":"R101-SET","priority":8,"value":1}'
+    for place in places:
+        expect(server.ask(get(f"/points/NOPE-{place}")), NO_POINT)
+        expect(server.ask(post(f"/panels/NOPE-{place}/commands", command)), answered('{"answer":"no_panel"}'))
+
+
+def names_that_the_building_lacks_take_no_memory(program, folder):
+    """However many a client asks for."""
+    with serving(program, folder, 2 * (SOME_NAMES + MANY_NAMES)) as server:
+        asked_for(server, range(SOME_NAMES))
+        begun = memory_now(server)
+        asked_for(server, range(SOME_NAMES, SOME_NAMES + MANY_NAMES))
+        grown = memory_now(server) - begun
+        server.end()
+    if grown > GROWN:
+        raise AssertionError(f"{grown} kB more after {MANY_NAMES} names of each kind")
 
 
 def a_long_response_waits_for_who_reads_it(program, folder):
@@ -479,6 +507,7 @@ TESTS = [
     the_one_taken_first_makes_room,
     so_it_does_where_descriptors_end,
     bodies_that_are_half_sent_take_little_memory,
+    names_that_the_building_lacks_take_no_memory,
     a_tick_comes_as_a_connection_is_taken,
     a_long_response_waits_for_who_reads_it,
     clients_that_ask_side_by_side_get_what_some_order_gets,
