@@ -1,7 +1,7 @@
 -- The change of a tick or an import makes the tables of one delivery more.
-use Rattle.std.proofs.Common.{◌≡◌, ℕ, ◌-◌, ◌++◌, Bool, true, false, not, List, [], ◌∷◌, Option, Some, None, ◌&&◌, ◌||◌, is_some, length, nat_lt, rules, ℤ, arith}
+use Rattle.std.proofs.Common.{◌≡◌, ℕ, ◌-◌, ◌++◌, Bool, true, false, not, List, [], ◌∷◌, Option, Some, None, is_some, length, ℤ, arith}
 use Rattle.std.proofs.Common.{refl, sym, ap, ◌∙◌, subst}
-use Rattle.std.specs.List.{list_all, position_or_len}
+use Rattle.std.specs.List.{list_all}
 use Rattle.std.proofs.lemmas.Bool.{false≢true}
 use Rattle.building.specs.Building.{Building}
 use Rattle.deliveries.specs.declared.delivery.Delivery.{Delivery}
@@ -11,11 +11,11 @@ use Rattle.deliveries.specs.Clocked.{Settles}
 use Rattle.deliveries.specs.Delivered.{Holds}
 use Rattle.deliveries.specs.Events.{has_calendar, is_later, is_moment, last_tick_of, machine}
 use Rattle.deliveries.specs.Laws.{HasDistinctSchedules}
-use Rattle.deliveries.specs.Machine.{added, local_of, writes_of}
+use Rattle.deliveries.specs.Machine.{added, local_of, told_at, writes_of}
 use Rattle.deliveries.proofs.QuietLemmas.{Quiet-machine, with_rows-known}
 use Rattle.deliveries.specs.Reply.{refused_record, reply}
 use Rattle.deliveries.specs.Tables.{tables}
-use Rattle.deliveries.proofs.ClockLemmas.{Tells-tables, machine-last_tick, reply-imported, reply-ticked, tables-imported, tables-last_tick, tables-shown, tables-ticked, with_items-none}
+use Rattle.deliveries.proofs.ClockLemmas.{Tells-tables, machine-last_tick, reply-imported, reply-ticked, tables-imported, tables-last_tick, tables-shown, tables-ticked}
 use Rattle.local_times.specs.declared.local_clock.LocalTime.{LocalTime}
 use Rattle.local_times.specs.LocalTimes.{local_at}
 use Rattle.sched.specs.declared.calendar.CalendarEntry.{CalendarEntry}
@@ -46,6 +46,14 @@ pub last_of-held : (b : Building) (E : List Delivery) (old : Standing) → Holds
     → old.content.tables.last_tick ≡ (machine b E).last_tick
 last_of-held b E old held = ap (λ (c : Content). c.tables.last_tick) held ∙ (tables-last_tick b E ∙ sym (machine-last_tick b E))
 
+-- at the last tick that is read nothing would change of what schedules show
+pub rested-held : (b : Building) (E : List Delivery) (old : Standing) → HasDistinctSchedules b → Holds b E old → (last : Option ℤ)
+    → last ≡ old.content.tables.last_tick
+    → told_at b (machine b E).imported old.content.tables.shown (local_of b last) ≡ []
+rested-held b E old distinct held last is =
+    (λ i. told_at b (machine b E).imported (shown-held b E old held i) (local_of b ((is ∙ last_of-held b E old held) i)))
+    ∙ (Quiet-machine b E distinct).1
+
 -- rows of which none is refused have their calendars
 opposite : (a b c : Bool) → a ≡ not b → a ≡ c → b ≡ not c
 opposite true true c e f = absurd (false≢true (sym e))
@@ -74,12 +82,12 @@ module _ (b : Building) (E : List Delivery) (old : Standing) (held : Holds b E o
       (shown-held b E old held) (settles (machine b E).imported (Tells-held b E old held))
 
   module _ (moment : ℤ) (local : LocalTime) (change : Change) (is_at : local_at b.zone moment ≡ Some local)
-      (later : is_later (last_tick_of b E) moment ≡ true) (settles : Settled-over b old [] (Some local) (Some moment) change) where
+      (later : is_later (last_tick_of b E) moment ≡ true)
+      (settles : Settles b (machine b E).imported old.content.tables.shown (Some local) [] (Some moment) change) where
     here : let m = machine b E in Settles b m.imported m.shown (local_of b (Some moment)) [] (Some moment) change
     here = let m = machine b E in
         subst (λ at. Settles b m.imported m.shown at [] (Some moment) change) (sym is_at)
-        (subst (λ imported. Settles b imported m.shown (Some local) [] (Some moment) change) (with_items-none m.imported)
-        (settles-held [] (Some local) (Some moment) change settles))
+        (subst (λ (shown : Shown). Settles b m.imported shown (Some local) [] (Some moment) change) (shown-held b E old held) settles)
 
     in_range : is_moment b moment ≡ true
     in_range = ap (λ at. is_some_at at) is_at

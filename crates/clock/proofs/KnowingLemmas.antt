@@ -1,6 +1,5 @@
 -- What the calendars of an import know, after each step.
 use Rattle.std.proofs.Common.{◌≡◌, ◌&&◌, ◌||◌, ◌++◌, Bool, true, false, not, List, [], ◌∷◌, map, cond, Option, Some, is_some, ℕ, zero, suc, slice_get, refl, sym, ap, ap₂, ◌∙◌, inl, inr}
-use Rattle.std.specs.Bool.{IsTrue}
 use Rattle.std.specs.Cmp.Lexicographic.{nat_list_eq_equiv}
 use Rattle.std.specs.List.{list_any}
 use Rattle.std.specs.Str.{bytes_eq}
@@ -16,11 +15,9 @@ use Rattle.clock.proofs.AddedLemmas.{texts_for-append}
 use Rattle.dates.specs.declared.entry.Entry.{Entry}
 use Rattle.dates.specs.Entry.{spelling}
 use Rattle.deliveries.specs.Machine.{added_to, is_known}
-use Rattle.memory_tables.proofs.EntryLemmas.{texts-any}
 use Rattle.settling.specs.Calendars.{Tells, texts_for, with_items}
 use Rattle.store.specs.Change.{with_imported}
 use Rattle.store.specs.declared.change.ImportedEntry.{ImportedEntry}
-use Rattle.store.specs.Listed.{AreTexts}
 use Rattle.store.specs.Tables.{Text}
 
 not_true : (b : Bool) → not b ≡ true → b ≡ false

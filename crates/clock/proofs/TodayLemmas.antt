@@ -1,5 +1,5 @@
 -- The calendars that are kept of a day hold on it as long as nothing is imported.
-use Rattle.std.proofs.Common.{◌≡◌, Bool, List, sym, subst}
+use Rattle.std.proofs.Common.{◌≡◌, Bool, sym, subst}
 use Rattle.building.specs.Building.{Building}
 use Rattle.settling.specs.Kept.{AreToday}
 use Rattle.settling.specs.declared.kept.Kept.{Kept}

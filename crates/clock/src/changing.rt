@@ -3,7 +3,7 @@ ghost use Rattle.std.specs.Prelude.{◌≡◌, [], Bool, IfOk, List, Some};
 ghost use Rattle.std.specs.List.{All};
 ghost use Rattle.std.specs.Result.{result_err};
 ghost use Rattle.deliveries.specs.Clocked.{Settles};
-ghost use Rattle.deliveries.specs.Machine.{told_at, writes_at};
+ghost use Rattle.deliveries.specs.Machine.{local_of, told_at, writes_at};
 ghost use Rattle.building.specs.Building.{Building as a_building};
 ghost use Rattle.settling.specs.Calendars.{Tells, with_items};
 ghost use Rattle.settling.specs.Kept.{AreSpans, AreToday};
@@ -12,7 +12,7 @@ ghost use Rattle.store.specs.Standing.{IsOpen, Reads};
 ghost use Rattle.store.specs.Tables.{Text};
 
 use building::Building;
-use local_times::LocalTime;
+use local_times::{LocalTime, local_time};
 use settling::{Kept, Settlement, settle, settle_again};
 use std::alloc::Global;
 use store::{Change, ImportedEntry, Store, StoreFault};
@@ -81,13 +81,14 @@ pub fn settled_change<S: Store>(
 }
 
 /// The change of what the schedules write and show at a local time, with its moment as the last tick, over what is kept of
-/// its day. The store is only read.
+/// its day and since the local time of the last tick, if there was one. The store is only read.
 pub fn ticked_change<S: Store>(
     alloc: Global,
     store: &mut S,
     building: &Building,
     kept: &mut Kept,
     moment: i64,
+    since: Option<LocalTime>,
     local: LocalTime,
 ) -> Result<Change, StoreFault>
     requires open { IsOpen (S.standing store.old) }
@@ -96,6 +97,7 @@ pub fn ticked_change<S: Store>(
     ensures settles { (S.standing store.new).is_honest
         → AreToday building.now (S.standing store.old).content.tables.imported kept.old
         → (imported : Text → List Text) → Tells (S.standing store.old).content.tables.imported imported
+        → told_at building.now imported (S.standing store.old).content.tables.shown since ≡ []
         → IfOk result (Settles building.now imported (S.standing store.old).content.tables.shown (Some local) [] (Some moment)) }
     ensures imports { IfOk result (λ change. change.imported.items ≡ []) }
     ensures stands { IfOk result CanStand }
@@ -104,10 +106,20 @@ pub fn ticked_change<S: Store>(
         → AreToday building.now (S.standing store.old).content.tables.imported kept.old
         → AreToday building.now (S.standing store.old).content.tables.imported kept.new }
 {
-    let settlement = settle_again(alloc, store, building, kept, local)?;
+    let settlement = settle_again(alloc, store, building, kept, since, local)?;
     let mut change = Change::new(alloc);
     change.places = settlement.places;
     change.shown = settlement.shown;
     change.last_tick = Some(moment);
     Ok(change)
+}
+
+/// The local time at the last tick, if there was one.
+pub fn local_of(building: &Building, last: Option<i64>) -> Option<LocalTime>
+    ensures { result ≡ local_of building.now last }
+{
+    match last {
+        Some(moment) => local_time(building.zone(), moment),
+        None => None,
+    }
 }

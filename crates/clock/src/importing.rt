@@ -4,30 +4,18 @@ ghost use Rattle.std.specs.Result.{result_err};
 ghost use Rattle.deliveries.specs.declared.delivery.Delivery.{Delivery as a_delivery};
 ghost use Rattle.deliveries.specs.declared.delivery.Delivery.TheVariants as delivery_of;
 ghost use Rattle.deliveries.specs.Delivered.{Delivers, Holds};
-ghost use Rattle.deliveries.specs.Machine.{local_of};
 ghost use Rattle.deliveries.specs.Reply.{refused_record};
 ghost use Rattle.settling.specs.Kept.{AreSpans, AreToday};
 ghost use Rattle.store.specs.Standing.{ChangesOnce, Goes, IsOpen};
 
 use crate::adding::added_items;
-use crate::changing::settled_change;
+use crate::changing::{local_of, settled_change};
 use building::Building;
 use deliveries::{Reply, refused_record};
-use local_times::{LocalTime, local_time};
 use sched::CalendarEntry;
 use settling::Kept;
 use std::alloc::Global;
 use store::{Store, StoreFault};
-
-// The local time at the last tick, if there was one.
-fn local_of(building: &Building, last: Option<i64>) -> Option<LocalTime>
-    ensures { result ≡ local_of building.now last }
-{
-    match last {
-        Some(moment) => local_time(building.zone(), moment),
-        None => None,
-    }
-}
 
 // Imports rows that have their calendars.
 fn import<S: Store>(

@@ -9,7 +9,7 @@ ghost use Rattle.local_times.specs.LocalTimes.{local_at};
 ghost use Rattle.settling.specs.Kept.{AreSpans, AreToday};
 ghost use Rattle.store.specs.Standing.{ChangesOnce, Goes, IsOpen};
 
-use crate::changing::ticked_change;
+use crate::changing::{local_of, ticked_change};
 use building::Building;
 use deliveries::Reply;
 use local_times::{LocalTime, local_time};
@@ -33,6 +33,7 @@ fn tick_at<S: Store>(
     store: &mut S,
     building: &Building,
     kept: &mut Kept,
+    last: Option<i64>,
     moment: i64,
     local: LocalTime,
 ) -> Result<Reply, StoreFault>
@@ -41,6 +42,7 @@ fn tick_at<S: Store>(
     ensures goes { Goes (result_err result) (S.standing store.old) (S.standing store.new) }
     ensures changes_once { ChangesOnce (result_err result) (S.standing store.old) (S.standing store.new) }
     ensures delivers { (earlier : List a_delivery) → local_at building.now.zone moment ≡ Some local
+        → last ≡ (S.standing store.old).content.tables.last_tick
         → is_later (last_tick_of building.now earlier) moment ≡ true
         → (S.standing store.new).is_honest → AreToday building.now (S.standing store.old).content.tables.imported kept.old
         → Holds building.now earlier (S.standing store.old)
@@ -50,7 +52,10 @@ fn tick_at<S: Store>(
         → AreToday building.now (S.standing store.old).content.tables.imported kept.old
         → AreToday building.now (S.standing store.new).content.tables.imported kept.new }
 {
-    let change = ticked_change(alloc, store, building, kept, moment, local)?;
+    // so that schedules which have settled write nothing more
+    building.names_are_distinct();
+    let since = local_of(building, last);
+    let change = ticked_change(alloc, store, building, kept, moment, since, local)?;
     match store.commit(&change) {
         Ok(()) => Ok(Reply::Ticked {
             writes: change.places.len() as u64,
@@ -88,7 +93,7 @@ pub fn deliver_tick_after<S: Store>(
     if !is_later(last, moment) {
         return Ok(Reply::Old);
     }
-    tick_at(alloc, store, building, kept, moment, local)
+    tick_at(alloc, store, building, kept, last, moment, local)
 }
 
 /// The same of a tick alone, of whose day nothing is kept.

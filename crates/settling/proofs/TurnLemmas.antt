@@ -1,5 +1,5 @@
 -- What a schedule writes in each case of its value and of what it shows.
-use Rattle.std.proofs.Common.{◌≡◌, ℤ, Bool, true, false, not, ◌&&◌, if◌then◌else◌, List, [], ◌∷◌, ◌++◌, Option, Some, None, is_some, refl, sym, subst}
+use Rattle.std.proofs.Common.{◌≡◌, ℤ, Bool, true, false, not, ◌&&◌, if◌then◌else◌, [], ◌∷◌, ◌++◌, Option, Some, None, is_some, refl, sym, subst}
 use Rattle.std.proofs.lemmas.List.{append-nil}
 use Rattle.building.specs.declared.named_schedule.NamedSchedule.{NamedSchedule}
 use Rattle.settling.specs.declared.settlement.Written.{Written}

@@ -1,4 +1,5 @@
 pub mod Calendars
 pub mod Kept
+pub mod Rests
 pub mod Settled
 pub mod Turns

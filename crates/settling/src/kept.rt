@@ -1,9 +1,12 @@
 //! What is kept of the schedules between the ticks of a day.
-ghost use Rattle.std.specs.Prelude.{◌≡◌, Bool, ◌⊎◌, ℕ, IfOk, IfSome, List, None, Some, slice_get};
+ghost use Rattle.std.specs.Prelude.{◌≡◌, ◌↔◌, ◌≤◌, Bool, ◌⊎◌, ℕ, IfOk, IfSome, List, None, Some, slice_get};
+ghost use Rattle.std.specs.Bool.{IsTrue};
 ghost use Rattle.building.specs.Building.{Building};
 ghost use Rattle.building.specs.declared.named_schedule.NamedSchedule.{NamedSchedule as a_schedule};
 ghost use Rattle.sched.specs.Schedule.{schedule_value};
 ghost use Rattle.settling.specs.Kept.{AreSpans, AreToday, HasSpans};
+ghost use Rattle.settling.specs.Rests.{Rests, at_time};
+ghost use Rattle.settling.specs.Settled.{Shown};
 ghost use Rattle.store.specs.Tables.{Text};
 
 use building::NamedSchedule;
@@ -17,6 +20,15 @@ use std::alloc::{AllocError, Global};
 pub struct KeptSpan {
     pub span: Span,
     pub value: Option<i64>,
+}
+
+impl KeptSpan {
+    /// Whether a time of the span's day lies in it.
+    fn holds_time(&self, time: Time) -> bool
+        ensures { IsTrue result ↔ (self.now.span.first ≤ time) × (time ≤ self.now.span.last) }
+    {
+        self.span.first <= time && time <= self.span.last
+    }
 }
 
 /// What was found of a day.
@@ -132,6 +144,42 @@ impl KeptDay {
             Some(kept) if kept.span.holds(day, time) => Some(kept.value),
             _ => None,
         }
+    }
+
+    /// Whether one span that is kept of a schedule holds both times of the day.
+    fn one_span_holds(&self, index: usize, earlier: Time, time: Time) -> bool
+        ensures { (schedules : List a_schedule) (schedule : a_schedule) → slice_get schedules index ≡ Some schedule
+            → HasSpans schedules self.now → IsTrue result
+            → schedule_value schedule.schedule self.now.calendars.items self.now.day earlier
+            ≡ schedule_value schedule.schedule self.now.calendars.items self.now.day time }
+    {
+        match kept_at(self.spans.as_slice(), index) {
+            Some(kept) if kept.holds_time(earlier) => kept.holds_time(time),
+            _ => false,
+        }
+    }
+
+    /// Whether a schedule that showed what it should at an earlier time of the day still does: one span holds both times, or it
+    /// is not active on that day. Nothing is asked of a store.
+    pub(crate) fn rests(
+        &self,
+        index: usize,
+        schedule: &NamedSchedule,
+        since: Option<Time>,
+        time: Time,
+    ) -> bool
+        ensures { (schedules : List a_schedule) (shown : Shown) → slice_get schedules index ≡ Some schedule.now
+            → HasSpans schedules self.now
+            → IfSome since (λ earlier. Rests (at_time self.now.calendars.items self.now.day earlier) shown schedule.now)
+            → IsTrue result → Rests (at_time self.now.calendars.items self.now.day time) shown schedule.now }
+    {
+        let Some(earlier) = since else {
+            return false;
+        };
+        if self.one_span_holds(index, earlier, time) {
+            return true;
+        }
+        !schedule.schedule.active(self.day)
     }
 
     /// The value of a schedule at a time of the day: that of its span, where one holds the time, or else anew.

@@ -1,11 +1,12 @@
 //! What the schedules of a building write and show.
-ghost use Rattle.std.specs.Prelude.{◌≡◌, ◌++◌, ◌∷◌, [], Bool, IfOk, IsTrue, List, OnOk, None, Some, slice_get};
+ghost use Rattle.std.specs.Prelude.{◌≡◌, ◌++◌, ◌∷◌, [], Bool, IfOk, IfSome, IsTrue, List, OnOk, None, Some, slice_get};
 ghost use Rattle.std.specs.List.{All, flat_map, list_all};
 ghost use Rattle.std.specs.Result.{result_err};
 ghost use Rattle.building.specs.declared.named_schedule.NamedSchedule.{NamedSchedule as a_schedule};
 ghost use Rattle.building.specs.Building.{Building as a_building};
 ghost use Rattle.settling.specs.Calendars.{Tells, calendars_of, hold_on, with_items};
 ghost use Rattle.settling.specs.Kept.{AreSpans, AreToday, HasSpans, current_of};
+ghost use Rattle.settling.specs.Rests.{HaveRested};
 ghost use Rattle.settling.specs.Settled.{Now, at_each_target, cleared_by, put_by, shown_by, told, when_leaving, written};
 ghost use Rattle.settling.specs.Turns.{Turns, now_at};
 ghost use Rattle.store.specs.Change.{IsPlace};
@@ -18,6 +19,7 @@ use crate::today::calendars_today;
 use building::{Building, NamedSchedule, OnLeave};
 use dates::Day;
 use local_times::LocalTime;
+use sched::Time;
 use std::alloc::{AllocError, Global};
 use store::{ImportedEntry, PlaceValue, ShownValue, Store, StoreFault};
 
@@ -183,13 +185,15 @@ fn settle_one<S: Store>(
     Ok(())
 }
 
-// What the schedules write at a time of the day that is kept, each after those before it.
+// What the schedules write at a time of the day that is kept, each after those before it. Of those that rest since an earlier
+// time nothing is asked.
 fn settle_each<S: Store>(
     alloc: Global,
     store: &mut S,
     kept: &mut KeptDay,
     evaluations: &mut u64,
     schedules: &[NamedSchedule],
+    since: &Option<Time>,
     local: &LocalTime,
 ) -> Result<Written, StoreFault>
     requires open { IsOpen (S.standing store.old) }
@@ -197,11 +201,17 @@ fn settle_each<S: Store>(
     requires day { kept.old.day ≡ local.now.day }
     requires spans { HasSpans schedules.now kept.old }
     ensures reads { Reads (result_err result) (S.standing store.old) (S.standing store.new) }
-    ensures cleared { (S.standing store.new).is_honest → IfOk result (λ all. all.cleared.items
+    ensures cleared { (S.standing store.new).is_honest
+        → HaveRested kept.old.calendars.items local.now.day (S.standing store.old).content.tables.shown schedules.now since.now
+        → IfOk result (λ all. all.cleared.items
         ≡ flat_map (cleared_by (now_at kept.old.calendars.items local.now) (S.standing store.old).content.tables.shown) schedules.now) }
-    ensures put { (S.standing store.new).is_honest → IfOk result (λ all. all.put.items
+    ensures put { (S.standing store.new).is_honest
+        → HaveRested kept.old.calendars.items local.now.day (S.standing store.old).content.tables.shown schedules.now since.now
+        → IfOk result (λ all. all.put.items
         ≡ flat_map (put_by (now_at kept.old.calendars.items local.now) (S.standing store.old).content.tables.shown) schedules.now) }
-    ensures shown { (S.standing store.new).is_honest → IfOk result (λ all. all.shown.items
+    ensures shown { (S.standing store.new).is_honest
+        → HaveRested kept.old.calendars.items local.now.day (S.standing store.old).content.tables.shown schedules.now since.now
+        → IfOk result (λ all. all.shown.items
         ≡ flat_map (shown_by (now_at kept.old.calendars.items local.now) (S.standing store.old).content.tables.shown) schedules.now) }
     ensures placed { IfOk result (λ all. All IsPlace all.cleared.items × All IsPlace all.put.items) }
     ensures spans { OnOk result (HasSpans schedules.now kept.new) }
@@ -214,6 +224,9 @@ fn settle_each<S: Store>(
         shown: Vec::new(alloc),
     };
     for (index, schedule) in schedules.iter().enumerate() {
+        if kept.rests(index, schedule, *since, local.time) {
+            continue;
+        }
         let value = current(kept, evaluations, index, schedule, *local);
         settle_one(store, &mut all, schedule, value)?;
     }
@@ -236,22 +249,28 @@ fn joined(all: Written) -> Result<Settlement, AllocError>
     })
 }
 
-// What the schedules of a building write and show at a time of the day that is kept.
+// What the schedules of a building write and show at a time of the day that is kept. Of those that rest since an earlier time
+// nothing is asked.
 fn settle_on<S: Store>(
     alloc: Global,
     store: &mut S,
     building: &Building,
     kept: &mut KeptDay,
     evaluations: &mut u64,
+    since: Option<Time>,
     local: LocalTime,
 ) -> Result<Settlement, StoreFault>
     requires open { IsOpen (S.standing store.old) }
     requires day { kept.old.day ≡ local.day }
     requires spans { HasSpans building.now.schedules kept.old }
     ensures reads { Reads (result_err result) (S.standing store.old) (S.standing store.new) }
-    ensures places { (S.standing store.new).is_honest → IfOk result (λ settlement. settlement.places.items
+    ensures places { (S.standing store.new).is_honest
+        → HaveRested kept.old.calendars.items local.day (S.standing store.old).content.tables.shown building.now.schedules since
+        → IfOk result (λ settlement. settlement.places.items
         ≡ written (now_at kept.old.calendars.items local) (S.standing store.old).content.tables.shown building.now.schedules) }
-    ensures shown { (S.standing store.new).is_honest → IfOk result (λ settlement. settlement.shown.items
+    ensures shown { (S.standing store.new).is_honest
+        → HaveRested kept.old.calendars.items local.day (S.standing store.old).content.tables.shown building.now.schedules since
+        → IfOk result (λ settlement. settlement.shown.items
         ≡ told (now_at kept.old.calendars.items local) (S.standing store.old).content.tables.shown building.now.schedules) }
     ensures placed { IfOk result (λ settlement. All IsPlace settlement.places.items) }
     ensures spans { OnOk result (HasSpans building.now.schedules kept.new) }
@@ -264,6 +283,7 @@ fn settle_on<S: Store>(
         kept,
         evaluations,
         building.schedules(),
+        &since,
         &local,
     )?;
     Ok(joined(all)?)
@@ -323,6 +343,7 @@ pub fn settle<S: Store>(
         building,
         &mut day,
         &mut kept.evaluations,
+        None,
         local,
     )
 }
@@ -352,13 +373,25 @@ fn day_of<S: Store>(
     new_day(alloc, store, building, &[], day)
 }
 
-/// The same where nothing is imported beside what the store holds. Of a schedule that was evaluated on this day at a time
-/// of the same span nothing is asked but what it shows; which calendars hold is asked once a day.
+// The time of a local time, if it is one of this day.
+fn time_on(local: Option<LocalTime>, day: Day) -> Option<Time>
+    ensures { IfSome result (λ time. local ≡ Some (record { day = day; time = time })) }
+{
+    match local {
+        Some(local) if local.day == day => Some(local.time),
+        _ => None,
+    }
+}
+
+/// The same where nothing is imported beside what the store holds, and where schedules that show what they should at an
+/// earlier local time, if one is given, are known: of one whose span holds both times nothing is asked, neither its value nor
+/// what it shows; nor of one that is not active on that day. Which calendars hold is asked once a day.
 pub fn settle_again<S: Store>(
     alloc: Global,
     store: &mut S,
     building: &Building,
     kept: &mut Kept,
+    since: Option<LocalTime>,
     local: LocalTime,
 ) -> Result<Settlement, StoreFault>
     requires open { IsOpen (S.standing store.old) }
@@ -367,11 +400,15 @@ pub fn settle_again<S: Store>(
     ensures places { (S.standing store.new).is_honest
         → AreToday building.now (S.standing store.old).content.tables.imported kept.old
         → (imported : Text → List Text) → Tells (S.standing store.old).content.tables.imported imported
+        → IfSome since (λ earlier. told (now_at (calendars_of building.now imported) earlier)
+        (S.standing store.old).content.tables.shown building.now.schedules ≡ [])
         → IfOk result (λ settlement. settlement.places.items
         ≡ written (now_at (calendars_of building.now imported) local) (S.standing store.old).content.tables.shown building.now.schedules) }
     ensures shown { (S.standing store.new).is_honest
         → AreToday building.now (S.standing store.old).content.tables.imported kept.old
         → (imported : Text → List Text) → Tells (S.standing store.old).content.tables.imported imported
+        → IfSome since (λ earlier. told (now_at (calendars_of building.now imported) earlier)
+        (S.standing store.old).content.tables.shown building.now.schedules ≡ [])
         → IfOk result (λ settlement. settlement.shown.items
         ≡ told (now_at (calendars_of building.now imported) local) (S.standing store.old).content.tables.shown building.now.schedules) }
     ensures placed { IfOk result (λ settlement. All IsPlace settlement.places.items) }
@@ -381,12 +418,14 @@ pub fn settle_again<S: Store>(
         → AreToday building.now (S.standing store.old).content.tables.imported kept.new }
 {
     let mut day = day_of(alloc, store, building, kept, local.day)?;
+    let since = time_on(since, local.day);
     let settlement = settle_on(
         alloc,
         store,
         building,
         &mut day,
         &mut kept.evaluations,
+        since,
         local,
     )?;
     kept.day = Some(day);

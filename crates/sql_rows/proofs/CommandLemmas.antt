@@ -1,13 +1,13 @@
 -- The statements on the commands.
-use Rattle.std.proofs.Common.{◌≡◌, ◌∙◌, inl, inr, ℕ, ℤ, Option, Result, IfOk, Ok, Err, OnOk, pos, true, false, not, true≢false, ◌&&◌, List, [], ◌∷◌, codes, refl, sym, ap, subst, subst₂}
-use Rattle.std.proofs.lemmas.Bool.{and_parts, cases_Bool}
+use Rattle.std.proofs.Common.{◌≡◌, ◌∙◌, inl, inr, ℕ, ℤ, Option, Result, IfOk, Ok, Err, OnOk, pos, true, false, ◌&&◌, List, [], ◌∷◌, codes, refl, sym, ap, subst₂}
+use Rattle.std.proofs.lemmas.Bool.{and_parts}
 use Rattle.std.proofs.lemmas.Bool.Decides.{Decides-eqb}
 use Rattle.std.proofs.lemmas.Slice.Eq.{bytes_eq-Decides}
 use Rattle.sqlite_value.specs.Keys.{first_key}
 use Rattle.sqlite_catalog.specs.Listing.{automatic}
 use Rattle.sqlite_trees.specs.Tree.{rowid}
 use Rattle.sql_rows.proofs.KeyLemmas.{count_is, one_number, text_is}
-use Rattle.sql_rows.proofs.RowLemmas.{filter_all, filter_same, has_more, has_new, tied_taken}
+use Rattle.sql_rows.proofs.AddLemmas.{adds_alone}
 use Rattle.sqlite_value.specs.declared.value.Value.TheVariants.{Int, Null, Text}
 use Rattle.sqlite_value.specs.Order.{Row, column}
 use Rattle.sqlite_schema.specs.declared.schema.Constraint.TheVariants.{Datatype, NotNull}
@@ -21,7 +21,7 @@ use Rattle.sqlite.specs.Effect.{Database}
 use Rattle.sqlite.specs.State.{ExecutesInside, Shown, State}
 use Rattle.sql_create.specs.Schema.{column_of, command_table, command_tree}
 use Rattle.sql_rows.specs.Meanings.{compared_with, given, passes}
-use Rattle.sql_rows.specs.Ours.{Adds, Changes, Gains, IsInside, IsOurs, Loses}
+use Rattle.sql_rows.specs.Ours.{Adds, Changes, IsInside, IsOurs, Loses}
 use Rattle.sql_rows.specs.Slot.{On, command_slot}
 use Rattle.sql_rows.proofs.CellLemmas.{from_text, and_true, below_count, cast_cell, cast_int, cast_null, equal_count, equal_text, from_count}
 use Rattle.sql_rows.proofs.RestLemmas.{finds, finds_least, finds_same, least_same}
@@ -70,10 +70,6 @@ clears panel number old new result inside h =
     (Text panel ∷ Int (pos number) ∷ []) result
     (λ row h. passes_command old.now inside.ours panel number row h) inside h
 
-on_ok : {P Q : Type 0} (result : Result ℕ Error) → (P → Q) → OnOk result P → OnOk result Q
-on_ok (Ok count) f p = f p
-on_ok (Err e) f p = tt
-
 -- no two rows have one number of a panel
 one_command : (db : Database) → IsOurs db → (panel : List ℕ) (number : ℕ) (a b : Row) → Has (db.trees command_tree) a
     → Has (db.trees command_tree) b
@@ -87,37 +83,6 @@ one_command db ours panel number a b ha hb is_a is_b =
     (sym (count_is number (column b 2) parts.1))
     (passes_command db ours panel number a ha ∙ is_a))
 
--- where a row could be added under a number of a panel, none stood there
-adds_alone : (panel : List ℕ) (number : ℕ) (rest : Row) (old new : State)
-    → Changes (On command_slot (Gains (Text panel ∷ Int (pos number) ∷ rest))) old new
-    → Changes (On command_slot (Adds (of_command panel number) (Text panel ∷ Int (pos number) ∷ rest))) old new
-adds_alone panel number rest old new it =
-    let rows = old.now.trees command_tree in
-    let gains = it.change.rows in
-    let more = gains.more in
-    let added = gains.id ∷ Text panel ∷ Int (pos number) ∷ rest in
-    let its_own : of_command panel number added ≡ true =
-    rw ((bytes_eq-Decides panel panel).1 refl, (Decides-eqb number number).1 refl) refl in
-    let there : Has (new.now.trees command_tree) added = subst (λ l. Has l added) (sym more.is) (has_new more.before more.after added) in
-    let none : (row : Row) → Has rows row → true ≡ not (of_command panel number row) =
-    λ row h. elim (cases_Bool (of_command panel number row)) [
-      | inl same ↦
-          let still : Has (new.now.trees command_tree) row =
-          subst (λ l. Has l row) (sym more.is) (has_more more.before more.after added row (subst (λ l. Has l row) more.was h)) in
-          let taken = tied_taken added rows row h (one_command new.now it.ours panel number row added still there same its_own) in
-          absurd (true≢false (sym taken ∙ gains.free))
-      | inr other ↦ ap not (sym other)
-    ] in
-    record {
-      seen = it.seen;
-      ours = it.ours;
-      change =
-          record {
-            others = it.change.others;
-            rows = (filter_all rows ∙ filter_same (λ r. true) (λ r. not (of_command panel number r)) rows none, gains);
-          };
-    }
-
 pub adds : (panel : List ℕ) (number : ℕ) (point : List ℕ) (priority : ℤ) (value : Option ℤ) (state : ℤ) (a : Option ℤ) (b : Option ℤ)
     → (old new : State) (result : Result ℕ Error) → IsInside old
     → ExecutesInside 0 add_text (Text panel ∷ Int (pos number) ∷ Text point ∷ Int priority ∷ cell_of value ∷ Int state ∷ cell_of a
@@ -125,7 +90,10 @@ pub adds : (panel : List ℕ) (number : ℕ) (point : List ℕ) (priority : ℤ)
     → OnOk result (Changes (On command_slot (Adds (of_command panel number)
     (Text panel ∷ Int (pos number) ∷ Text point ∷ Int priority ∷ cell_of value ∷ Int state ∷ cell_of a ∷ cell_of b ∷ []))) old new)
 adds panel number point priority value state a b old new result inside h =
-    on_ok result (adds_alone panel number (Text point ∷ Int priority ∷ cell_of value ∷ Int state ∷ cell_of a ∷ cell_of b ∷ []) old new)
+    adds_alone command_slot (of_command panel number)
+    (Text panel ∷ Int (pos number) ∷ Text point ∷ Int priority ∷ cell_of value ∷ Int state ∷ cell_of a ∷ cell_of b ∷ []) old new result
+    (λ id. rw ((bytes_eq-Decides panel panel).1 refl, (Decides-eqb number number).1 refl) refl)
+    (λ it x y hx hy is_x is_y. one_command new.now it.ours panel number x y hx hy is_x is_y)
     (gains command_slot is_command add_text add_plain (codes "command") command_table.columns command_table.checks
     (lit Null ∷ col 0 0 ∷ col 0 1 ∷ col 0 2 ∷ col 0 3 ∷ col 0 4 ∷ col 0 5 ∷ col 0 6 ∷ col 0 7 ∷ []) 9 command_tree refl add_is
     old new (Text panel ∷ Int (pos number) ∷ Text point ∷ Int priority ∷ cell_of value ∷ Int state ∷ cell_of a ∷ cell_of b ∷ [])

@@ -1,7 +1,14 @@
 -- The statements on the imported entries.
-use Rattle.std.proofs.Common.{◌≡◌, ℕ, Result, IfOk, Ok, Err, OnOk, true, ◌&&◌, List, [], ◌∷◌, codes, refl, ap}
+use Rattle.std.proofs.Common.{◌≡◌, ◌∙◌, inl, inr, ℕ, Result, IfOk, Ok, Err, OnOk, true, ◌&&◌, List, [], ◌∷◌, codes, refl, sym, ap, subst₂}
 use Rattle.sqlite_value.specs.declared.value.Value.TheVariants.{Null, Text}
+use Rattle.std.proofs.lemmas.Bool.{and_parts}
+use Rattle.std.proofs.lemmas.Slice.Eq.{bytes_eq-Decides}
+use Rattle.sqlite_value.specs.Keys.{first_key}
 use Rattle.sqlite_value.specs.Order.{Row, column}
+use Rattle.sqlite_catalog.specs.Listing.{automatic}
+use Rattle.sqlite_trees.specs.Tree.{rowid}
+use Rattle.sql_rows.proofs.AddLemmas.{adds_alone}
+use Rattle.sql_rows.proofs.KeyLemmas.{one_number, text_is}
 use Rattle.sqlite_schema.specs.declared.schema.Constraint.TheVariants.{Datatype, NotNull}
 use Rattle.sqlite_schema.specs.declared.schema.Kind.TheVariants as kind
 use Rattle.sqlite_rules.specs.Lists.{Has}
@@ -13,7 +20,7 @@ use Rattle.sqlite.specs.Effect.{Database}
 use Rattle.sqlite.specs.State.{ExecutesInside, Shown, State}
 use Rattle.sql_create.specs.Schema.{column_of, imported_table, imported_tree}
 use Rattle.sql_rows.specs.Meanings.{compared_with, given, passes}
-use Rattle.sql_rows.specs.Ours.{Changes, Gains, IsInside, IsOurs, Loses}
+use Rattle.sql_rows.specs.Ours.{Adds, Changes, IsInside, IsOurs, Loses}
 use Rattle.sql_rows.specs.Slot.{On, imported_slot}
 use Rattle.sql_rows.proofs.CellLemmas.{from_text, and_true, cast_null, equal_text}
 use Rattle.sql_rows.proofs.RestLemmas.{finds_least, least_same}
@@ -54,14 +61,30 @@ clears calendar entry old new result inside h =
     (Text calendar ∷ Text entry ∷ []) result
     (λ row h. passes_imported old.now inside.ours calendar entry row h) inside h
 
+-- no two rows have one entry of a calendar
+one_entry : (db : Database) → IsOurs db → (calendar entry : List ℕ) (a b : Row) → Has (db.trees imported_tree) a
+    → Has (db.trees imported_tree) b
+    → of_entry calendar entry a ≡ true → of_entry calendar entry b ≡ true → rowid a ≡ rowid b
+unfolding first_key
+one_entry db ours calendar entry a b ha hb is_a is_b =
+    let parts = and_parts _ _ is_b in
+    one_number (automatic imported_table 0 (1 ∷ 2 ∷ []) 10) imported_table (1 ∷ 2 ∷ []) db ours
+    (inr (inr (inr (inr (inr (inl refl)))))) (inr (inr (inr (inr (inl refl))))) refl ours.rows.imported a b ha hb
+    (subst₂ (λ v w. passes (given 1 0 ∷ given 2 1 ∷ []) (v ∷ w ∷ []) a ≡ true) (sym (text_is calendar (column b 1) parts.0))
+    (sym (text_is entry (column b 2) parts.1))
+    (passes_imported db ours calendar entry a ha ∙ is_a))
+
 pub adds : (calendar : List ℕ) (entry : List ℕ) → (old new : State) (result : Result ℕ Error) → IsInside old
     → ExecutesInside 0 add_text (Text calendar ∷ Text entry ∷ []) old new result
-    → OnOk result (Changes (On imported_slot (Gains (Text calendar ∷ Text entry ∷ []))) old new)
+    → OnOk result (Changes (On imported_slot (Adds (of_entry calendar entry) (Text calendar ∷ Text entry ∷ []))) old new)
 adds calendar entry old new result inside h =
-    gains imported_slot is_imported add_text add_plain (codes "imported") imported_table.columns imported_table.checks
+    adds_alone imported_slot (of_entry calendar entry) (Text calendar ∷ Text entry ∷ []) old new result
+    (λ id. rw ((bytes_eq-Decides calendar calendar).1 refl, (bytes_eq-Decides entry entry).1 refl) refl)
+    (λ it a b ha hb is_a is_b. one_entry new.now it.ours calendar entry a b ha hb is_a is_b)
+    (gains imported_slot is_imported add_text add_plain (codes "imported") imported_table.columns imported_table.checks
     (lit Null ∷ col 0 0 ∷ col 0 1 ∷ []) 3 imported_tree refl add_is
     old new (Text calendar ∷ Text entry ∷ []) (Text calendar ∷ Text entry ∷ []) result
-    (rw (cast_null) refl) inside h
+    (rw (cast_null) refl) inside h)
 
 -- the queries
 

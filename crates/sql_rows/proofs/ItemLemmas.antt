@@ -136,25 +136,55 @@ module _ (item : KeptRow) (code : ℤ) (first second : Option ℤ) (named : IsNa
       row_from a c (put_on command_slot (λ x y k. refl) row_gone row_cells a b c lost
       (record { others = added.others; rows = added.rows.1 }))
 
-module _ (a b c : Kept) where
-  pub shown_made : (item : ShownValue) (value : Option ℤ) → item.shown ≡ Some value → IsName item.schedule
-      → On shown_slot (Loses (of_schedule item.schedule)) a b → On shown_slot (Gains (Text item.schedule ∷ cell_of value ∷ [])) b c
-      → Makes (shown_put item) a c
-  shown_made item value some named lost gains =
-      let cells = Text item.schedule ∷ cell_of value ∷ [] in
-      let put = put_on shown_slot (λ x y k. refl) (of_schedule item.schedule) cells a b c lost gains in
-      makes_from (shown_put item) a (record a { shown = c.shown }) c put.is
-      (put_shown item (put.id ∷ cells) a c.shown (made_shown item value (put.id ∷ cells) some refl refl named) put.has)
+module _ (item : ShownValue) (value : Option ℤ) (some_value : item.shown ≡ Some value) (named : IsName item.schedule) where
+  abbrev shown_gone : Row → Bool
+  shown_gone = of_schedule item.schedule
 
-  pub imported_made : (item : ImportedEntry) (text : List ℕ) → text ≡ spelling item.entry → IsName item.calendar → IsEntry item.entry
-      → On imported_slot (Loses (of_entry item.calendar text)) a b → On imported_slot (Gains (Text item.calendar ∷ Text text ∷ [])) b c
-      → Makes (imported_put item) a c
-  imported_made item text is named in' lost gains =
-      let cells = Text item.calendar ∷ Text text ∷ [] in
-      let put = put_on imported_slot (λ x y k. refl) (of_entry item.calendar text) cells a b c lost gains in
-      let has = subst (λ t. HasPut (put.id ∷ cells) (of_entry item.calendar t) a.imported c.imported) is put.has in
-      makes_from (imported_put item) a (record a { imported = c.imported }) c put.is
-      (put_imported item (put.id ∷ cells) a c.imported (made_imported item (put.id ∷ cells) refl (ap Text is) named in') has)
+  abbrev shown_cells : Row
+  shown_cells = Text item.schedule ∷ cell_of value ∷ []
+
+  shown_from : (a b : Kept) → Put shown_slot shown_gone shown_cells a b → Makes (shown_put item) a b
+  shown_from a b put =
+      makes_from (shown_put item) a (record a { shown = b.shown }) b put.is
+      (put_shown item (put.id ∷ shown_cells) a b.shown (made_shown item value (put.id ∷ shown_cells) some_value refl refl named) put.has)
+
+  pub shown_set : (count : ℕ) → count ≢ 0 → (a b : Kept) → On shown_slot (Rewrites shown_gone shown_cells count) a b
+      → Makes (shown_put item) a b
+  shown_set count some a b set = shown_from a b (put_in shown_slot shown_gone shown_cells count a b some set)
+
+  pub shown_added : (count : ℕ) → count ≡ 0 → (a b c : Kept) → On shown_slot (Rewrites shown_gone shown_cells count) a b
+      → On shown_slot (Gains shown_cells) b c → Makes (shown_put item) a c
+  shown_added count none a b c set gains =
+      shown_from a c (put_on shown_slot (λ x y k. refl) shown_gone shown_cells a b c
+      (none_lost shown_slot shown_gone shown_cells count a b none set) gains)
+
+module _ (item : ImportedEntry) (text : List ℕ) (is : text ≡ spelling item.entry) (named : IsName item.calendar) (in' : IsEntry item.entry)
+  where
+    abbrev imported_gone : Row → Bool
+    imported_gone = of_entry item.calendar text
+
+    abbrev imported_cells : Row
+    imported_cells = Text item.calendar ∷ Text text ∷ []
+
+    imported_from : (a b : Kept) → Put imported_slot imported_gone imported_cells a b → Makes (imported_put item) a b
+    imported_from a b put =
+        let has = subst (λ t. HasPut (put.id ∷ imported_cells) (of_entry item.calendar t) a.imported b.imported) is put.has in
+        makes_from (imported_put item) a (record a { imported = b.imported }) b put.is
+        (put_imported item (put.id ∷ imported_cells) a b.imported
+        (made_imported item (put.id ∷ imported_cells) refl (ap Text is) named in') has)
+
+    -- one that is new
+    pub imported_added : (a b : Kept) → On imported_slot (Adds imported_gone imported_cells) a b → Makes (imported_put item) a b
+    imported_added a b added =
+        imported_from a b (put_on imported_slot (λ x y k. refl) imported_gone imported_cells a a b
+        (record { others = refl; rows = added.rows.0 }) (record { others = added.others; rows = added.rows.1 }))
+
+    -- one in place of another
+    pub imported_made : (a b c : Kept) → On imported_slot (Loses imported_gone) a b → On imported_slot (Adds imported_gone imported_cells) b c
+        → Makes (imported_put item) a c
+    imported_made a b c lost added =
+        imported_from a c (put_on imported_slot (λ x y k. refl) imported_gone imported_cells a b c lost
+        (record { others = added.others; rows = added.rows.1 }))
 
 module _ (a b : Kept) where
   pub place_cleared : (item : PlaceValue) → item.value ≡ None → On place_slot (Loses (of_place item.point item.priority)) a b

@@ -4,7 +4,6 @@ use Rattle.std.proofs.lemmas.Bool.{cases_Bool, false_from_ne_true, not-false, no
 use Rattle.std.proofs.lemmas.List.Elements.{filter-append}
 use Rattle.std.specs.List.{list_all, list_any}
 use Rattle.sqlite_value.specs.Order.{Row, column}
-use Rattle.store.specs.Asked.{Asked}
 use Rattle.store.specs.Asked.Asked.{AnyName, ArrayOf, EntriesOf, LastTick, NextOf, RowOf, ShownBy}
 use Rattle.store.specs.declared.change.ImportedEntry.{ImportedEntry}
 use Rattle.store.specs.declared.change.KeptRow.{KeptRow}

@@ -1,3 +1,4 @@
+pub mod AddLemmas
 pub mod AnswerLemmas
 pub mod BrokenLemmas
 pub mod CellLemmas

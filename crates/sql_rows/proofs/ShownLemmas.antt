@@ -1,7 +1,14 @@
 -- The statements on the shown values.
-use Rattle.std.proofs.Common.{◌≡◌, ℕ, ℤ, Option, Result, IfOk, Ok, Err, OnOk, false, List, [], ◌∷◌, codes, refl, ap}
+use Rattle.std.proofs.Common.{◌≡◌, ◌∙◌, inl, inr, ℕ, ℤ, Option, Result, IfOk, Ok, Err, OnOk, true, false, List, [], ◌∷◌, codes, refl, sym, ap, subst}
 use Rattle.sqlite_value.specs.declared.value.Value.TheVariants.{Null, Text}
+use Rattle.sqlite_value.specs.Keys.{first_key}
 use Rattle.sqlite_value.specs.Order.{Row, column}
+use Rattle.sqlite_catalog.specs.Listing.{automatic}
+use Rattle.sqlite_rules.specs.Edit.{id_in}
+use Rattle.sqlite_rules.proofs.TableLemmas.{int_is}
+use Rattle.sqlite_trees.specs.Tree.{rowid}
+use Rattle.sql_rows.proofs.KeyLemmas.{one_number, text_is}
+use Rattle.sql_rows.proofs.RewriteLemmas.{rewrites}
 use Rattle.sqlite_schema.specs.declared.schema.Constraint.TheVariants.{Datatype, NotNull}
 use Rattle.sqlite_schema.specs.declared.schema.Kind.TheVariants as kind
 use Rattle.sqlite_rules.specs.Lists.{Has}
@@ -13,14 +20,14 @@ use Rattle.sqlite.specs.Effect.{Database}
 use Rattle.sqlite.specs.State.{ExecutesInside, Shown, State}
 use Rattle.sql_create.specs.Schema.{column_of, shown_table, shown_tree}
 use Rattle.sql_rows.specs.Meanings.{compared_with, given, passes}
-use Rattle.sql_rows.specs.Ours.{Changes, Gains, IsInside, IsOurs, Loses}
+use Rattle.sql_rows.specs.Ours.{Changes, Gains, IsInside, IsOurs, Loses, Rewrites}
 use Rattle.sql_rows.specs.Slot.{On, shown_slot}
-use Rattle.sql_rows.proofs.CellLemmas.{from_text, and_true, cast_cell, cast_null, equal_text}
+use Rattle.sql_rows.proofs.CellLemmas.{from_text, and_true, cast_cell, cast_int, cast_null, equal_text}
 use Rattle.sql_rows.proofs.RestLemmas.{finds, finds_least, finds_same, least_same}
 use Rattle.sql_rows.specs.Looking.{Finds, FindsLeast, is_from_text}
 use Rattle.sql_rows.proofs.SlotLemmas.{gains, is_shown, loses}
 use Rattle.sql_rows.proofs.TypeLemmas.{IsFilled, first_filled, ruled}
-use Rattle.sql_rows.proofs.ShownTexts.{add_is, add_plain, add_text, clear_is, clear_plain, clear_text, find_is, find_plain, find_text, find_unlisted, next_name_is, next_name_plain, next_name_text, next_name_unlisted}
+use Rattle.sql_rows.proofs.ShownTexts.{add_is, add_plain, add_text, cells_set, clear_is, clear_plain, clear_text, find_is, find_plain, find_text, find_unlisted, next_name_is, next_name_plain, next_name_text, next_name_unlisted, set_is, set_plain, set_text}
 use Rattle.sql_rows.specs.Cells.{cell_of, is_text}
 use Rattle.sql_rows.specs.Rows.{of_schedule}
 
@@ -53,6 +60,32 @@ adds schedule value old new result inside h =
     (lit Null ∷ col 0 0 ∷ col 0 1 ∷ []) 3 shown_tree refl add_is
     old new (Text schedule ∷ cell_of value ∷ []) (Text schedule ∷ cell_of value ∷ []) result
     (rw (cast_null, cast_cell value) refl) inside h
+
+-- no two rows have one name
+one_shown : (db : Database) → IsOurs db → (schedule : List ℕ) (a b : Row) → Has (db.trees shown_tree) a → Has (db.trees shown_tree) b
+    → of_schedule schedule a ≡ true → of_schedule schedule b ≡ true → rowid a ≡ rowid b
+unfolding first_key
+one_shown db ours schedule a b ha hb is_a is_b =
+    one_number (automatic shown_table 0 (1 ∷ []) 8) shown_table (1 ∷ []) db ours (inr (inr (inr (inr (inl refl)))))
+    (inr (inr (inr (inl refl)))) refl ours.rows.shown a b ha hb
+    (subst (λ v. passes (given 1 0 ∷ []) (v ∷ []) a ≡ true) (sym (text_is schedule (column b 1) is_b))
+    (passes_shown db ours schedule a ha ∙ is_a))
+
+pub sets : (schedule : List ℕ) (value : Option ℤ) → (old new : State) (result : Result ℕ Error) → IsInside old
+    → ExecutesInside 0 set_text (Text schedule ∷ cell_of value ∷ []) old new result
+    → IfOk result (λ count. Changes (On shown_slot (Rewrites (of_schedule schedule) (Text schedule ∷ cell_of value ∷ []) count)) old new)
+sets schedule value old new result inside h =
+    let cells = Text schedule ∷ cell_of value ∷ [] in
+    rewrites shown_slot is_shown set_text set_plain (given 1 0 ∷ []) (of_schedule schedule) cells_set set_is old new cells cells result
+    (λ row h. passes_shown old.now inside.ours schedule row h)
+    (record {
+      by_key = λ a b same. ap (λ l. is_text schedule (column l 0)) same;
+      one = λ a b ha hb is_a is_b. one_shown old.now inside.ours schedule a b ha hb is_a is_b;
+      made = λ row h is.
+          let number = int_is (rowid row) (inside.ours.rows.shown.numbered row h) in
+          rw (text_is schedule (column row 1) is, cast_cell value, number, cast_int (id_in (rowid row))) refl;
+    })
+    inside h
 
 -- the queries
 

@@ -1,16 +1,16 @@
 -- What the statements on the shown values mean.
 use Rattle.std.proofs.Common.{◌≡◌, ℕ, false, List, [], ◌∷◌, codes, refl}
 use Rattle.sqlite_value.specs.declared.value.Value.TheVariants.{Null}
-use Rattle.sqlite_schema.specs.declared.command.Command.TheVariants.{Insert}
+use Rattle.sqlite_schema.specs.declared.command.Command.TheVariants.{Insert, Update}
 use Rattle.sqlite_schema.specs.declared.command.Source.TheVariants.{Values}
 use Rattle.sqlite_sql.specs.declared.ops.CompareOp.TheVariants.{Ge}
-use Rattle.sqlite_sql.specs.Term.{lit, col}
+use Rattle.sqlite_sql.specs.Term.{Term, lit, col}
 use Rattle.sqlite.specs.Given.{IsPlain}
 use Rattle.sqlite.specs.Listing.{reads_listing, understood}
 use Rattle.sqlite.proofs.Callers.{command_of}
 use Rattle.sqlite_tied.specs.Compute.{everything}
 use Rattle.sql_create.specs.Schema.{desk_schema, shown_tree}
-use Rattle.sql_rows.specs.Meanings.{compared_with, deletion, given, least, selection}
+use Rattle.sql_rows.specs.Meanings.{compared_with, deletion, given, least, plain_query, selection}
 
 abbrev pub clear_text : List ℕ
 clear_text = codes "DELETE FROM shown WHERE schedule = ?1"
@@ -33,6 +33,22 @@ add_is = refl
 pub add_plain : IsPlain (understood desk_schema add_text)
 unfolding understood everything
 add_plain = (refl, refl)
+
+abbrev pub set_text : List ℕ
+set_text = codes "UPDATE shown SET value = ?2 WHERE schedule = ?1"
+
+-- the number of the row, and its cells after it
+abbrev pub cells_set : List Term
+cells_set = col 1 0 ∷ col 1 1 ∷ col 0 1 ∷ []
+
+pub set_is : command_of (understood desk_schema set_text)
+    ≡ Update 4 (record { lets = []; body = plain_query shown_tree (given 1 0 ∷ []) (col 1 0 ∷ cells_set) })
+unfolding understood everything
+set_is = refl
+
+pub set_plain : IsPlain (understood desk_schema set_text)
+unfolding understood everything
+set_plain = (refl, refl)
 
 -- the queries
 

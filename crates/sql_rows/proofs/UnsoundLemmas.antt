@@ -1,5 +1,5 @@
 -- Rows of which one that is asked for cannot stand are not sound.
-use Rattle.std.proofs.Common.{◌≡◌, Bool, true, false, not, List, Option, Some, None, is_some, refl, ap}
+use Rattle.std.proofs.Common.{◌≡◌, Bool, true, false, not, List, Option, is_some, refl, ap}
 use Rattle.std.specs.List.{list_all}
 use Rattle.std.proofs.lemmas.Bool.{and_parts, both_ways, false_from_ne_true, or_from}
 use Rattle.sqlite_value.specs.Order.{Row, column}

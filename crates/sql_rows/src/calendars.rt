@@ -1,11 +1,14 @@
 //! The statements on the imported entries.
-ghost use Rattle.std.specs.Prelude.{◌≡◌, ◌<◌, ◌^◌, ◌&&◌, false, IfOk, OnOk, pos, [], ◌∷◌};
+ghost use Rattle.std.specs.Prelude.{◌≡◌, ◌<◌, ◌^◌, ◌&&◌, true, false, Err, IfOk, OnOk, pos, [], ◌∷◌};
 ghost use Rattle.sqlite.specs.Held.{state};
-ghost use Rattle.sqlite.specs.State.{HasCleanDisk, IsUnchanged, KeepsCommit, Survives};
+ghost use Rattle.sqlite.specs.declared.error.Error.TheVariants.{SqliteFailure};
+ghost use Rattle.sqlite.specs.declared.error.ErrorCode.TheVariants.{ConstraintViolation};
+ghost use Rattle.sqlite_schema.specs.declared.schema.Constraint.TheVariants.{Unique};
+ghost use Rattle.sqlite.specs.State.{HasCleanDisk, IsUnchanged, KeepsCommit, Shows, Survives};
 ghost use Rattle.sqlite_value.specs.declared.value.Value.TheVariants.{Int, Text};
 ghost use Rattle.sqlite_value.specs.Order.{column};
 ghost use Rattle.sql_rows.specs.Looking.{Finds, FindsLeast, Rests, is_from_text, is_from};
-ghost use Rattle.sql_rows.specs.Ours.{Changes, Gains, IsInside, IsOurs, Loses, kept_in};
+ghost use Rattle.sql_rows.specs.Ours.{Adds, Changes, IsInside, IsOurs, Loses, kept_in};
 ghost use Rattle.sql_rows.specs.Slot.{On, imported_slot};
 ghost use Rattle.sql_rows.specs.Cells.{is_text};
 ghost use Rattle.sql_rows.specs.Rows.{of_entry};
@@ -37,15 +40,19 @@ pub fn clear<S: Alter>(
     )
 }
 
-/// Adds an entry to a calendar.
+/// Adds an entry to a calendar. Where it stands there already it is refused as not unique, and nothing changes.
 pub fn add<S: Alter>(
     transaction: &mut Transaction<'_, S>,
     calendar: &Name,
     entry: &str,
 ) -> Result<usize, Error>
     ensures same_reference { transaction.new.conn.ghost_name ≡ transaction.old.conn.ghost_name }
+    ensures refused { HasCleanDisk (state S.Store transaction.new.conn.now) → IsInside (state S.Store transaction.old.conn.now)
+        → result ≡ Err (SqliteFailure (ConstraintViolation Unique))
+        → Shows (state S.Store transaction.old.conn.now) (state S.Store transaction.new.conn.now)
+        (state S.Store transaction.old.conn.now).now (state S.Store transaction.old.conn.now).committed true }
     ensures done { HasCleanDisk (state S.Store transaction.new.conn.now) → IsInside (state S.Store transaction.old.conn.now)
-        → OnOk result (Changes (On imported_slot (Gains (Text calendar.now ∷ Text entry.now ∷ [])))
+        → OnOk result (Changes (On imported_slot (Adds (of_entry calendar.now entry.now) (Text calendar.now ∷ Text entry.now ∷ [])))
         (state S.Store transaction.old.conn.now) (state S.Store transaction.new.conn.now)) }
     ensures kept { HasCleanDisk (state S.Store transaction.new.conn.now)
         → KeepsCommit (state S.Store transaction.old.conn.now) (state S.Store transaction.new.conn.now) }

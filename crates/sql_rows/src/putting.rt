@@ -1,5 +1,6 @@
 //! One item put into the tables, in a transaction.
 ghost use Rattle.std.specs.Prelude.{◌≡◌, Some};
+ghost use Rattle.dates.specs.Entry.{IsEntry, spelling};
 ghost use Rattle.sqlite.specs.Held.{state};
 ghost use Rattle.store.specs.Change.{IsKeptRow, IsNext, IsPlace};
 ghost use Rattle.sql_rows.specs.Steps.{Steps, Turns, imported_put, last_put, next_put, place_put, row_put, rows_dropped, shown_put};
@@ -128,14 +129,35 @@ pub fn put_shown<S: Alter>(
         (state S.Store transaction.new.conn.now) result }
 {
     let _name = item.schedule.as_str();
-    schedules::clear(transaction, &item.schedule)?;
-    if let Some(value) = item.shown {
+    let Some(value) = item.shown else {
+        schedules::clear(transaction, &item.schedule)?;
+        return Ok(());
+    };
+    if schedules::set(transaction, &item.schedule, value)? == 0 {
         schedules::add(transaction, &item.schedule, value)?;
     }
     Ok(())
 }
 
-/// Puts an entry into a calendar.
+// Puts an entry into a calendar in place of the one that stands there.
+fn replace_imported<S: Alter>(
+    transaction: &mut Transaction<'_, S>,
+    item: &ImportedEntry,
+    text: &str,
+) -> Result<(), Error>
+    requires { text.now ≡ spelling item.now.entry }
+    ensures same_reference { transaction.new.conn.ghost_name ≡ transaction.old.conn.ghost_name }
+    ensures steps { IsEntry item.now.entry → Steps (Turns (imported_put item.now)) (state S.Store transaction.old.conn.now)
+        (state S.Store transaction.new.conn.now) result }
+{
+    let _name = item.calendar.as_str();
+    calendars::clear(transaction, &item.calendar, text)?;
+    calendars::add(transaction, &item.calendar, text)?;
+    Ok(())
+}
+
+/// Puts an entry into a calendar. Most are new, so that it is added first, and one that stands there is removed only where
+/// that is refused.
 pub fn put_imported<S: Alter>(
     alloc: Global,
     transaction: &mut Transaction<'_, S>,
@@ -148,9 +170,12 @@ pub fn put_imported<S: Alter>(
     let _name = item.calendar.as_str();
     let entry = item.entry.write(alloc)?;
     let text = entry.as_str();
-    calendars::clear(transaction, &item.calendar, text)?;
-    calendars::add(transaction, &item.calendar, text)?;
-    Ok(())
+    match calendars::add(transaction, &item.calendar, text) {
+        Ok(_) => Ok(()),
+        Err(Error::SqliteFailure(ErrorCode::ConstraintViolation(Constraint::Unique))) =>
+            replace_imported(transaction, item, text),
+        Err(error) => Err(error),
+    }
 }
 
 /// Puts the moment of the last tick, where there is one.

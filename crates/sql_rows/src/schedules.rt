@@ -5,7 +5,7 @@ ghost use Rattle.sqlite.specs.State.{HasCleanDisk, IsUnchanged, KeepsCommit, Sur
 ghost use Rattle.sqlite_value.specs.declared.value.Value.TheVariants.{Int, Text};
 ghost use Rattle.sqlite_value.specs.Order.{column};
 ghost use Rattle.sql_rows.specs.Looking.{Finds, FindsLeast, Rests, is_from_text, is_from};
-ghost use Rattle.sql_rows.specs.Ours.{Changes, Gains, IsInside, IsOurs, Loses, kept_in};
+ghost use Rattle.sql_rows.specs.Ours.{Changes, Gains, IsInside, IsOurs, Loses, Rewrites, kept_in};
 ghost use Rattle.sql_rows.specs.Slot.{On, shown_slot};
 ghost use Rattle.sql_rows.specs.Cells.{cell_of, is_text};
 ghost use Rattle.sql_rows.specs.Rows.{of_schedule};
@@ -53,6 +53,28 @@ pub fn add<S: Alter>(
     run(
         transaction,
         "INSERT INTO shown (schedule, value) VALUES (?1, ?2)",
+        &[text(schedule), optional(value)],
+    )
+}
+
+/// Sets what a schedule that shows something shows, and tells how many rows that were: none, or the one that it has.
+pub fn set<S: Alter>(
+    transaction: &mut Transaction<'_, S>,
+    schedule: &Name,
+    value: Option<i64>,
+) -> Result<usize, Error>
+    ensures same_reference { transaction.new.conn.ghost_name ≡ transaction.old.conn.ghost_name }
+    ensures done { HasCleanDisk (state S.Store transaction.new.conn.now) → IsInside (state S.Store transaction.old.conn.now)
+        → IfOk result (λ count. Changes
+        (On shown_slot (Rewrites (of_schedule schedule.now) (Text schedule.now ∷ cell_of value ∷ []) count))
+        (state S.Store transaction.old.conn.now) (state S.Store transaction.new.conn.now)) }
+    ensures kept { HasCleanDisk (state S.Store transaction.new.conn.now)
+        → KeepsCommit (state S.Store transaction.old.conn.now) (state S.Store transaction.new.conn.now) }
+    ensures survives { Survives (state S.Store transaction.old.conn.now) (state S.Store transaction.new.conn.now) (λ _. ⊥) }
+{
+    run(
+        transaction,
+        "UPDATE shown SET value = ?2 WHERE schedule = ?1",
         &[text(schedule), optional(value)],
     )
 }

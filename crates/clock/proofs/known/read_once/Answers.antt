@@ -1,4 +1,4 @@
-use Rattle.std.proofs.Common.{◌≡◌, ◌∙◌, ◌&&◌, ◌||◌, Some, ap, ap₂, is_some, map, sym}
+use Rattle.std.proofs.Common.{◌∙◌, ◌&&◌, ◌||◌, Some, ap, ap₂, is_some, map, sym}
 use Rattle.std.specs.BTreeMap.{get}
 use Rattle.std.specs.Cmp.Lexicographic.{slice_cmp}
 use Rattle.std.specs.List.{list_any}

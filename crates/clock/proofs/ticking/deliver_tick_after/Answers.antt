@@ -53,10 +53,12 @@ returns-clause-delivers g c = λ earlier honest today held.
     let is_at : local_at b.zone moment ≡ Some c.in-Some.local =
     (λ i. local_at (sym c.zone.ensures i) (sym whole i)) ∙ (sym c.local_time.ensures.value ∙ c.in-Some.is) in
     let last = last-held b earlier first held _ (c.in_ok-last.ensures.value before) in
+    let same = kept-read first second c.in_ok-last.ensures.reads before in
     let later : is_later (last_tick_of b earlier) moment ≡ true =
     (λ i. is_later (sym last i) (sym whole i)) ∙ (sym c.is_later.ensures ∙ c.if-not-is_later.false) in
     subst (λ z. Delivers b earlier (Tick z) c.tick_at.result third) whole
     (c.tick_at.ensures.delivers earlier (subst (λ z. local_at b.zone z ≡ Some c.in-Some.local) (sym whole) is_at)
+    (c.in_ok-last.ensures.value before ∙ ap (λ (content : Content). content.tables.last_tick) (sym same))
     (subst (λ z. is_later (last_tick_of b earlier) z ≡ true) (sym whole) later) honest
     (today_of b first.content.tables.imported second.content.tables.imported c.args.kept.now
     (ap (λ (content : Content). content.tables.imported) (kept-read first second c.in_ok-last.ensures.reads before)) today)

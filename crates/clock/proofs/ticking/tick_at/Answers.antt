@@ -1,19 +1,18 @@
-use Rattle.std.proofs.Common.{◌≡◌, [], List, length, sym, subst, Some, None, to_z, of_z, w64, rules}
+use Rattle.std.proofs.Common.{◌≡◌, [], length, sym, subst, Some, None, to_z, of_z, w64, rules}
 use Rattle.deliveries.specs.declared.delivery.Delivery.TheVariants.{Tick}
 use Rattle.deliveries.specs.declared.reply.Reply.TheVariants.{Ticked}
 use Rattle.deliveries.specs.Clocked.{Settles}
 use Rattle.deliveries.proofs.DeliveredLemmas.{Delivers-made, Delivers-not_made}
-use Rattle.settling.specs.Calendars.{with_items}
-use Rattle.settling.proofs.KeptLemmas.{no_items}
-use Rattle.store.specs.Tables.{Text}
-use Rattle.clock.proofs.ClockedLemmas.{Settled-over, ticked-reply, ticked-tables}
+use Rattle.deliveries.specs.Events.{machine}
+use Rattle.deliveries.specs.Machine.{told_at}
+use Rattle.clock.proofs.ClockedLemmas.{Tells-held, rested-held, ticked-reply, ticked-tables}
 use Rattle.store.proofs.ReadLemmas.{changes_once_commit}
 use Rattle.deliveries.proofs.ImportedLemmas.{imported_commit, imported_then}
 use Rattle.clock.proofs.TodayLemmas.{today_of}
 use Rattle.clock.proofs.ticking.tick_at.Goals as goal
 
 pub returns-in-Ok-clause-delivers : goal.returns-in-Ok-clause-delivers
-returns-in-Ok-clause-delivers g c = λ earlier is_at later honest today held.
+returns-in-Ok-clause-delivers g c = λ earlier is_at last_is later honest today held.
     let b = c.args.building.now in
     let moment = c.args.moment in
     let local = c.args.local in
@@ -23,18 +22,19 @@ returns-in-Ok-clause-delivers g c = λ earlier is_at later honest today held.
     let third = g.S.Store.standing c.commit.new.self in
     let commits = c.in-Ok.ensures.commits in
     let whole : to_z w64 (of_z w64 moment) ≡ moment = search rules in
-    let settles : Settled-over b first [] (Some local) (Some moment) change = λ imported tells.
-    subst (λ z. Settles b (with_items imported []) first.content.tables.shown (Some local) [] (Some z) change) whole
-    (subst (λ (texts : Text → List Text). Settles b texts first.content.tables.shown (Some local) []
-    (Some (to_z w64 (of_z w64 moment))) change)
-    (sym (no_items imported)) (c.in_ok-change.ensures.settles (commits.goes.honest honest) today imported tells)) in
+    let m = machine b earlier in
+    let rested = subst (λ since. told_at b m.imported first.content.tables.shown since ≡ []) (sym c.local_of-since.ensures)
+    (rested-held b earlier first c.names_are_distinct.ensures.schedules held c.args.last last_is) in
+    let settles : Settles b m.imported first.content.tables.shown (Some local) [] (Some moment) change =
+    subst (λ z. Settles b m.imported first.content.tables.shown (Some local) [] (Some z) change) whole
+    (c.in_ok-change.ensures.settles (commits.goes.honest honest) today m.imported (Tells-held b earlier first held) rested) in
     let count : c.len.result ≡ length change.places.items = search rules in
     Delivers-made b earlier (Tick moment) change first second third c.in_ok-change.ensures.reads honest held
     (ticked-tables b earlier first held moment local change is_at later settles) (Ticked c.len.result) commits
     (ticked-reply b earlier first held moment local change is_at later settles c.len.result count)
 
 pub returns-clause-delivers : goal.returns-clause-delivers
-returns-clause-delivers g c = λ earlier is_at later honest today held.
+returns-clause-delivers g c = λ earlier is_at last_is later honest today held.
     let b = c.args.building.now in
     let moment = c.args.moment in
     let local = c.args.local in
@@ -44,11 +44,12 @@ returns-clause-delivers g c = λ earlier is_at later honest today held.
     let third = g.S.Store.standing c.commit.new.self in
     let commits = c.in-Err.ensures.commits in
     let whole : to_z w64 (of_z w64 moment) ≡ moment = search rules in
-    let settles : Settled-over b first [] (Some local) (Some moment) change = λ imported tells.
-    subst (λ z. Settles b (with_items imported []) first.content.tables.shown (Some local) [] (Some z) change) whole
-    (subst (λ (texts : Text → List Text). Settles b texts first.content.tables.shown (Some local) []
-    (Some (to_z w64 (of_z w64 moment))) change)
-    (sym (no_items imported)) (c.in_ok-change.ensures.settles (commits.goes.honest honest) today imported tells)) in
+    let m = machine b earlier in
+    let rested = subst (λ since. told_at b m.imported first.content.tables.shown since ≡ []) (sym c.local_of-since.ensures)
+    (rested-held b earlier first c.names_are_distinct.ensures.schedules held c.args.last last_is) in
+    let settles : Settles b m.imported first.content.tables.shown (Some local) [] (Some moment) change =
+    subst (λ z. Settles b m.imported first.content.tables.shown (Some local) [] (Some z) change) whole
+    (c.in_ok-change.ensures.settles (commits.goes.honest honest) today m.imported (Tells-held b earlier first held) rested) in
     Delivers-not_made b earlier (Tick moment) change first second third c.in_ok-change.ensures.reads honest held
     (ticked-tables b earlier first held moment local change is_at later settles) c.in-Err.fault commits
 

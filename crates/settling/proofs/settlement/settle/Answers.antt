@@ -16,7 +16,7 @@ returns-clause-places g c = λ honest imported tells.
     let today = c.in_ok-day.day.calendars.items in
     let before = c.settle_on.ensures.reads.goes.honest honest in
     let kept : read.content ≡ first.content = kept-read first read c.in_ok-day.ensures.reads before in
-    if_ok_map c.settle_on.result _ _ (c.settle_on.ensures.places honest) (λ settlement is.
+    if_ok_map c.settle_on.result _ _ (c.settle_on.ensures.places honest tt) (λ settlement is.
     is ∙ (λ i. written (now_at today c.args.local) (kept i).tables.shown b.schedules)
     ∙ written-same today calendars c.args.local first.content.tables.shown b.schedules (c.in_ok-day.ensures.today before imported tells))
 
@@ -29,6 +29,6 @@ returns-clause-shown g c = λ honest imported tells.
     let today = c.in_ok-day.day.calendars.items in
     let before = c.settle_on.ensures.reads.goes.honest honest in
     let kept : read.content ≡ first.content = kept-read first read c.in_ok-day.ensures.reads before in
-    if_ok_map c.settle_on.result _ _ (c.settle_on.ensures.shown honest) (λ settlement is.
+    if_ok_map c.settle_on.result _ _ (c.settle_on.ensures.shown honest tt) (λ settlement is.
     is ∙ (λ i. told (now_at today c.args.local) (kept i).tables.shown b.schedules)
     ∙ told-same today calendars c.args.local first.content.tables.shown b.schedules (c.in_ok-day.ensures.today before imported tells))

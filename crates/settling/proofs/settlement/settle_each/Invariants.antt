@@ -6,6 +6,7 @@ use Rattle.store.specs.Change.{IsPlace}
 use Rattle.store.specs.Standing.{Reads}
 use Rattle.building.specs.Priority.{is_write_priority}
 use Rattle.settling.specs.Kept.{HasSpans}
+use Rattle.settling.specs.Rests.{HaveRested}
 use Rattle.settling.specs.Settled.{cleared_by, put_by, shown_by}
 use Rattle.settling.specs.Turns.{now_at}
 use Rattle.settling.proofs.settlement.settle_each.Given as goal
@@ -17,14 +18,15 @@ invariant-loop-index g l =
     let now = now_at l.initial.kept.calendars.items l.local in
     let shown = first.content.tables.shown in
     let rest = drop l.index l.schedules in
+    let rested = HaveRested l.initial.kept.calendars.items l.local.day shown l.schedules l.since in
     record {
       reads : Reads None first (g.S.Store.standing l.store);
       priorities : IsTrue (list_all (λ (schedule : NamedSchedule). is_write_priority schedule.priority) rest);
-      cleared : (g.S.Store.standing l.store).is_honest → l.all.cleared.items ++ flat_map (cleared_by now shown) rest
+      cleared : (g.S.Store.standing l.store).is_honest → rested → l.all.cleared.items ++ flat_map (cleared_by now shown) rest
           ≡ flat_map (cleared_by now shown) l.schedules;
-      put : (g.S.Store.standing l.store).is_honest
+      put : (g.S.Store.standing l.store).is_honest → rested
           → l.all.put.items ++ flat_map (put_by now shown) rest ≡ flat_map (put_by now shown) l.schedules;
-      told : (g.S.Store.standing l.store).is_honest → l.all.shown.items ++ flat_map (shown_by now shown) rest
+      told : (g.S.Store.standing l.store).is_honest → rested → l.all.shown.items ++ flat_map (shown_by now shown) rest
           ≡ flat_map (shown_by now shown) l.schedules;
       placed_cleared : All IsPlace l.all.cleared.items;
       placed_put : All IsPlace l.all.put.items;

@@ -1,14 +1,12 @@
 use Rattle.std.proofs.Common.{◌∙◌}
 use Rattle.sqlite.specs.Held.{state}
-use Rattle.sql_rows.proofs.StepLemmas.{two_statements}
-use Rattle.sql_rows.proofs.ItemLemmas.{imported_made}
+use Rattle.sql_rows.proofs.StepLemmas.{one_statement}
+use Rattle.sql_rows.proofs.ItemLemmas.{imported_added}
 use Rattle.sql_rows.proofs.putting.put_imported.Goals as goal
 
-pub returns-clause-steps : goal.returns-clause-steps
-returns-clause-steps g c =
-    two_statements _ _ _ (state g.S.Store c.args.transaction.now.conn.now) (state g.S.Store c.clear.new.transaction.conn.now)
-    (state g.S.Store c.add.new.transaction.conn.now) _
-    (λ k l m. imported_made k l m c.args.item.now c.as_str-text.result.now
-    (c.as_str-text.ensures.value ∙ c.in_ok-entry.ensures.value) c.as_str-name.ensures.is_name c.in_ok-entry.ensures.range)
-    c.in_ok-clear.ensures.done c.in_ok-clear.ensures.kept c.in_ok-clear.ensures.survives
-    c.in_ok-add.ensures.done c.in_ok-add.ensures.kept c.in_ok-add.ensures.survives
+pub returns-in-Ok-clause-steps : goal.returns-in-Ok-clause-steps
+returns-in-Ok-clause-steps g c =
+    one_statement _ _ (state g.S.Store c.args.transaction.now.conn.now) (state g.S.Store c.add.new.transaction.conn.now) _
+    (imported_added c.args.item.now c.as_str-text.result.now (c.as_str-text.ensures.value ∙ c.in_ok-entry.ensures.value)
+    c.as_str-name.ensures.is_name c.in_ok-entry.ensures.range)
+    c.in-Ok.ensures.done c.in-Ok.ensures.kept c.in-Ok.ensures.survives

@@ -1,4 +1,4 @@
-use Rattle.std.proofs.Common.{◌≡◌, List, sym, subst}
+use Rattle.std.proofs.Common.{List, sym, subst}
 use Rattle.jiff_core.specs.declared.civil.date.Date.{Date}
 use Rattle.sched.specs.declared.calendar.Calendar.{Calendar}
 use Rattle.settling.specs.Kept.{Stands}
