@@ -1,5 +1,5 @@
 """Refuses each request for memory of calls that the program doesn't make: the plans of a command and of a skip, the segments
-of a day, a straightening, and a run of a list and a point over both stores.
+of a day, a straightening, and a run of a list and a point over both stores, and over the database with what a server remembers.
 
 `refused_calls/main.rattle` makes one again and again. It is compiled once in a copy of the repository, by the kit's `rt try
 --fail-alloc`, which refuses one request of a number; with one more request before the calls it is the one before of a call.
@@ -23,14 +23,15 @@ from worked import BUILDING, HOLIDAY, OTHER, SKIPPED, TICKS, command
 ROOT = pathlib.Path(__file__).resolve().parent.parent
 NAME = "refused_calls"
 LIBRARIES = ("building", "dates", "deliveries", "delivery_lines", "desk", "desk_straighten", "json", "listing", "mem_store", "points",
-             "sched", "sqlite", "store", "store_sql", "window")
+             "sched", "sqlite", "store", "store_remembered", "store_sql", "window")
 # The number of the request that is refused, as the program has it.
 REFUSED = 12_000
 # At most so many requests a call makes, with what is looked at between two; and each of which is refused without --sweep.
 REQUESTS = {"plan_command": (2, 1), "plan_skip": (2, 1), "segments": (6, 2), "straighten": (100, 20), "run-memory": (440, 44),
-            "run-database": (5_000, 625), "point-memory": (1, 1), "point-database": (24, 8)}
-# What needs no memory.
-WITHOUT = {"point-memory"}
+            "run-database": (5_000, 625), "run-remembered": (4_000, 500), "point-memory": (1, 1), "point-database": (24, 8),
+            "point-remembered": (1, 1)}
+# What needs no memory: a point that is remembered is asked for once before.
+WITHOUT = {"point-memory", "point-remembered"}
 LIST = (*SKIPPED, *TICKS, HOLIDAY, *(command("P1", number, "R101-SET", 8, 1500 + 100 * number) for number in (7, 6, 5)), OTHER)
 NO_MEMORY = {"no memory", "fault S1"}
 

@@ -1,5 +1,5 @@
 -- What the rules say of one command.
-use Rattle.std.proofs.Common.{◌≡◌, Bool, true, false, cond, List, [], ◌∷◌, ◌++◌, Option, Some, None, find, refl, sym, ap, ◌∙◌, subst, inl, inr}
+use Rattle.std.proofs.Common.{◌≡◌, ℕ, ℤ, Bool, true, false, cond, List, [], ◌∷◌, ◌++◌, Option, Some, None, find, refl, sym, ap, ◌∙◌, subst, inl, inr}
 use Rattle.std.specs.Option.{option_map_or}
 use Rattle.points.specs.declared.answer.Answer.TheVariants.{Refused}
 use Rattle.points.specs.declared.content.Content.{Content}
@@ -8,14 +8,18 @@ use Rattle.points.specs.declared.point.Point.{Point}
 use Rattle.points.specs.declared.rule.Rule.{Rule}
 use Rattle.points.specs.declared.rule.Rule.TheVariants.{NoSuchPoint, NotGranted, NoSuchPriority}
 use Rattle.std.specs.Str.{bytes_eq}
-use Rattle.std.proofs.lemmas.Bool.{cases_Bool}
+use Rattle.std.proofs.lemmas.Bool.{cases_Bool, cases_eq}
+use Rattle.std.specs.Cmp.{nat_cmp_total}
+use Rattle.std.specs.FinMap.{get, get-insert, get-remove, nat_cmp-IsAntisymmetric, same_map}
+use Rattle.std.specs.Ordering.{eq_by_cmp, nat_cmp}
+use Rattle.points.proofs.PlacesLemmas.{tied_apart}
 use Rattle.std.proofs.lemmas.Slice.Eq.{bytes_eq-Decides}
 use Rattle.points.specs.PriorityArray.{Places, present_of, put}
 use Rattle.points.specs.Rights.{breaks, rule_of, names_no_place}
 use Rattle.building.specs.Building.{Building}
 use Rattle.deliveries.specs.Accepted.{panel_named}
 use Rattle.store.specs.Tables.{Text}
-use Rattle.panel_commands.specs.Written.{places_at, written}
+use Rattle.panel_commands.specs.Written.{commanding, places_at, written}
 use Rattle.store.specs.declared.change.PlaceValue.{PlaceValue}
 use Rattle.store.specs.Change.{with_place}
 use Rattle.deliveries.proofs.MachineLemmas.{with_each-append}
@@ -72,21 +76,55 @@ pub places_after-permitted : (b : Building) (places : Text → Places) (panel : 
 unfolding places_after
 places_after-permitted b places panel content e = rw e refl
 
--- a value is written where a permitted content puts it
-pub written-permitted : (b : Building) (p : Text) (content : Content) (values : List PlaceValue) (held : Text → Places)
-    → rule_for b p content ≡ None
-    → written (values ++ record { point = content.point; priority = place_of content.priority; value = content.value } ∷ []) held
-    ≡ places_after b (written values held) p content
-written-permitted b p content values held none =
-    with_each-append with_place values _ held
-    ∙ ((λ i q. here (written values held) q i) ∙ sym (places_after-permitted b (written values held) p content none))
+-- a permitted content's value in its place
+pub commanding-permitted : (b : Building) (p : Text) (content : Content) (places : Text → Places) → rule_for b p content ≡ None
+    → commanding content places ≡ places_after b places p content
+commanding-permitted b p content places none =
+    (λ i q. here q i) ∙ sym (places_after-permitted b places p content none)
   where
-    here : (places : Text → Places) (q : Text)
+    here : (q : Text)
         → cond (bytes_eq content.point q) (put (places q) (place_of content.priority) content.value) (places q)
         ≡ places_under None places content q
-    here places q = elim (cases_Bool (bytes_eq content.point q)) [
+    here q = elim (cases_Bool (bytes_eq content.point q)) [
       | inl same ↦ rw same (ap (λ point. put (places point) (place_of content.priority) content.value)
           (sym ((bytes_eq-Decides content.point q).0 same)))
+      | inr apart ↦ rw apart refl
+    ]
+
+-- a value that is written after others
+pub written-more : (values : List PlaceValue) (item : PlaceValue) (held : Text → Places)
+    → written (values ++ item ∷ []) held ≡ with_place item (written values held)
+written-more values item held = with_each-append with_place values (item ∷ []) held
+
+-- a value that stands in its place already changes nothing
+cond-same : {A : Type 0} (b : Bool) (x y : A) → x ≡ y → cond b x y ≡ y
+cond-same true x y same = same
+cond-same false x y same = refl
+
+get-put : (places : Places) (priority q : ℕ) (value : Option ℤ)
+    → get (put places priority value) q ≡ cond (eq_by_cmp nat_cmp q priority) value (get places q)
+get-put places priority q None = get-remove nat_cmp_total places priority q
+get-put places priority q (Some value) = get-insert nat_cmp_total places priority value q
+
+put-same : (places : Places) (priority : ℕ) (value : Option ℤ) → get places priority ≡ value → put places priority value ≡ places
+put-same places priority value stands =
+    same_map nat_cmp_total nat_cmp-IsAntisymmetric _ _ (λ q. get-put places priority q value ∙ at q)
+  where
+    at : (q : ℕ) → cond (eq_by_cmp nat_cmp q priority) value (get places q) ≡ get places q
+    at q = elim (cases_eq q priority) [
+      | inl same ↦ cond-same (eq_by_cmp nat_cmp q priority) value (get places q) (sym stands ∙ ap (get places) (sym same))
+      | inr apart ↦ rw (tied_apart q priority apart) refl
+    ]
+
+pub commanding-same : (content : Content) (places : Text → Places)
+    → get (places content.point) (place_of content.priority) ≡ content.value → places ≡ commanding content places
+commanding-same content places stands = λ i q. sym (here q) i
+  where
+    here : (q : Text) → cond (bytes_eq content.point q) (put (places q) (place_of content.priority) content.value) (places q) ≡ places q
+    here q = elim (cases_Bool (bytes_eq content.point q)) [
+      | inl same ↦ rw same (put-same (places q) (place_of content.priority) content.value
+          (subst (λ point. get (places point) (place_of content.priority) ≡ content.value)
+          ((bytes_eq-Decides content.point q).0 same) stands))
       | inr apart ↦ rw apart refl
     ]
 

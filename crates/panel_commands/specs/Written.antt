@@ -3,13 +3,14 @@ use Rattle.std.specs.Prelude.{◌≡◌, if◌then◌else◌, List, [], ◌∷�
 use Rattle.std.specs.Str.{bytes_eq}
 use Rattle.points.specs.declared.command_row.CommandState.TheVariants.{Answered}
 use Rattle.points.specs.declared.answer.Answer.{Answer}
+use Rattle.points.specs.declared.content.Content.{Content}
 use Rattle.points.specs.PriorityArray.{Places, put}
 use Rattle.store.specs.declared.change.KeptRow.{KeptRow}
 use Rattle.store.specs.declared.change.PlaceValue.{PlaceValue}
 use Rattle.store.specs.Change.{with_each, with_place}
 use Rattle.store.specs.Tables.{Text}
 use Rattle.building.specs.Building.{Building}
-use Rattle.deliveries.specs.Machine.{answer_to, places_after}
+use Rattle.deliveries.specs.Machine.{answer_to, place_of, places_after}
 use Rattle.panel_commands.specs.declared.acting.Acted.{Acted}
 use Rattle.window.specs.declared.numbered_content.NumberedContent.{NumberedContent}
 
@@ -21,6 +22,10 @@ written values places = with_each with_place values places
 abbrev pub answered_row : Text → NumberedContent → Answer → KeptRow
 answered_row panel entry answer =
     record { panel = panel; number = entry.number; row = record { content = entry.content; state = Answered answer } }
+
+-- the places with what a content puts in its own
+abbrev pub commanding : Content → (Text → Places) → Text → Places
+commanding content places = with_place (record { point = content.point; priority = place_of content.priority; value = content.value }) places
 
 -- one point's places with the values that are written there
 abbrev pub places_at : Text → List PlaceValue → Places → Places

@@ -7,16 +7,16 @@ ghost use Rattle.points.specs.PriorityArray.{Places, present_of};
 ghost use Rattle.points.specs.Rights.{names_no_place};
 ghost use Rattle.window.specs.declared.numbered_content.NumberedContent.{NumberedContent as an_entry};
 ghost use Rattle.deliveries.specs.Accepted.{panel_named};
-ghost use Rattle.deliveries.specs.Machine.{answer_to, commanded, default_of, done_of, place_of, places_after};
+ghost use Rattle.deliveries.specs.Machine.{answer_to, commanded, default_of, done_of, places_after};
 ghost use Rattle.deliveries.specs.Moved.{answered_rows, places_after_each};
 ghost use Rattle.store.specs.Change.{IsKeptRow, IsNumber, IsPlace, IsState};
 ghost use Rattle.store.specs.Standing.{IsOpen, Reads};
 ghost use Rattle.store.specs.Tables.{Text};
-ghost use Rattle.panel_commands.specs.Written.{Acts, places_at, written};
+ghost use Rattle.panel_commands.specs.Written.{Acts, commanding, places_at, written};
 
 use building::Building;
 use points::{Answer, CommandRow, CommandState, Content, Name, Panel, PriorityArray};
-use std::alloc::Global;
+use std::alloc::{AllocError, Global};
 use store::{KeptRow, PlaceValue, Store, StoreFault};
 use window::NumberedContent;
 
@@ -57,6 +57,30 @@ fn command_array(array: &mut PriorityArray, content: &Content)
     array.set(content.priority as u8, content.value);
 }
 
+// Writes a content's value, unless its place has it already.
+fn push_value(
+    values: &mut Vec<PlaceValue>,
+    array: &PriorityArray,
+    content: &Content,
+) -> Result<(), AllocError>
+    requires permitted { names_no_place content.now.priority ≡ false }
+    requires places { All IsPlace values.old.items }
+    ensures values { (held : Text → Places) → array.now ≡ written values.old.items held content.now.point
+        → OnOk result (written values.new.items held ≡ commanding content.now (written values.old.items held)) }
+    ensures places { OnOk result (All IsPlace values.new.items) }
+{
+    let priority = content.priority as u8;
+    if array.value_at(priority) == content.value {
+        return Ok(());
+    }
+    values.push(PlaceValue {
+        point: content.point,
+        priority,
+        value: content.value,
+    })?;
+    Ok(())
+}
+
 // Writes a permitted content in its place, and answers what its point presents then.
 fn write<S: Store>(
     store: &mut S,
@@ -70,20 +94,17 @@ fn write<S: Store>(
     ensures answer { (S.standing store.new).is_honest → IfOk result (λ answer. answer
         ≡ done_of (present_of (commanded (written values.old.items (S.standing store.old).content.tables.places content.now.point) content.now)
         (default_of building.now content.now.point))) }
-    ensures values { OnOk result (values.new.items
-        ≡ values.old.items ++ record { point = content.now.point; priority = place_of content.now.priority; value = content.now.value } ∷ []) }
+    ensures values { (S.standing store.new).is_honest → OnOk result
+        (written values.new.items (S.standing store.old).content.tables.places
+        ≡ commanding content.now (written values.old.items (S.standing store.old).content.tables.places)) }
     ensures places { OnOk result (All IsPlace values.new.items) }
     ensures state { IfOk result (λ answer. IsState (Answered answer)) }
 {
     let held = store.array(&content.point)?;
     let mut array = with_written(held, values.as_slice(), &content.point);
+    push_value(values, &array, content)?;
     command_array(&mut array, content);
     let (present, priority) = array.present(relinquish_default(building, &content.point));
-    values.push(PlaceValue {
-        point: content.point,
-        priority: content.priority as u8,
-        value: content.value,
-    })?;
     Ok(Answer::Done { present, priority })
 }
 
@@ -101,8 +122,9 @@ fn answer_command<S: Store>(
     ensures reads { Reads (result_err result) (S.standing store.old) (S.standing store.new) }
     ensures answer { (S.standing store.new).is_honest → IfOk result (λ answer. answer
         ≡ answer_to building.now (written values.old.items (S.standing store.old).content.tables.places) panel.now.name content.now) }
-    ensures values { OnOk result ((held : Text → Places) → written values.new.items held
-        ≡ places_after building.now (written values.old.items held) panel.now.name content.now) }
+    ensures values { (S.standing store.new).is_honest → OnOk result
+        (written values.new.items (S.standing store.old).content.tables.places
+        ≡ places_after building.now (written values.old.items (S.standing store.old).content.tables.places) panel.now.name content.now) }
     ensures places { OnOk result (All IsPlace values.new.items) }
     ensures state { IfOk result (λ answer. IsState (Answered answer)) }
 {

@@ -3,7 +3,7 @@ use Rattle.std.specs.Result.{result_err}
 use Rattle.std.proofs.lemmas.Result.{IfOk-weaker, on_ok_weaker}
 use Rattle.deliveries.specs.Machine.{rule_for}
 use Rattle.panel_commands.specs.Written.{written}
-use Rattle.panel_commands.proofs.CommandLemmas.{answer_to-permitted, answer_to-refused, names_a_place, places_after-refused, rule_for-known, written-permitted}
+use Rattle.panel_commands.proofs.CommandLemmas.{answer_to-permitted, answer_to-refused, names_a_place, places_after-refused, commanding-permitted, rule_for-known}
 use Rattle.panel_commands.proofs.acting.answer_command.Goals as goal
 
 pub write-requires-clause-permitted : goal.write-requires-clause-permitted
@@ -22,14 +22,15 @@ returns-in-Ok-clause-answer g c = λ honest.
     IfOk-weaker c.write.result _ _ (λ answer is. is ∙ sym (answer_to-permitted b _ panel.name content none)) (c.write.ensures.answer honest)
 
 pub returns-in-Ok-clause-values : goal.returns-in-Ok-clause-values
-returns-in-Ok-clause-values g c =
+returns-in-Ok-clause-values g c = λ honest.
     let b = c.args.building.now in
     let panel = c.args.panel.now in
     let content = c.args.content.now in
     let none : rule_for b panel.name content ≡ None =
     rule_for-known b panel.name content panel c.requires.known ∙ (sym c.permit.ensures ∙ ap result_err c.in-Ok.is) in
-    on_ok_weaker c.write.result (λ is held. ap (λ values. written values held) is
-    ∙ written-permitted b panel.name content c.args.values.now.items held none) c.write.ensures.values
+    let held = (g.S.Store.standing c.args.store.now).content.tables.places in
+    on_ok_weaker c.write.result (λ is. is
+    ∙ commanding-permitted b panel.name content (written c.args.values.now.items held) none) (c.write.ensures.values honest)
 
 pub returns-in-Err-clause-answer : goal.returns-in-Err-clause-answer
 returns-in-Err-clause-answer g c = λ honest.
@@ -41,7 +42,7 @@ returns-in-Err-clause-answer g c = λ honest.
     sym (answer_to-refused b _ panel.name content c.in-Err.rule refused)
 
 pub returns-in-Err-clause-values : goal.returns-in-Err-clause-values
-returns-in-Err-clause-values g c = λ held.
+returns-in-Err-clause-values g c = λ honest.
     let b = c.args.building.now in
     let panel = c.args.panel.now in
     let content = c.args.content.now in

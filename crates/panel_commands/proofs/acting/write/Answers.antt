@@ -20,3 +20,12 @@ returns-clause-answer g c = λ honest.
     (c.with_written-array.ensures ∙ ((λ i. places_at content.point (c.as_slice.ensures.value i) (read i))
     ∙ sym (written-at content.point values held))) in
     rw whole (ap done_of c.present-present.ensures.present ∙ (λ i. done_of (present_of (array i) (base i))))
+
+pub returns-clause-values : goal.returns-clause-values
+returns-clause-values g c = λ honest.
+    let content = c.args.content.now in
+    let held = (g.S.Store.standing c.args.store.now).content.tables.places in
+    let values = c.args.values.now.items in
+    c.in_ok-push_value.ensures.values held
+    (c.with_written-array.ensures ∙ ((λ i. places_at content.point (c.as_slice.ensures.value i) (c.in_ok-held.ensures.value honest i))
+    ∙ sym (written-at content.point values held)))
