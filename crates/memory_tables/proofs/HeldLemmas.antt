@@ -71,6 +71,15 @@ pub replaced : {A B : Type 0} (seen : Option A → B) (b : Bool) (v : A) (was no
 replaced seen true v was now is = ap seen is
 replaced seen false v was now is = ap seen is
 
+-- what holds of an entry that replaces any other
+pub put_at : {A : Type 0} (P : Option A → Type 0) (v : A) (key q : List ℕ) (was now : Option A) → now ≡ cond (bytes_eq key q) (Some v) was
+    → (key ≡ q → P (Some v)) → P was → P now
+put_at P v key q was now is here stays =
+    elim (cases_Bool (bytes_eq key q)) [
+      | inl equal ↦ let is_v = rw equal at is in subst P (sym is_v) (here ((bytes_eq-Decides key q).0 equal))
+      | inr apart ↦ let is_was = rw apart at is in subst P (sym is_was) stays
+    ]
+
 -- the same where the name may have had no entry, which then stays so
 pub written_if_there : {A B : Type 0} (seen : Option A → B) (g : B → B) (key q : List ℕ) (old : List ℕ → Option A)
     → old key ≡ None → g (seen None) ≡ seen None → seen (old q) ≡ cond (bytes_eq key q) (g (seen (old q))) (seen (old q))

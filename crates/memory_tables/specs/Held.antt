@@ -78,7 +78,7 @@ places_of arrays point = unwrap_or (array_at arrays point) empty
 -- ---- schedules
 
 abbrev pub shown_slot : ShownValues → Text → Option (Option (Option ℤ))
-shown_slot values schedule = get (slice_cmp nat_cmp) values.values schedule
+shown_slot values schedule = hash.get bytes_eq values.values schedule
 
 abbrev pub shown_of : ShownValues → Text → Option (Option ℤ)
 shown_of values schedule = flatten (shown_slot values schedule)

@@ -2,6 +2,7 @@
 ghost use Rattle.std.specs.Prelude.{◌≡◌, ◌||◌, IfOk, IsSome, OnOk, None, map, string_bytes};
 ghost use Rattle.std.proofs.Props.{props};
 ghost use Rattle.std.specs.Bool.{IsTrue};
+ghost use Rattle.std.specs.List.{list_any};
 ghost use Rattle.std.specs.Str.{bytes_eq};
 ghost use Rattle.dates.specs.Entry.{spelling};
 ghost use Rattle.store.specs.Listed.{AreTexts};
@@ -52,6 +53,27 @@ impl CalendarTable {
         if let Some(slot) = self.entries.get_mut(&spelled.text) {
             *slot = Some(spelled.item.entry);
         }
+    }
+
+    // Keeps an entry, whether there is room for its text or not.
+    fn keep(&mut self, alloc: Global, entry: &Entry) -> Result<(), AllocError>
+        ensures { OnOk result ((q : Text)
+            → has_text self.new.entries q ≡ (bytes_eq (spelling entry.now) q || has_text self.old.entries q)) }
+    {
+        let text = entry.write(alloc)?;
+        self.entries.insert(text, Some(*entry))?;
+        Ok(())
+    }
+
+    /// Keeps entries beside those that it has, whether there is room for their texts or not.
+    pub fn keep_each(&mut self, alloc: Global, entries: &[Entry]) -> Result<(), AllocError>
+        ensures { OnOk result ((q : Text) → has_text self.new.entries q
+            ≡ (list_any (bytes_eq q) (map spelling entries.now) || has_text self.old.entries q)) }
+    {
+        for entry in entries {
+            self.keep(alloc, entry)?;
+        }
+        Ok(())
     }
 
     /// Whether the entry of a text is imported.

@@ -6,41 +6,21 @@ ghost use Rattle.std.specs.Str.{bytes_eq};
 ghost use Rattle.dates.specs.Entry.{spelling};
 ghost use Rattle.store.specs.Change.{with_each, with_imported};
 ghost use Rattle.memory_tables.specs.Held.{calendar_at, calendar_slot, imported_of, stands_calendar};
-ghost use Rattle.memory_tables.specs.Items.{item_for};
 ghost use Rattle.store.specs.Listed.{AreTexts};
 ghost use Rattle.memory_tables.specs.Slots.{IsStanding};
 ghost use Rattle.store.specs.Tables.{Text};
 
 use crate::calendar_table::CalendarTable;
-use crate::spelled_entry::{SpelledEntry, spell};
+use crate::spelled_entry::SpelledEntry;
 use dates::Entry;
 use points::Name;
 use std::alloc::{AllocError, Global};
 use std::collections::BTreeMap;
-use store::ImportedEntry;
 
 /// The imported entries of calendars. A calendar without one may have a table too, which makes room for it.
 #[derive(Drop)]
 pub struct Calendars {
     tables: BTreeMap<Name, CalendarTable>,
-}
-
-// The items that import entries into a calendar.
-fn items_for(
-    alloc: Global,
-    calendar: &Name,
-    entries: &[Entry],
-) -> Result<Vec<ImportedEntry>, AllocError>
-    ensures { IfOk result (λ items. items.items ≡ map (item_for calendar.now) entries.now) }
-{
-    let mut items = Vec::new(alloc);
-    for entry in entries {
-        items.push(ImportedEntry {
-            calendar: *calendar,
-            entry: *entry,
-        })?;
-    }
-    Ok(items)
 }
 
 impl Calendars {
@@ -154,10 +134,10 @@ impl Calendars {
         ensures { OnOk result ((q text : Text) → imported_of self.new q text
             ≡ ((bytes_eq calendar.now q && list_any (bytes_eq text) (map spelling entries.now)) || imported_of self.old q text)) }
     {
-        let items = items_for(alloc, calendar, entries)?;
-        let spelled = spell(alloc, items.as_slice())?;
-        self.make_room(alloc, spelled.as_slice())?;
-        self.put(spelled.as_slice());
-        Ok(())
+        self.make_table(alloc, calendar)?;
+        match self.tables.get_mut(calendar) {
+            Some(table) => table.keep_each(alloc, entries),
+            None => Ok(()),
+        }
     }
 }

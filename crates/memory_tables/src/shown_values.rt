@@ -9,13 +9,13 @@ ghost use Rattle.store.specs.Tables.{Text};
 
 use points::Name;
 use std::alloc::{AllocError, Global};
-use std::collections::BTreeMap;
+use std::collections::HashMap;
 use store::ShownValue;
 
 /// What schedules show. A quiet schedule may have an entry too, which makes room for what it shows.
 #[derive(Drop)]
 pub struct ShownValues {
-    values: BTreeMap<Name, Option<Option<i64>>>,
+    values: HashMap<Name, Option<Option<i64>>>,
 }
 
 impl ShownValues {
@@ -24,7 +24,7 @@ impl ShownValues {
         ensures { (schedule : Text) → shown_slot result schedule ≡ None }
     {
         ShownValues {
-            values: BTreeMap::new(alloc),
+            values: HashMap::new(alloc),
         }
     }
 
@@ -48,6 +48,7 @@ impl ShownValues {
                 names.push(*name)?;
             }
         }
+        names.sort_unstable();
         Ok(names)
     }
 
