@@ -187,10 +187,12 @@ impl<S: Store + Drop> Desk<S> {
             ≡ state_of ((S.standing self.old.store).content.tables.places name.now) (point_named self.old.building.points name.now)) }
         ensures building { self.new.building ≡ self.old.building }
     {
-        let places = self.store.array(name)?;
         let Some(point) = self.building.find_point(name) else {
+            // A store that is shut answers before all else. It isn't asked for the name: a client may choose any.
+            let _last = self.store.last_tick()?;
             return Ok(None);
         };
+        let places = self.store.array(name)?;
         let (present, priority) = places.present(point.relinquish_default);
         Ok(Some(PointState {
             places,

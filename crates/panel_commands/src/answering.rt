@@ -133,11 +133,13 @@ pub fn deliver_command<S: Store>(
     ensures delivers { (earlier : List a_delivery) → (S.standing store.new).is_honest → Holds building.now earlier (S.standing store.old)
         → Delivers building.now earlier (delivery_of.Command name.now number content.now) result (S.standing store.new) }
 {
+    let Some(panel) = building.find_panel(name) else {
+        // A store that is shut answers before all else. It isn't asked for the name: a client may choose any.
+        let _last = store.last_tick()?;
+        return Ok(Reply::NoPanel);
+    };
     let next = store.panel_next(name)?;
-    match building.find_panel(name) {
-        Some(panel) => answer_known_command(alloc, store, building, panel, next, number, content),
-        None => Ok(Reply::NoPanel),
-    }
+    answer_known_command(alloc, store, building, panel, next, number, content)
 }
 
 /// Carries out the skip of a panel and answers it, as a command.
@@ -154,9 +156,10 @@ pub fn deliver_skip<S: Store>(
     ensures delivers { (earlier : List a_delivery) → (S.standing store.new).is_honest → Holds building.now earlier (S.standing store.old)
         → Delivers building.now earlier (delivery_of.Skip name.now upto) result (S.standing store.new) }
 {
+    let Some(panel) = building.find_panel(name) else {
+        let _last = store.last_tick()?;
+        return Ok(Reply::NoPanel);
+    };
     let next = store.panel_next(name)?;
-    match building.find_panel(name) {
-        Some(panel) => answer_known_skip(alloc, store, building, panel, next, upto),
-        None => Ok(Reply::NoPanel),
-    }
+    answer_known_skip(alloc, store, building, panel, next, upto)
 }

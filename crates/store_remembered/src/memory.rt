@@ -138,15 +138,12 @@ impl Memory {
         self.nexts.get(panel).copied()
     }
 
-    /// Keeps the next number of a panel, if it is above 1. Each name that the tables lack has 1, and of these there are as many
-    /// as anybody asks for.
+    /// Keeps the next number of a panel.
     pub(crate) fn keep_next(&mut self, panel: &Name, next: u64) -> Result<(), AllocError>
         ensures { (tables : Tables) (cannot_stand : Asked → Bool) → Recalls self.old tables cannot_stand
             → tables.next panel.now ≡ next → cannot_stand (NextOf panel.now) ≡ false → Recalls self.new tables cannot_stand }
     {
-        if next > 1 {
-            self.nexts.insert(*panel, next)?;
-        }
+        self.nexts.insert(*panel, next)?;
         Ok(())
     }
 
@@ -158,7 +155,7 @@ impl Memory {
         self.arrays.get(point)
     }
 
-    /// Keeps the priority array of a point, if it has a value. That of each name that the tables lack has none.
+    /// Keeps the priority array of a point.
     pub(crate) fn keep_array(
         &mut self,
         point: &Name,
@@ -167,10 +164,7 @@ impl Memory {
         ensures { (tables : Tables) (cannot_stand : Asked → Bool) → Recalls self.old tables cannot_stand
             → tables.places point.now ≡ array → cannot_stand (ArrayOf point.now) ≡ false → Recalls self.new tables cannot_stand }
     {
-        let (_, priority) = array.present(0);
-        if priority > 0 {
-            self.arrays.insert(*point, array)?;
-        }
+        self.arrays.insert(*point, array)?;
         Ok(())
     }
 

@@ -14,8 +14,8 @@ pub answer_known_command-requires-clause-known : goal.answer_known_command-requi
 answer_known_command-requires-clause-known g c =
     named-again c.args.building.now c.args.name.now c.in-Some.panel.now (sym c.find_panel.ensures ∙ ap option_copied c.in-Some.is)
 
-pub returns-in-Some-clause-delivers : goal.returns-in-Some-clause-delivers
-returns-in-Some-clause-delivers g c = λ earlier honest held.
+pub returns-clause-delivers : goal.returns-clause-delivers
+returns-clause-delivers g c = λ earlier honest held.
     let b = c.args.building.now in
     let panel = c.in-Some.panel.now in
     let new = g.S.Store.standing c.answer_known_command.new.store in
@@ -27,21 +27,21 @@ returns-in-Some-clause-delivers g c = λ earlier honest held.
     (subst (λ z. Delivers b earlier (Command panel.name z c.args.content.now) c.answer_known_command.result new) whole
     (c.answer_known_command.ensures.delivers earlier next_is honest (c.in_ok-next.ensures.reads.kept before (λ e. cc) ∙ held)))
 
-pub returns-in-None-clause-delivers : goal.returns-in-None-clause-delivers
-returns-in-None-clause-delivers g c = λ earlier honest held.
+pub returns-in_default-clause-delivers : goal.returns-in_default-clause-delivers
+returns-in_default-clause-delivers g c = λ earlier honest held.
     let b = c.args.building.now in
     let d = Command c.args.name.now c.args.number c.args.content.now in
     let old = g.S.Store.standing c.args.store.now in
-    let new = g.S.Store.standing c.panel_next.new.self in
-    let unknown : panel_named b c.args.name.now ≡ None = sym c.find_panel.ensures ∙ ap option_copied c.in-None.is in
-    Delivers-read_only b earlier d _ old new c.in_ok-next.ensures.reads honest held (sym (reply-unknown b earlier d tt unknown))
+    let new = g.S.Store.standing c.last_tick.new.self in
+    let unknown : panel_named b c.args.name.now ≡ None = sym c.find_panel.ensures ∙ ap option_copied c.in_default.is in
+    Delivers-read_only b earlier d _ old new c.in_ok-_last.ensures.reads honest held (sym (reply-unknown b earlier d tt unknown))
     (tables-unknown b earlier d tt unknown)
 
-pub returns-in-Some-clause-changes_once : goal.returns-in-Some-clause-changes_once
-returns-in-Some-clause-changes_once g c =
+pub returns-clause-changes_once : goal.returns-clause-changes_once
+returns-clause-changes_once g c =
     changes_once_then _ _ _ _ c.in_ok-next.ensures.reads c.answer_known_command.ensures.goes.honest c.answer_known_command.ensures.changes_once
 
-pub returns-in-Some-clause-imported : goal.returns-in-Some-clause-imported
-returns-in-Some-clause-imported g c =
+pub returns-clause-imported : goal.returns-clause-imported
+returns-clause-imported g c =
     imported_then (g.S.Store.standing c.args.store.now) (g.S.Store.standing c.panel_next.new.self)
     (g.S.Store.standing c.answer_known_command.new.store) c.in_ok-next.ensures.reads c.answer_known_command.ensures.goes.honest c.answer_known_command.ensures.imported

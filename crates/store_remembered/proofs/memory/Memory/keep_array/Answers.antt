@@ -18,8 +18,8 @@ returns-in_err-insert c = λ tables rows recalls is stands. record {
   last_tick = recalls.last_tick;
 }
 
-pub returns-in_ok-insert : goal.returns-in_ok-insert
-returns-in_ok-insert c = λ tables rows recalls is stands. record {
+pub returns : goal.returns
+returns c = λ tables rows recalls is stands. record {
   nexts = recalls.nexts;
   arrays = known_more (Has tables.places) (λ point. rows (ArrayOf point))
       (get bytes_eq c.args.self.now.arrays) (get bytes_eq c.insert.new.self) c.args.point.now c.args.array

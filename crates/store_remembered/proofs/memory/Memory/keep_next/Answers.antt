@@ -18,8 +18,8 @@ returns-in_err-insert c = λ tables rows recalls is stands. record {
   last_tick = recalls.last_tick;
 }
 
-pub returns-in_ok-insert : goal.returns-in_ok-insert
-returns-in_ok-insert c = λ tables rows recalls is stands. record {
+pub returns : goal.returns
+returns c = λ tables rows recalls is stands. record {
   nexts = known_more (Has tables.next) (λ panel. rows (NextOf panel))
       (get bytes_eq c.args.self.now.nexts) (get bytes_eq c.insert.new.self) c.args.panel.now c.args.next
       c.in_ok-insert.ensures.updates.0 is stands recalls.nexts;
