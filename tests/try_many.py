@@ -244,11 +244,12 @@ def asked_for(server, places):
 
 def names_that_the_building_lacks_take_no_memory(program, folder):
     """However many a client asks for."""
-    with serving(program, folder, 2 * (SOME_NAMES + MANY_NAMES)) as server:
+    with serving(program, folder, 2 * (SOME_NAMES + MANY_NAMES) + 1) as server:
         asked_for(server, range(SOME_NAMES))
         begun = memory_now(server)
         asked_for(server, range(SOME_NAMES, SOME_NAMES + MANY_NAMES))
         grown = memory_now(server) - begun
+        expect(server.ask(NOPE), NO_POINT)
         server.end()
     if grown > GROWN:
         raise AssertionError(f"{grown} kB more after {MANY_NAMES} names of each kind")
