@@ -383,9 +383,9 @@ fn time_on(local: Option<LocalTime>, day: Day) -> Option<Time>
     }
 }
 
-/// The same where nothing is imported beside what the store holds, and where schedules that show what they should at an
-/// earlier local time, if one is given, are known: of one whose span holds both times nothing is asked, neither its value nor
-/// what it shows; nor of one that is not active on that day. Which calendars hold is asked once a day.
+/// The same where nothing is imported beside what the store holds, over what is kept of the day. Where an earlier local time of
+/// that day is given, at which nothing was due, a schedule is passed over whose span holds both times, or that is not active on
+/// that day: neither its value nor what it shows is asked. Which calendars hold is asked once a day.
 pub fn settle_again<S: Store>(
     alloc: Global,
     store: &mut S,
