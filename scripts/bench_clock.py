@@ -325,7 +325,7 @@ def micros_an_exception(words):
 
 
 def show_value_now(plain):
-    program = proved_apart.built("schedules_bench", "dates listing sched")
+    program = proved_apart.built("schedules_bench", "dates points sched")
     runs = [(micros_an_exception([program, "measure"]), micros_an_exception([plain, "value_now"])) for _ in range(ROUNDS)]
     if len({known for pair in runs for _, known in pair}) != 1:
         sys.exit(f"the plain program's value_now has other values than the desk's: {runs[0]}")

@@ -18,7 +18,7 @@ import proved_apart
 
 ROOT = pathlib.Path(__file__).resolve().parent.parent
 FOLDER = ROOT / "build" / "bench"
-LIBRARIES = "building desk desk_cli desk_console desk_database json store"
+LIBRARIES = "building cli_common desk desk_cli json store store_file"
 PANELS, POINTS = 20, 40
 COMMANDS, COUNTED = 10_000, 2_000
 RUNS = 5

@@ -7,7 +7,7 @@ import proved_apart
 
 
 def main():
-    program = proved_apart.built("schedules_bench", "dates listing sched")
+    program = proved_apart.built("schedules_bench", "dates points sched")
     return subprocess.run([program, "measure"]).returncode
 
 

@@ -22,8 +22,8 @@ from worked import BUILDING, HOLIDAY, OTHER, SKIPPED, TICKS, command
 
 ROOT = pathlib.Path(__file__).resolve().parent.parent
 NAME = "refused_calls"
-LIBRARIES = ("building", "dates", "deliveries", "delivery_lines", "desk", "desk_straighten", "json", "listing", "mem_store", "points",
-             "sched", "sqlite", "store", "store_remembered", "store_sql", "window")
+LIBRARIES = ("building", "dates", "deliveries", "delivery_json", "desk", "desk_straighten", "json", "points", "sched",
+             "sqlite", "store", "store_memory", "store_remembered", "store_sql", "window")
 # The number of the request that is refused, as the program has it.
 REFUSED = 12_000
 # At most so many requests a call makes, with what is looked at between two; and each of which is refused without --sweep.

@@ -8,7 +8,7 @@ what the plain slow program says. The same delivery, made again, gets its reply 
 by which a run closes its database, after it answered, are among them.
 
 Each test takes the path of the program and a folder of its own. It needs `cc`. The same on a disk in memory that loses
-what was not synced is in crates/database_trials.
+what was not synced is in crates/trials_database.
 """
 import errno
 import signal

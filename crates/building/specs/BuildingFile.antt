@@ -9,7 +9,7 @@ use Rattle.building.specs.declared.key.Key.{Key}
 use Rattle.building.specs.declared.key.Key.TheVariants as key
 use Rattle.building.specs.declared.section.Section.TheVariants as section
 use Rattle.building.specs.FaultAt.{fault_at}
-use Rattle.building.specs.Steps.{◌>>=◌, or_fault, where_holds}
+use Rattle.points.specs.FaultSteps.{or_fault, where_holds, ◌>>=◌}
 use Rattle.building.specs.PanelTable.{panel_in}
 use Rattle.building.specs.PointTable.{point_in}
 use Rattle.building.specs.Section.{each_table, table_in}
@@ -19,7 +19,7 @@ use Rattle.building.specs.declared.named_calendar.NamedCalendar.{NamedCalendar}
 use Rattle.building.specs.declared.named_schedule.NamedSchedule.{NamedSchedule}
 use Rattle.building.specs.CalendarTable.{calendar_in}
 use Rattle.building.specs.ScheduleTable.{schedule_in}
-use Rattle.texts.specs.Texts.{text_of}
+use Rattle.points.specs.Texts.{text_of}
 use Rattle.building.specs.TopTable.{Top, top_in, top_location}
 
 -- the bytes that a file has at most

@@ -4,7 +4,7 @@ use Rattle.toml.specs.Data.{Members}
 use Rattle.building.specs.declared.file_fault.FileFault.{FileFault}
 use Rattle.building.specs.declared.key.Key.TheVariants as key
 use Rattle.building.specs.declared.location.Location.{Location}
-use Rattle.building.specs.Steps.{◌>>=◌}
+use Rattle.points.specs.FaultSteps.{◌>>=◌}
 use Rattle.building.specs.declared.named_calendar.NamedCalendar.{NamedCalendar}
 use Rattle.building.specs.EntryText.{entry_in}
 use Rattle.building.specs.Fields.{list_at}

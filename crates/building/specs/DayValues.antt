@@ -7,7 +7,7 @@ use Rattle.building.specs.declared.file_fault.FileFault.{FileFault}
 use Rattle.building.specs.declared.key.Key.TheVariants as key
 use Rattle.building.specs.declared.location.Location.{Location}
 use Rattle.building.specs.FaultAt.{fault_at}
-use Rattle.building.specs.Steps.{◌>>=◌, where_holds}
+use Rattle.points.specs.FaultSteps.{where_holds, ◌>>=◌}
 use Rattle.points.specs.declared.Kind.{Kind}
 use Rattle.sched.specs.declared.day_list.TimeValue.{TimeValue}
 use Rattle.sched.specs.declared.exception.Exception.{Exception}
@@ -29,7 +29,7 @@ seven_empty = [] ∷ [] ∷ [] ∷ [] ∷ [] ∷ [] ∷ [] ∷ []
 
 -- the list of a day, Monday's at 0
 abbrev pub day_in : ℕ → Location → List Kind → Items → Result (List TimeValue) FileFault
-day_in place location kinds items = list_item_at place location key.Weekly items >>= list_of location key.Weekly kinds
+day_in index location kinds items = list_item_at index location key.Weekly items >>= list_of location key.Weekly kinds
 
 unfoldable pub seven_lists : Location → List Kind → Items → Result (List (List TimeValue)) FileFault
 seven_lists location kinds items = do

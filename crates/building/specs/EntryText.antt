@@ -6,7 +6,7 @@ use Rattle.building.specs.declared.file_fault.FileFault.{FileFault}
 use Rattle.building.specs.declared.key.Key.{Key}
 use Rattle.building.specs.declared.location.Location.{Location}
 use Rattle.building.specs.FaultAt.{fault_at}
-use Rattle.building.specs.Steps.{◌>>=◌}
+use Rattle.points.specs.FaultSteps.{◌>>=◌}
 use Rattle.dates.specs.declared.entry.Entry.{Entry}
 use Rattle.dates.specs.declared.entry.Entry.TheVariants as entry
 use Rattle.dates.specs.declared.entry_fault.EntryFault.{EntryFault}
@@ -16,12 +16,12 @@ use Rattle.dates.specs.Entry.{reading}
 use Rattle.building.specs.Fields.{text_in}
 
 -- B8 with the number of the entry's fault
-abbrev pub told : {A : Type 0} → Location → Key → Result A EntryFault → Result A FileFault
-told location key (Ok x) = Ok x
-told location key (Err fault) = Err (fault_at location key (NotAnEntry fault))
+abbrev pub or_fault : {A : Type 0} → Location → Key → Result A EntryFault → Result A FileFault
+or_fault location key (Ok x) = Ok x
+or_fault location key (Err fault) = Err (fault_at location key (NotAnEntry fault))
 
 abbrev pub entry_of : Location → Key → List ℕ → Result Entry FileFault
-entry_of location key text = told location key (reading text)
+entry_of location key text = or_fault location key (reading text)
 
 abbrev pub entry_in : Location → Key → Data → Result Entry FileFault
 entry_in location key d = text_in location key d >>= entry_of location key

@@ -8,7 +8,7 @@ use Rattle.building.specs.declared.key.Key.TheVariants as key
 use Rattle.building.specs.declared.location.Location.{Location}
 use Rattle.building.specs.FaultAt.{fault_at}
 use Rattle.building.specs.FaultLine.{key_text}
-use Rattle.building.specs.Steps.{◌>>=◌, or_fault}
+use Rattle.points.specs.FaultSteps.{or_fault, ◌>>=◌}
 use Rattle.points.specs.declared.Kind.{Kind}
 use Rattle.building.specs.Roster.{has_the_name}
 use Rattle.sched.specs.declared.day_list.TimeValue.{TimeValue}
@@ -19,16 +19,16 @@ use Rattle.sched.specs.declared.exception.Period.TheVariants as period
 use Rattle.building.specs.declared.named_calendar.NamedCalendar.{NamedCalendar}
 use Rattle.building.specs.EntryText.{entry_in}
 use Rattle.building.specs.TimeLists.{is_list_within, list_of}
-use Rattle.texts.specs.Texts.{name_of}
+use Rattle.points.specs.Texts.{name_of}
 use Rattle.building.specs.Fields.{known_keys, list_at, required_at, text_in}
 use Rattle.building.specs.Priority.{event_priority_in, is_priority}
 
 abbrev pub exception_keys : List Key
 exception_keys = key.Priority ∷ key.Entry ∷ key.Calendar ∷ key.Times ∷ []
 
--- the calendar that a text names, by its place in the file from 0
+-- the calendar that a text names, by its index in the file from 0
 abbrev pub calendar_named : List NamedCalendar → List ℕ → Option CalId
-calendar_named calendars text = option_map (λ n. record { place = n }) (option_and_then
+calendar_named calendars text = option_map (λ n. record { index = n }) (option_and_then
     (λ name. position (has_the_name (λ (calendar : NamedCalendar). calendar.name) name) calendars) (name_of text))
 
 -- B4, B7 where no calendar has the name
@@ -71,7 +71,7 @@ exception_in location calendars kinds d = do
 -- a calendar is one of the file
 abbrev pub is_sound_period : List NamedCalendar → Period → Bool
 is_sound_period calendars (period.Entry entry) = true
-is_sound_period calendars (period.Calendar id) = nat_lt id.place (length calendars)
+is_sound_period calendars (period.Calendar id) = nat_lt id.index (length calendars)
 
 abbrev pub is_sound_exception : List NamedCalendar → List Kind → Exception → Bool
 is_sound_exception calendars kinds exception = is_sound_period calendars exception.period

@@ -58,7 +58,7 @@ key_text key.OnLeave = codes "on_leave"
 key_text key.Entry = codes "entry"
 key_text key.Times = codes "times"
 
--- the number, the section, the place in it, and the key
+-- the number, the section, the position in it, and the key
 abbrev pub fault_line : FileFault → List ℕ
 fault_line fault = cause_text fault.cause ++ (codes " " ++ (section_text fault.section ++ (codes " "
-    ++ (decimal fault.place ++ (codes " " ++ key_text fault.key)))))
+    ++ (decimal fault.position ++ (codes " " ++ key_text fault.key)))))

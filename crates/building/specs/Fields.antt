@@ -10,7 +10,7 @@ use Rattle.building.specs.declared.key.Key.TheVariants as key
 use Rattle.building.specs.declared.location.Location.{Location}
 use Rattle.building.specs.FaultAt.{fault_at}
 use Rattle.building.specs.FaultLine.{key_text}
-use Rattle.building.specs.Steps.{◌>>=◌, or_fault, where_holds}
+use Rattle.points.specs.FaultSteps.{or_fault, where_holds, ◌>>=◌}
 
 -- the table has no key but these
 abbrev pub has_only : List Key → Members → Bool

@@ -6,7 +6,7 @@ use Rattle.building.specs.declared.file_fault.FileFault.{FileFault}
 use Rattle.building.specs.declared.key.Key.{Key}
 use Rattle.building.specs.declared.location.Location.{Location}
 use Rattle.building.specs.FaultAt.{fault_at}
-use Rattle.building.specs.Steps.{◌>>=◌, or_fault, where_holds}
+use Rattle.points.specs.FaultSteps.{or_fault, where_holds, ◌>>=◌}
 use Rattle.building.specs.Fields.{list_in}
 
 -- what is read of each item, or the first fault
@@ -34,7 +34,7 @@ all_tables location key items = where_holds (are_tables items) (fault_at locatio
 abbrev pub exactly : ℕ → Location → Key → Items → Result ⊤ FileFault
 exactly number location key items = where_holds (count_of items == number) (fault_at location key WrongType) tt
 
--- the item at a place from 0, as a list: B4 where it is none
+-- the item at an index from 0, as a list: B4 where it is none
 abbrev pub list_item_at : ℕ → Location → Key → Items → Result Items FileFault
-list_item_at place location key items =
-    or_fault (fault_at location key WrongType) (get_item place items) >>= list_in location key
+list_item_at index location key items =
+    or_fault (fault_at location key WrongType) (get_item index items) >>= list_in location key

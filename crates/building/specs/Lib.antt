@@ -17,7 +17,6 @@ pub mod Reference
 pub mod Roster
 pub mod ScheduleTable
 pub mod Section
-pub mod Steps
 pub mod TimeLists
 pub mod TimeValue
 pub mod TopTable

@@ -5,7 +5,7 @@ use Rattle.toml.specs.Data.{Members}
 use Rattle.building.specs.declared.file_fault.FileFault.{FileFault}
 use Rattle.building.specs.declared.key.Key.TheVariants as key
 use Rattle.building.specs.declared.location.Location.{Location}
-use Rattle.building.specs.Steps.{◌>>=◌}
+use Rattle.points.specs.FaultSteps.{◌>>=◌}
 use Rattle.building.specs.Reference.{each_reference, is_named}
 use Rattle.points.specs.declared.Panel.{Panel}
 use Rattle.points.specs.declared.Point.{Point}

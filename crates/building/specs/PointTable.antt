@@ -8,7 +8,7 @@ use Rattle.building.specs.declared.key.Key.{Key}
 use Rattle.building.specs.declared.key.Key.TheVariants as key
 use Rattle.building.specs.declared.location.Location.{Location}
 use Rattle.building.specs.FaultAt.{fault_at}
-use Rattle.building.specs.Steps.{◌>>=◌, where_holds}
+use Rattle.points.specs.FaultSteps.{where_holds, ◌>>=◌}
 use Rattle.points.specs.Kind.{is_between, lies_in}
 use Rattle.points.specs.declared.Kind.{Kind}
 use Rattle.points.specs.declared.Kind.TheVariants.{Analog, Binary, Multistate}

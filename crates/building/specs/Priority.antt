@@ -6,7 +6,7 @@ use Rattle.building.specs.declared.file_fault.FileFault.{FileFault}
 use Rattle.building.specs.declared.key.Key.{Key}
 use Rattle.building.specs.declared.location.Location.{Location}
 use Rattle.building.specs.FaultAt.{fault_at}
-use Rattle.building.specs.Steps.{◌>>=◌, or_fault}
+use Rattle.points.specs.FaultSteps.{or_fault, ◌>>=◌}
 use Rattle.building.specs.Fields.{integer_in}
 
 -- 1 to 16

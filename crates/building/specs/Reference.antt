@@ -6,9 +6,9 @@ use Rattle.building.specs.declared.file_fault.FileFault.{FileFault}
 use Rattle.building.specs.declared.key.Key.{Key}
 use Rattle.building.specs.declared.location.Location.{Location}
 use Rattle.building.specs.FaultAt.{fault_at}
-use Rattle.building.specs.Steps.{◌>>=◌, where_holds}
+use Rattle.points.specs.FaultSteps.{where_holds, ◌>>=◌}
 use Rattle.points.specs.Name.{is_name}
-use Rattle.points.specs.Names.{is_among}
+use Rattle.points.specs.NameIndex.{is_among}
 use Rattle.building.specs.Roster.{has_name}
 use Rattle.building.specs.Fields.{text_in}
 

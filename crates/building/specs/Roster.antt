@@ -2,7 +2,7 @@
 use Rattle.std.specs.Prelude.{ℕ, Bool, true, not, ◌&&◌, List, [], ◌∷◌}
 use Rattle.std.specs.List.{list_any}
 use Rattle.std.specs.Str.{bytes_eq}
-use Rattle.points.specs.Names.{is_among}
+use Rattle.points.specs.NameIndex.{is_among}
 
 abbrev pub has_the_name : {A : Type 0} → (A → List ℕ) → List ℕ → A → Bool
 has_the_name name_of name x = bytes_eq (name_of x) name

@@ -8,9 +8,9 @@ use Rattle.building.specs.declared.key.Key.TheVariants as key
 use Rattle.building.specs.declared.location.Location.{Location}
 use Rattle.building.specs.declared.section.Section.{Section}
 use Rattle.building.specs.FaultAt.{fault_at}
-use Rattle.building.specs.Steps.{◌>>=◌, or_fault, where_holds}
+use Rattle.points.specs.FaultSteps.{or_fault, where_holds, ◌>>=◌}
 use Rattle.building.specs.Roster.{has_name}
-use Rattle.texts.specs.Texts.{name_of as name_in}
+use Rattle.points.specs.Texts.{name_of as name_in}
 use Rattle.building.specs.Fields.{known_keys, text_at}
 
 -- the name that a table gives itself: B3, B4, and B5 where it is none
@@ -37,7 +37,7 @@ table_in known name_of rest location earlier d = do
 
 -- where a table stands after so many others
 abbrev pub location_after : Section → ℕ → Location
-location_after section count = record { section = section; place = count + 1; in_exception = false }
+location_after section count = record { section = section; position = count + 1; in_exception = false }
 
 -- what the tables mean, each after those before it
 abbrev pub each_table : {A : Type 0} → Section → (A → List ℕ) → (Location → List A → Data → Result A FileFault)

@@ -7,7 +7,7 @@ use Rattle.building.specs.declared.file_fault.FileFault.{FileFault}
 use Rattle.building.specs.declared.key.Key.{Key}
 use Rattle.building.specs.declared.location.Location.{Location}
 use Rattle.building.specs.FaultAt.{fault_at}
-use Rattle.building.specs.Steps.{◌>>=◌, or_fault, where_holds}
+use Rattle.points.specs.FaultSteps.{or_fault, where_holds, ◌>>=◌}
 use Rattle.points.specs.declared.Kind.{Kind}
 use Rattle.sched.specs.declared.day_list.TimeValue.{TimeValue}
 use Rattle.building.specs.Kinds.{lies_in_all}

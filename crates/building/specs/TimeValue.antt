@@ -1,23 +1,17 @@
 -- The time value that a text `T=V` says.
-use Rattle.std.specs.Prelude.{ℕ, ℤ, pos, neg_ℤ, ◌+◌, ◌-◌, ◌*◌, ◌==◌, Bool, ◌&&◌, nat_le, nat_lt, List, [], ◌∷◌, length, take, drop, codes}
-use Rattle.std.specs.Prelude.{Option, Some, None, option_map, option_and_then, if◌then◌else◌}
+use Rattle.std.specs.Prelude.{ℕ, ℤ, pos, neg_ℤ, ◌+◌, ◌-◌, ◌*◌, ◌==◌, Bool, ◌&&◌, nat_le, nat_lt, [], ◌∷◌, length, take, drop, codes}
+use Rattle.std.specs.Prelude.{Option, Some, None, option_map, if◌then◌else◌}
 use Rattle.std.specs.Char.{is_ascii_digit}
 use Rattle.std.specs.List.{list_all, position_or_len}
 use Rattle.std.specs.Str.{bytes_eq}
 use Rattle.std.specs.Str.Parse.{digits_value}
 use Rattle.sched.specs.declared.day_list.TimeValue.{TimeValue}
-
--- a text, as its bytes
-abbrev pub Text : Type 0
-Text = List ℕ
-
-infixl 10 ◌>>=◌
-abbrev pub ◌>>=◌ : {A B : Type 0} → Option A → (A → Option B) → Option B
-o >>= f = option_and_then f o
+use Rattle.points.specs.Steps.{◌>>=◌}
+use Rattle.points.specs.Texts.{Text}
 
 -- ---- parts of a text
 
--- the place of the first `=`
+-- the index of the first `=`
 abbrev pub place_of_equals : Text → ℕ
 place_of_equals text = position_or_len (λ byte. byte == 61) text
 

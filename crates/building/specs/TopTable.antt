@@ -11,7 +11,7 @@ use Rattle.building.specs.declared.key.Key.TheVariants as key
 use Rattle.building.specs.declared.location.Location.{Location}
 use Rattle.building.specs.declared.section.Section.TheVariants as section
 use Rattle.building.specs.FaultAt.{fault_at}
-use Rattle.building.specs.Steps.{◌>>=◌, or_fault}
+use Rattle.points.specs.FaultSteps.{or_fault, ◌>>=◌}
 use Rattle.building.specs.declared.top_table.TopTable.{TopTable}
 use Rattle.building.specs.Fields.{known_keys, optional_list_at, text_at}
 use Rattle.building.specs.Items.{all_tables, at_most}
@@ -35,9 +35,9 @@ top_of top = record {
   schedules = items_view top.schedules.now;
 }
 
--- the top table stands at place 0
+-- the top table stands at position 0
 abbrev pub top_location : Location
-top_location = record { section = section.Top; place = 0; in_exception = false }
+top_location = record { section = section.Top; position = 0; in_exception = false }
 
 abbrev pub top_keys : List Key
 top_keys = key.Zone ∷ key.Point ∷ key.Panel ∷ key.Calendar ∷ key.Schedule ∷ []

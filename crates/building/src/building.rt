@@ -7,7 +7,7 @@ ghost use Rattle.std.specs.Str.{bytes_eq};
 ghost use Rattle.toml.specs.View.{table_view};
 ghost use Rattle.points.specs.Rights.{point_named, rule_of};
 ghost use Rattle.building.specs.Answers.{Answers};
-ghost use Rattle.building.specs.Steps.{result_map};
+ghost use Rattle.points.specs.FaultSteps.{result_map};
 ghost use Rattle.building.specs.BuildingFile.{building_of, contents_in, with_schedules};
 ghost use Rattle.building.specs.TopTable.{top_of};
 ghost use Rattle.building.specs.PanelTable.{is_sound_panel};
@@ -58,7 +58,7 @@ impl Model for Building {
 }
 
 impl Building {
-    /// Reads the building of a TOML file, or tells its first fault.
+    /// Reads the building of a TOML file, or answers its first fault.
     #[tactic(auto, unfolding(crate::specs::BuildingFile::building_of))]
     pub fn read(alloc: Global, bytes: &[u8]) -> Result<Building, BuildingFault>
         ensures { Answers (building_of bytes.now) (result_map contents_of result) }
@@ -139,15 +139,15 @@ impl Building {
         self.panels.find(name)
     }
 
-    /// The place of the calendar of a name, from 0.
-    pub fn calendar_place(&self, name: &Name) -> Option<usize>
+    /// The index of the calendar of a name, from 0.
+    pub fn calendar_index(&self, name: &Name) -> Option<usize>
         ensures { result ≡ position (λ calendar. bytes_eq calendar.name name.now) self.now.calendars }
     {
         self.calendars.position(name)
     }
 
-    /// The place of the schedule of a name, from 0.
-    pub fn schedule_place(&self, name: &Name) -> Option<usize>
+    /// The index of the schedule of a name, from 0.
+    pub fn schedule_index(&self, name: &Name) -> Option<usize>
         ensures { result ≡ position (λ schedule. bytes_eq schedule.name name.now) self.now.schedules }
     {
         self.schedules.position(name)

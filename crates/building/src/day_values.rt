@@ -21,8 +21,7 @@ use crate::kinds::lies_in_all;
 use crate::named_calendar::NamedCalendar;
 use crate::roster::Roster;
 use crate::time_lists::TimeLists;
-use listing::Listing;
-use points::Kind;
+use points::{Kind, Listing};
 use sched::{DayList, Exception};
 use std::alloc::Global;
 use toml::Value;
@@ -124,8 +123,8 @@ impl DayReader<'_> {
     }
 
     /// The list of a day, Monday's at 0.
-    fn day_in(&self, lists: &[Value], place: usize) -> Result<DayList, BuildingFault>
-        ensures answers { Answers (day_in place self.now.fields.now.location self.now.kinds.now
+    fn day_in(&self, lists: &[Value], index: usize) -> Result<DayList, BuildingFault>
+        ensures answers { Answers (day_in index self.now.fields.now.location self.now.kinds.now
             (items_view lists.now)) result }
         ensures sound { IfOk result (λ list. IsTrue (is_list_within self.now.kinds.now list)) }
     {
@@ -135,7 +134,7 @@ impl DayReader<'_> {
             key: Key::Weekly,
             kinds: self.kinds,
         };
-        time_lists.list_of(self.fields.list_at(Key::Weekly, lists, place)?)
+        time_lists.list_of(self.fields.list_at(Key::Weekly, lists, index)?)
     }
 
     fn exceptions_in(&self) -> Result<Listing<Exception>, BuildingFault>

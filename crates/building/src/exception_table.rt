@@ -3,7 +3,7 @@
 ghost use Rattle.std.specs.Prelude.{◌≡◌, IfOk, IfSome, IsTrue};
 ghost use Rattle.toml.specs.View.{table_view, view};
 ghost use Rattle.building.specs.Answers.{Answers};
-ghost use Rattle.building.specs.Steps.{result_map};
+ghost use Rattle.points.specs.FaultSteps.{result_map};
 ghost use Rattle.building.specs.ExceptionTable.{calendar_at, calendar_named, exception_in, fields_at};
 ghost use Rattle.building.specs.ExceptionTable.{is_sound_exception, is_sound_period, period_in, period_of};
 ghost use Rattle.building.specs.ExceptionTable.{times_at};
@@ -116,6 +116,6 @@ fn calendar_named(calendars: &Roster<NamedCalendar>, text: &str) -> Option<CalId
     ensures answers { result ≡ calendar_named calendars.now text.now }
     ensures sound { IfSome result (λ id. IsTrue (is_sound_period calendars.now (Period.Calendar id))) }
 {
-    let place = calendars.position(&texts::name_of(text)?)?;
-    Some(CalId { place })
+    let index = calendars.position(&points::name_of(text)?)?;
+    Some(CalId { index })
 }

@@ -3,7 +3,7 @@
 ghost use Rattle.std.specs.Prelude.{◌≡◌, is_some, option_copied, option_map, slice_get, string_bytes};
 ghost use Rattle.std.specs.BTreeMap.{keys};
 ghost use Rattle.std.specs.List.{list_all, list_any};
-ghost use Rattle.building.specs.Steps.{result_map};
+ghost use Rattle.points.specs.FaultSteps.{result_map};
 ghost use Rattle.std.specs.Str.{bytes_eq};
 ghost use Rattle.toml.specs.Data.{as_table, get_item, get_member};
 ghost use Rattle.toml.specs.View.{items_view, table_view, view};
@@ -180,17 +180,17 @@ impl<'a> Fields<'a> {
         }
     }
 
-    /// The item of a list at a place from 0, as a list (B4).
+    /// The item of a list at an index from 0, as a list (B4).
     pub fn list_at<'b>(
         &self,
         key: Key,
         items: &'b [Value],
-        place: usize,
+        index: usize,
     ) -> Result<&'b [Value], FileFault>
         ensures { result_map (λ vs. items_view vs.now) result
-            ≡ list_item_at place self.now.location key (items_view items.now) }
+            ≡ list_item_at index self.now.location key (items_view items.now) }
     {
-        match item_at(items, place) {
+        match item_at(items, index) {
             Some(item) => self.list_in(key, item),
             None => Err(self.fault(key, Cause::WrongType)),
         }
@@ -249,16 +249,16 @@ fn count(items: &[Value]) -> usize
     items.len()
 }
 
-fn item_at(items: &[Value], place: usize) -> Option<&Value>
-    ensures { option_map (λ v. view v.now) result ≡ get_item place (items_view items.now) }
+fn item_at(items: &[Value], index: usize) -> Option<&Value>
+    ensures { option_map (λ v. view v.now) result ≡ get_item index (items_view items.now) }
 {
-    nth(items, place)
+    nth(items, index)
 }
 
-fn nth<T>(items: &[T], place: usize) -> Option<&T>
-    ensures { option_copied result ≡ slice_get items.now place }
+fn nth<T>(items: &[T], index: usize) -> Option<&T>
+    ensures { option_copied result ≡ slice_get items.now index }
 {
-    items.get(place)
+    items.get(index)
 }
 
 fn are_tables(items: &[Value]) -> bool

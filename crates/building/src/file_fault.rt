@@ -11,8 +11,8 @@ use std::fmt;
 pub struct FileFault {
     pub cause: Cause,
     pub section: Section,
-    /// The place of the table in its section, from 1; 0 in the top table.
-    pub place: usize,
+    /// The position of the table in its section, from 1; 0 in the top table.
+    pub position: usize,
     pub key: Key,
 }
 
@@ -26,10 +26,10 @@ impl fmt::Display for FileFault {
         let FileFault {
             cause,
             section,
-            place,
+            position,
             key,
         } = self;
-        write!(f, "{cause} {section} {place} {key}")
+        write!(f, "{cause} {section} {position} {key}")
     }
 }
 

@@ -2,7 +2,7 @@
 
 ghost use Rattle.std.specs.Prelude.{IfOk, IsTrue};
 ghost use Rattle.std.specs.List.{list_all};
-ghost use Rattle.building.specs.Steps.{result_map};
+ghost use Rattle.points.specs.FaultSteps.{result_map};
 ghost use Rattle.toml.specs.View.{items_view, view};
 ghost use Rattle.building.specs.Answers.{Answers};
 ghost use Rattle.building.specs.Items.{each_item};

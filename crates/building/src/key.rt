@@ -4,7 +4,7 @@ ghost use Rattle.building.specs.FaultLine.{key_text};
 
 use std::fmt;
 
-/// A key of a building file, as a fault tells it.
+/// A key of a building file, as a fault names it.
 #[derive(Clone, Copy, Debug, PartialEq, Eq)]
 pub enum Key {
     /// The file itself, where no key is at fault.

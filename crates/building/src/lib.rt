@@ -2,14 +2,14 @@
 //!
 //! `Building::read` reads the bytes of a TOML file: its tree by `toml`, then the top table (`TopTable`), and then the
 //! points, the panels beside the points, the calendars, and the schedules beside the points and the calendars
-//! (ANSI/ASHRAE 135-2016, 12.9 and 12.24, in this desk's profile). Of a file at fault it tells the first fault. What is
-//! read is found by name at about the same cost whatever its number.
+//! (ANSI/ASHRAE 135-2016, 12.9 and 12.24, in this desk's profile). Of a file at fault it reports the first fault. What
+//! is read is found by name at about the same cost whatever its number.
 //!
 //! From the bottom up: `Fields` is a table with its `Location`, which gives the value at a `Key` in the type that the
-//! key takes, or the fault that tells why not; `read_items` reads a list item by item, `read_references` a list of
+//! key takes, or the fault that says why not; `read_items` reads a list item by item, `read_references` a list of
 //! names, and `read_section` the tables of a section, each by what knows its table (`PointTable`, `PanelTable`,
 //! `CalendarTable`, `ScheduleTable`). What is wrong in a file is a `FileFault` at a `Location`, and is printed as one
-//! line: its number, the section, the place in it, and the key. A `Roster` keeps items by name.
+//! line: its number, the section, the position in it, and the key. A `Roster` keeps items by name.
 #![tactic(auto)]
 
 pub use building::Building;
@@ -24,6 +24,7 @@ pub use named_calendar::NamedCalendar;
 pub use named_schedule::{NamedSchedule, OnLeave};
 pub use roster::Roster;
 pub use section::Section;
+pub use time_value::{digit, value_at};
 
 mod building;
 mod building_refusal;

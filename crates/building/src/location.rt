@@ -1,6 +1,6 @@
 //! Where a table of a building file stands.
 ghost use Rattle.std.specs.Prelude.{◌≡◌, true};
-ghost use Rattle.building.specs.FaultAt.{fault_at, told_key};
+ghost use Rattle.building.specs.FaultAt.{fault_at, reported_key};
 
 use crate::cause::Cause;
 use crate::file_fault::FileFault;
@@ -11,9 +11,9 @@ use crate::section::Section;
 #[derive(Clone, Copy, Debug)]
 pub struct Location {
     pub section: Section,
-    /// The place of the table in its section, from 1; 0 for the top table.
-    pub place: usize,
-    /// Whether it is an exception's table inside that table. Its keys are told as `exception`.
+    /// The position of the table in its section, from 1; 0 for the top table.
+    pub position: usize,
+    /// Whether it is an exception's table inside that table. Its keys are reported as `exception`.
     pub in_exception: bool,
 }
 
@@ -21,7 +21,7 @@ impl Location {
     /// The top table.
     pub const TOP: Location = Location {
         section: Section::Top,
-        place: 0,
+        position: 0,
         in_exception: false,
     };
 
@@ -42,13 +42,13 @@ impl Location {
         FileFault {
             cause,
             section: self.section,
-            place: self.place,
-            key: self.told(key),
+            position: self.position,
+            key: self.reported_key(key),
         }
     }
 
-    fn told(self, key: Key) -> Key
-        ensures { result ≡ told_key self.in_exception key }
+    fn reported_key(self, key: Key) -> Key
+        ensures { result ≡ reported_key self.in_exception key }
     {
         match key {
             Key::Unknown => Key::Unknown,

@@ -1,7 +1,7 @@
 //! Schedules of a building.
 
 use crate::named::Named;
-use points::{Name, Names};
+use points::{Name, NameIndex};
 use sched::Schedule;
 
 /// What becomes of the places that a schedule wrote last, on a day outside its effective period (this
@@ -21,7 +21,7 @@ pub struct NamedSchedule {
     /// The priority at which it writes, 1 to 16 and not 6.
     pub priority: u8,
     /// The names of the points that it writes to, each once.
-    pub targets: Names,
+    pub targets: NameIndex,
     pub on_leave: OnLeave,
     pub schedule: Schedule,
 }

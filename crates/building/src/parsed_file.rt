@@ -5,7 +5,7 @@ ghost use Rattle.toml.specs.Errors.{IsMemory};
 ghost use Rattle.toml.specs.Parse.{parse_document};
 ghost use Rattle.toml.specs.View.{table_view};
 ghost use Rattle.building.specs.Answers.{Answers};
-ghost use Rattle.building.specs.Steps.{or_fault, result_map};
+ghost use Rattle.points.specs.FaultSteps.{or_fault, result_map};
 ghost use Rattle.building.specs.BuildingFile.{no_toml, tree_of};
 
 use crate::building_refusal::BuildingFault;
@@ -13,8 +13,8 @@ use crate::cause::Cause;
 use crate::file_fault::FileFault;
 use crate::key::Key;
 use crate::location::Location;
+use points::text_of;
 use std::alloc::Global;
-use texts::text_of;
 use toml::Table;
 
 /// The bytes that a building file has at most (this profile's limit).

@@ -1,11 +1,11 @@
 //! Lists of named items that are searched by an index.
 
 ghost use Rattle.std.specs.Prelude.{◌≡◌, IsTrue, [], ◌∷◌, map, slice_get, ◌++◌, false, find, option_copied, position, OnErr, OnOk};
-ghost use Rattle.points.specs.Names.{is_among};
+ghost use Rattle.points.specs.NameIndex.{is_among};
 ghost use Rattle.building.specs.Roster.{are_distinct, has_name, has_the_name};
 
 use crate::named::Named;
-use points::{Name, Names};
+use points::{Name, NameIndex};
 use std::alloc::{AllocError, Global};
 use std::marker::Model;
 
@@ -13,7 +13,7 @@ use std::marker::Model;
 #[derive(Drop)]
 pub struct Roster<T: Named> {
     items: Vec<T>,
-    names: Names,
+    names: NameIndex,
 }
 
 impl<T: Named> Model for Roster<T> {
@@ -34,7 +34,7 @@ impl<T: Named> Roster<T> {
     {
         Roster {
             items: Vec::new(alloc),
-            names: Names::new(alloc),
+            names: NameIndex::new(alloc),
         }
     }
 
@@ -45,7 +45,7 @@ impl<T: Named> Roster<T> {
         self.names.contains(name)
     }
 
-    /// The place of the first item of the name, from 0.
+    /// The index of the first item of the name, from 0.
     pub fn position(&self, name: &Name) -> Option<usize>
         ensures { result ≡ position (has_the_name T.name_of name.now) self.now }
     {
@@ -89,7 +89,7 @@ impl<T: Named> Roster<T> {
 }
 
 /// Puts a name last that is not among them.
-fn push_name(names: &mut Names, name: &Name) -> Result<(), AllocError>
+fn push_name(names: &mut NameIndex, name: &Name) -> Result<(), AllocError>
     requires new { is_among name.now names.old ≡ false }
     ensures pushed { OnOk result (names.new ≡ names.old ++ name.now ∷ []) }
     ensures unchanged { OnErr result (names.new ≡ names.old) }
@@ -98,8 +98,8 @@ fn push_name(names: &mut Names, name: &Name) -> Result<(), AllocError>
     Ok(())
 }
 
-fn item_at<T>(items: &[T], place: usize) -> Option<&T>
-    ensures { option_copied result ≡ slice_get items.now place }
+fn item_at<T>(items: &[T], index: usize) -> Option<&T>
+    ensures { option_copied result ≡ slice_get items.now index }
 {
-    items.get(place)
+    items.get(index)
 }

@@ -23,7 +23,7 @@ use crate::reference::read_references;
 use crate::roster::Roster;
 use crate::section_tables::ReadTable;
 use dates::{Entry, EntryFault, Range};
-use points::{Name, Names, Point};
+use points::{Name, NameIndex, Point};
 use sched::Schedule;
 use std::alloc::Global;
 
@@ -72,7 +72,7 @@ impl ReadTable<NamedSchedule> for ScheduleTable<'_> {
 
 impl ScheduleTable<'_> {
     /// The points that the schedule writes to, each once.
-    fn targets_at(&self, fields: &Fields<'_>) -> Result<Names, BuildingFault>
+    fn targets_at(&self, fields: &Fields<'_>) -> Result<NameIndex, BuildingFault>
         ensures answers { Answers (targets_at self.now.points.now fields.now.location
             (table_view fields.now.table.now)) result }
         ensures sound { IfOk result (λ names. IsTrue

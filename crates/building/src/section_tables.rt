@@ -4,7 +4,7 @@ ghost use Rattle.std.specs.Prelude.{◌≡◌, [], false, IfOk, IsTrue};
 ghost use Rattle.std.specs.List.{list_all};
 ghost use Rattle.toml.specs.View.{items_view, table_view, view};
 ghost use Rattle.building.specs.Answers.{Answers};
-ghost use Rattle.building.specs.Steps.{result_map};
+ghost use Rattle.points.specs.FaultSteps.{result_map};
 ghost use Rattle.building.specs.Roster.{has_name};
 ghost use Rattle.building.specs.Section.{each_table, name_at, new_name, table_at, table_in};
 
@@ -60,7 +60,7 @@ pub(crate) fn read_section<T: Named + Drop, R: ReadTable<T>>(
     for (index, item) in items.iter().enumerate() {
         let location = Location {
             section,
-            place: index + 1,
+            position: index + 1,
             in_exception: false,
         };
         tables.push(table_in(reader, known, location, &tables, item)?)?;
@@ -116,5 +116,5 @@ fn new_name<T: Named>(fields: &Fields<'_>, earlier: &Roster<T>) -> Result<Name, 
 fn name_at(fields: &Fields<'_>) -> Result<Name, FileFault>
     ensures { result ≡ name_at fields.now.location (table_view fields.now.table.now) }
 {
-    texts::name_of(fields.text(Key::Name)?).ok_or(fields.fault(Key::Name, Cause::NotAName))
+    points::name_of(fields.text(Key::Name)?).ok_or(fields.fault(Key::Name, Cause::NotAName))
 }

@@ -92,7 +92,8 @@ fn after_mark(mark: u8, text: &[u8]) -> Option<&[u8]>
     }
 }
 
-fn digit(byte: u8) -> Option<u32>
+/// The value of an ASCII digit, 0 to 9.
+pub fn digit(byte: u8) -> Option<u32>
     ensures value { result ≡ digit_at byte }
     ensures bound { IfSome result (λ n. n < 10) }
 {
@@ -102,8 +103,8 @@ fn digit(byte: u8) -> Option<u32>
     }
 }
 
-/// The value that a text writes, or NULL.
-fn value_at(text: &str) -> Option<Option<i64>>
+/// The value that a text writes, or NULL (`None` within).
+pub fn value_at(text: &str) -> Option<Option<i64>>
     ensures { result ≡ value_at text.now }
 {
     match text {

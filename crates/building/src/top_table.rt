@@ -2,7 +2,7 @@
 
 ghost use Rattle.std.specs.Prelude.{◌≡◌, option_map};
 ghost use Rattle.toml.specs.View.{items_view, table_view};
-ghost use Rattle.building.specs.Steps.{result_map};
+ghost use Rattle.points.specs.FaultSteps.{result_map};
 ghost use Rattle.local_times.specs.ZoneRule.{rule_text};
 ghost use Rattle.building.specs.TopTable.{section_at, section_of, section_or_none, top_in, top_of, zone_at};
 

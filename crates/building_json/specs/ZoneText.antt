@@ -2,7 +2,7 @@
 use Rattle.std.specs.Prelude.{ℕ, List, Option, codes, option_and_then}
 use Rattle.toml.specs.Data.{Members, as_str, get_member}
 use Rattle.toml.specs.Parse.{parse_document}
-use Rattle.texts.specs.Texts.{text_of}
+use Rattle.points.specs.Texts.{text_of}
 
 -- the text at the key `zone` of a table
 abbrev pub zone_in : Members → Option (List ℕ)

@@ -11,8 +11,8 @@ use building::Building;
 use serde_json::{Value, json};
 use std::alloc::{AllocError, Global};
 
-/// A building with the text of its time zone as one JSON object, compact, its keys in byte order, and the line end (LF).
-/// Where there is no text, the zone is null. The only error is want of memory.
+/// A building with the text of its time zone as one JSON object, compact, its keys in byte order, and the line end
+/// (LF). Where there is no text, the zone is null. The only error is a failed allocation.
 pub fn description_line(
     alloc: Global,
     zone: Option<&str>,

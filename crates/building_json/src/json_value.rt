@@ -13,7 +13,7 @@ pub(crate) trait JsonValue {
 
     ghost json: { Self → Data };
 
-    /// The value. The only error is want of memory.
+    /// The value. The only error is a failed allocation.
     fn json_value(&self, alloc: Global) -> Result<Value, AllocError>
         ensures { IfOk result (λ value. view value ≡ json self.now) };
 }

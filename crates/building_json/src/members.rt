@@ -65,7 +65,7 @@ impl JsonValue for Panel {
     }
 }
 
-/// A calendar is told by its name.
+/// A calendar is printed as its name.
 impl JsonValue for NamedCalendar {
     ghost use Rattle.building_json.specs.Description.{calendar_data};
 

@@ -5,11 +5,11 @@ ghost use Rattle.toml.specs.Data.{get_member};
 ghost use Rattle.toml.specs.View.{table_view, view};
 ghost use Rattle.building_json.specs.ZoneText.{zone_in, zone_of, zone_of_text};
 
+use points::text_of;
 use std::alloc::{AllocError, Global};
-use texts::text_of;
 use toml::{Table, Value};
 
-/// The text at the key `zone` of a TOML file, if there is one. The only error is want of memory.
+/// The text at the key `zone` of a TOML file, if there is one. The only error is a failed allocation.
 pub fn zone_text(alloc: Global, bytes: &[u8]) -> Result<Option<String>, AllocError>
     ensures { IfOk result (λ zone. option_map string_bytes zone ≡ zone_of bytes.now) }
 {

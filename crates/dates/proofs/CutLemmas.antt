@@ -9,7 +9,8 @@ use Rattle.std.proofs.lemmas.Bool.{not-true}
 use Rattle.std.proofs.lemmas.List.{take-append-drop}
 use Rattle.std.proofs.lemmas.Slice.Eq.{bytes_eq-Decides}
 use Rattle.std.specs.Cmp.Derive.{both_true}
-use Rattle.dates.specs.Notation.{Text, cut_at, without_prefix}
+use Rattle.dates.specs.Notation.{cut_at, without_prefix}
+use Rattle.points.specs.Texts.{Text}
 
 pub starts_with-append : (mark rest : Text) → starts_with nat_eq (mark ++ rest) mark ≡ true
 starts_with-append mark rest =

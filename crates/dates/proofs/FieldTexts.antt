@@ -18,7 +18,8 @@ use Rattle.dates.specs.Between.{is_between, between}
 use Rattle.dates.specs.Day.{is_between-true}
 use Rattle.dates.specs.MonthDays.{month_days_at, AreMonthDays, month_days_text}
 use Rattle.dates.specs.Months.{months_at, AreMonths, months_text}
-use Rattle.dates.specs.Notation.{Text, digit_at, two_digits, four_digits, two_digit_text, four_digit_text}
+use Rattle.dates.specs.Notation.{digit_at, two_digits, four_digits, two_digit_text, four_digit_text}
+use Rattle.points.specs.Texts.{Text}
 use Rattle.dates.specs.Week.{week_at, weeks_at, week_text, weeks_text}
 use Rattle.dates.specs.Weekday.{weekday_at, weekdays_at, weekdays_text, weekday_text}
 use Rattle.dates.specs.Year.{years_at, AreYears, years_text}

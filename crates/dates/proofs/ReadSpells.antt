@@ -27,10 +27,11 @@ use Rattle.dates.specs.declared.entry_fault.EntryFault.TheVariants as fault
 use Rattle.dates.specs.DateFields.{one_day, date_fields_at, full_date_at, date_fields_text}
 use Rattle.dates.specs.Day.{IsOfYears, day_of, day_with, passed, is_between-true, is_day, day_text}
 use Rattle.dates.specs.Entry.{dates_at, reading, spelling, Spells}
-use Rattle.dates.specs.EntryFault.{◌>>=◌}
+use Rattle.points.specs.FaultSteps.{◌>>=◌}
 use Rattle.dates.specs.MonthDays.{month_days_at, AreMonthDays, one_month_day}
 use Rattle.dates.specs.Months.{months_at, AreMonths, one_month}
-use Rattle.dates.specs.Notation.{Text, cut_at, without_prefix, parts_at}
+use Rattle.dates.specs.Notation.{cut_at, without_prefix, parts_at}
+use Rattle.points.specs.Texts.{Text}
 use Rattle.dates.specs.Pattern.{IsPattern, date_part, weekday_part, pattern_at, weekday_suffix, pattern_text}
 use Rattle.dates.specs.Range.{IsRange, IsRangeEnd, range_end_at, range_at, range_end_text, range_text}
 use Rattle.dates.specs.Week.{weeks_at}

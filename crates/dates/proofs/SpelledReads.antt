@@ -24,7 +24,8 @@ use Rattle.dates.specs.Day.{IsOfYears, day_of, day_with, IsDay, day_text}
 use Rattle.dates.specs.Entry.{IsEntry, dates_at, reading, spelling}
 use Rattle.dates.specs.MonthDays.{AreMonthDays, month_days_text}
 use Rattle.dates.specs.Months.{AreMonths, months_text}
-use Rattle.dates.specs.Notation.{Text, without_prefix, parts_at, two_digit_text}
+use Rattle.dates.specs.Notation.{without_prefix, parts_at, two_digit_text}
+use Rattle.points.specs.Texts.{Text}
 use Rattle.dates.specs.Pattern.{IsPattern, date_part, weekday_part, pattern_at, weekday_suffix, pattern_text}
 use Rattle.dates.specs.Range.{IsRangeEnd, range_end_at, range_at, range_end_text}
 use Rattle.dates.specs.Week.{weeks_text}

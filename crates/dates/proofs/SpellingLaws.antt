@@ -4,7 +4,7 @@ use Rattle.std.specs.Prelude.{Result, Ok}
 use Rattle.dates.specs.declared.entry.Entry.{Entry}
 use Rattle.dates.specs.declared.entry_fault.EntryFault.{EntryFault}
 use Rattle.dates.specs.Entry.{IsEntry, reading, spelling, Spells, HasOneSpelling}
-use Rattle.dates.specs.Notation.{Text}
+use Rattle.points.specs.Texts.{Text}
 use Rattle.dates.proofs.ReadSpells.{reading-ok}
 use Rattle.dates.proofs.SpelledReads.{reading-text}
 

@@ -8,10 +8,11 @@ use Rattle.dates.specs.declared.month_days.MonthDays.{MonthDays}
 use Rattle.dates.specs.declared.entry_fault.EntryFault.{EntryFault}
 use Rattle.dates.specs.declared.entry_fault.EntryFault.TheVariants as fault
 use Rattle.dates.specs.Day.{day_of}
-use Rattle.dates.specs.EntryFault.{◌>>=◌}
+use Rattle.points.specs.FaultSteps.{◌>>=◌}
 use Rattle.dates.specs.MonthDays.{one_month_day, month_days_at, month_days_text}
 use Rattle.dates.specs.Months.{one_month, months_at, months_text}
-use Rattle.dates.specs.Notation.{Text, cut_at, parts_at}
+use Rattle.dates.specs.Notation.{cut_at, parts_at}
+use Rattle.points.specs.Texts.{Text}
 use Rattle.dates.specs.Year.{years_at, years_text}
 
 -- Y-M-D

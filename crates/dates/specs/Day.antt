@@ -11,7 +11,8 @@ use Rattle.jiff_core.specs.Calendar.{IsBetween, IsDate, IsYear, days_in_month}
 use Rattle.jiff_core.specs.Date.{month_length}
 use Rattle.jiff_core.specs.declared.civil.date.Date.{Date}
 use Rattle.dates.specs.Between.{is_between}
-use Rattle.dates.specs.Notation.{Text, two_digit_text, four_digit_text}
+use Rattle.dates.specs.Notation.{two_digit_text, four_digit_text}
+use Rattle.points.specs.Texts.{Text}
 
 -- the parts of a day that the calendar has, in such a year
 abbrev pub IsDay : ℤ → ℕ → ℕ → Type 0

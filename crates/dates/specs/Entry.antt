@@ -5,8 +5,9 @@ use Rattle.jiff_core.specs.declared.civil.date.Date.{Date}
 use Rattle.dates.specs.declared.entry.Entry.{Entry}
 use Rattle.dates.specs.declared.entry.Entry.TheVariants.{Pattern, Range, WeekNDay}
 use Rattle.dates.specs.declared.entry_fault.EntryFault.{EntryFault}
-use Rattle.dates.specs.EntryFault.{◌>>=◌}
-use Rattle.dates.specs.Notation.{Text, cut_at, without_prefix}
+use Rattle.points.specs.FaultSteps.{◌>>=◌}
+use Rattle.dates.specs.Notation.{cut_at, without_prefix}
+use Rattle.points.specs.Texts.{Text}
 use Rattle.dates.specs.Pattern.{IsPattern, in_pattern, pattern_at, pattern_text}
 use Rattle.dates.specs.Range.{IsRange, in_range, range_at, range_text}
 use Rattle.dates.specs.WeekNDay.{IsWeekNDay, in_week_n_day, week_n_day_at, week_n_day_text}

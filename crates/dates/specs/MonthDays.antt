@@ -7,7 +7,8 @@ use Rattle.dates.specs.declared.month_days.MonthDays.{MonthDays}
 use Rattle.dates.specs.declared.month_days.MonthDays.TheVariants.{Any, Last, Odd, Even, One}
 use Rattle.dates.specs.Between.{between}
 use Rattle.dates.specs.Day.{days_left}
-use Rattle.dates.specs.Notation.{Text, two_digits, two_digit_text}
+use Rattle.dates.specs.Notation.{two_digits, two_digit_text}
+use Rattle.points.specs.Texts.{Text}
 
 -- the numbers are in range
 abbrev pub AreMonthDays : MonthDays → Type 0

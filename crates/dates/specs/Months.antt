@@ -6,7 +6,8 @@ use Rattle.jiff_core.specs.declared.civil.date.Date.{Date}
 use Rattle.dates.specs.declared.months.Months.{Months}
 use Rattle.dates.specs.declared.months.Months.TheVariants.{Any, Odd, Even, One}
 use Rattle.dates.specs.Between.{between}
-use Rattle.dates.specs.Notation.{Text, two_digits, two_digit_text}
+use Rattle.dates.specs.Notation.{two_digits, two_digit_text}
+use Rattle.points.specs.Texts.{Text}
 
 -- the numbers are in range
 abbrev pub AreMonths : Months → Type 0

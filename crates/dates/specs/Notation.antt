@@ -1,12 +1,10 @@
 -- The parts of a text that the notation of entries is made of: what a mark cuts, and the digits of a number.
-use Rattle.std.specs.Prelude.{ℕ, ◌+◌, ◌-◌, ◌*◌, ◌/◌, ◌%◌, ◌==◌, List, [], ◌∷◌, ◌++◌, length, drop, slice_index, nat_eq}
+use Rattle.std.specs.Prelude.{ℕ, ◌+◌, ◌-◌, ◌*◌, ◌/◌, ◌%◌, ◌==◌, [], ◌∷◌, ◌++◌, length, drop, slice_index, nat_eq}
 use Rattle.std.specs.Prelude.{Option, Some, None, option_map, option_and_then, is_some, if◌then◌else◌}
 use Rattle.std.specs.List.{starts_with}
 use Rattle.dates.specs.Between.{is_between}
-
--- a text, as its bytes
-abbrev pub Text : Type 0
-Text = List ℕ
+use Rattle.points.specs.Steps.{◌>>=◌}
+use Rattle.points.specs.Texts.{Text}
 
 -- ---- marks
 
@@ -30,10 +28,6 @@ parts_at mark text =
     (cut_at mark first.1)) (cut_at mark text)
 
 -- ---- digits
-
-infixl 10 ◌>>=◌
-abbrev ◌>>=◌ : {A B : Type 0} → Option A → (A → Option B) → Option B
-o >>= f = option_and_then f o
 
 -- the value of an ASCII digit
 unfoldable pub digit_at : ℕ → Option ℕ

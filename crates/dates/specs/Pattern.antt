@@ -7,10 +7,11 @@ use Rattle.dates.specs.declared.pattern.Pattern.{Pattern}
 use Rattle.dates.specs.declared.entry_fault.EntryFault.{EntryFault}
 use Rattle.dates.specs.declared.entry_fault.EntryFault.TheVariants as fault
 use Rattle.dates.specs.DateFields.{date_fields_at, date_fields_text}
-use Rattle.dates.specs.EntryFault.{◌>>=◌}
+use Rattle.points.specs.FaultSteps.{◌>>=◌}
 use Rattle.dates.specs.MonthDays.{AreMonthDays, in_month_days}
 use Rattle.dates.specs.Months.{AreMonths, in_months}
-use Rattle.dates.specs.Notation.{Text, cut_at}
+use Rattle.dates.specs.Notation.{cut_at}
+use Rattle.points.specs.Texts.{Text}
 use Rattle.dates.specs.Weekday.{weekday_at, weekday_text, in_weekdays}
 use Rattle.dates.specs.Year.{AreYears, in_years}
 

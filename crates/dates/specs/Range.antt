@@ -7,8 +7,8 @@ use Rattle.dates.specs.declared.range.Range.{Range}
 use Rattle.dates.specs.declared.entry_fault.EntryFault.{EntryFault}
 use Rattle.dates.specs.DateFields.{full_date_at}
 use Rattle.dates.specs.Day.{IsOfYears, day_text}
-use Rattle.dates.specs.EntryFault.{◌>>=◌}
-use Rattle.dates.specs.Notation.{Text}
+use Rattle.points.specs.FaultSteps.{◌>>=◌}
+use Rattle.points.specs.Texts.{Text}
 
 -- the years are in range
 abbrev pub IsRangeEnd : Option Date → Type 0

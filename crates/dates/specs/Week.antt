@@ -6,7 +6,7 @@ use Rattle.dates.specs.declared.week.Week.{Week}
 use Rattle.dates.specs.declared.week.Week.TheVariants.{First, Second, Third, Fourth, Fifth, Last, SecondLast, ThirdLast, FourthLast}
 use Rattle.dates.specs.Between.{is_between}
 use Rattle.dates.specs.Day.{days_left}
-use Rattle.dates.specs.Notation.{Text}
+use Rattle.points.specs.Texts.{Text}
 
 -- weeks 1 to 5 are counted by the day of the month, weeks 6 to 9 by the days that follow in it
 abbrev pub in_week : Week → Date → Bool

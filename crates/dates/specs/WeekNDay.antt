@@ -5,9 +5,10 @@ use Rattle.jiff_core.specs.declared.civil.date.Date.{Date}
 use Rattle.dates.specs.declared.week_n_day.WeekNDay.{WeekNDay}
 use Rattle.dates.specs.declared.entry_fault.EntryFault.{EntryFault}
 use Rattle.dates.specs.declared.entry_fault.EntryFault.TheVariants as fault
-use Rattle.dates.specs.EntryFault.{◌>>=◌}
+use Rattle.points.specs.FaultSteps.{◌>>=◌}
 use Rattle.dates.specs.Months.{AreMonths, in_months, months_at, months_text}
-use Rattle.dates.specs.Notation.{Text, parts_at}
+use Rattle.dates.specs.Notation.{parts_at}
+use Rattle.points.specs.Texts.{Text}
 use Rattle.dates.specs.Week.{in_weeks, weeks_at, weeks_text}
 use Rattle.dates.specs.Weekday.{in_weekdays, weekdays_at, weekdays_text}
 

@@ -6,7 +6,7 @@ use Rattle.jiff_core.specs.Weekday.{monday_zero}
 use Rattle.jiff_core.specs.declared.civil.date.Date.{Date}
 use Rattle.jiff_core.specs.declared.civil.weekday.Weekday.{Weekday}
 use Rattle.jiff_core.specs.declared.civil.weekday.Weekday.TheVariants.{Monday, Tuesday, Wednesday, Thursday, Friday, Saturday, Sunday}
-use Rattle.dates.specs.Notation.{Text}
+use Rattle.points.specs.Texts.{Text}
 
 -- three letters
 unfoldable pub weekday_at : Text → Option Weekday

@@ -5,7 +5,8 @@ use Rattle.std.specs.Ordering.{int_eq}
 use Rattle.std.specs.Str.{bytes_eq}
 use Rattle.jiff_core.specs.declared.civil.date.Date.{Date}
 use Rattle.dates.specs.Between.{between}
-use Rattle.dates.specs.Notation.{Text, four_digits, four_digit_text}
+use Rattle.dates.specs.Notation.{four_digits, four_digit_text}
+use Rattle.points.specs.Texts.{Text}
 
 -- the numbers are in range
 abbrev pub AreYears : Option ℕ → Type 0

@@ -11,8 +11,8 @@ use std::marker::Model;
 
 /// A civil day from 1900-01-01 to 2154-12-31. Days compare by their order in time.
 ///
-/// It is made and asked by a `jiff::civil::Date`, and holds the plain date that stands behind one, so that a proof of what
-/// only names a day has no `jiff` to read.
+/// It is made and asked by a `jiff::civil::Date`, and holds the plain date that stands behind one, so that a proof of
+/// what only names a day has no `jiff` to read.
 #[derive(Clone, Copy, PartialEq, Eq, PartialOrd, Ord, Debug)]
 pub struct Day {
     date: civil::Date,

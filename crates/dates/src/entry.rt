@@ -30,7 +30,7 @@ impl Entry {
 
     /// Reads an entry from exactly the texts that spell one, and takes no memory.
     ///
-    /// Of another text it tells the first fault: that of the form (E1), then those of the parts from
+    /// Of another text it answers the first fault: that of the form (E1), then those of the parts from
     /// left to right. In a range the left end comes before the right one, and in an end a part that
     /// is no number (E7) before a date that the calendar lacks (E4).
     pub fn read(text: &str) -> Result<Entry, EntryFault>
@@ -53,7 +53,7 @@ impl Entry {
         Ok(Entry::Pattern(Pattern::read(text)?))
     }
 
-    /// Writes the entry in its one spelling. The only error is want of memory.
+    /// Writes the entry in its one spelling. The only error is a failed allocation.
     pub fn write(&self, alloc: Global) -> Result<String, AllocError>
         ensures value { IfOk result (λ text. string_bytes text ≡ spelling self.now) }
         ensures range { IsEntry self.now }

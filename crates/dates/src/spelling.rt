@@ -2,7 +2,7 @@
 ghost use Rattle.std.specs.Prelude.{◌≡◌, ◌↔◌, Ok};
 ghost use Rattle.dates.specs.declared.entry.Entry.{Entry};
 ghost use Rattle.dates.specs.Entry.{IsEntry, reading, Spells, HasOneSpelling};
-ghost use Rattle.dates.specs.Notation.{Text};
+ghost use Rattle.points.specs.Texts.{Text};
 
 /// A law: a text reads as an entry exactly where it spells it.
 pub fn reading_is_spelling()

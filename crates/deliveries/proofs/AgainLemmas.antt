@@ -5,13 +5,13 @@ use Rattle.std.specs.Cmp.Lexicographic.{nat_list_eq_equiv, options_equiv}
 use Rattle.std.specs.Str.{bytes_eq}
 use Rattle.std.proofs.lemmas.Bool.{false≢true}
 use Rattle.std.proofs.lemmas.Cmp.{int_eq_equiv}
-use Rattle.points.specs.Names.{is_among}
+use Rattle.points.specs.NameIndex.{is_among}
 use Rattle.building.specs.Roster.{are_distinct}
 use Rattle.building.specs.declared.named_schedule.NamedSchedule.{NamedSchedule}
-use Rattle.settling.specs.Settled.{Now, Shown, cleared_by, falls_quiet, is_active_now, is_due, put_by, shown_by, shows, told, value_of, written}
+use Rattle.desk_settling.specs.Settled.{Now, Shown, cleared_by, falls_quiet, is_active_now, is_due, put_by, shown_by, shows, changes_shown, value_of, written}
 use Rattle.store.specs.declared.change.ShownValue.{ShownValue}
 use Rattle.store.specs.Change.{with_each, with_shown}
-use Rattle.store.specs.Tables.{Text}
+use Rattle.points.specs.Texts.{Text}
 use Rattle.deliveries.proofs.MachineLemmas.{bytes_eq-same, with_each-append}
 
 abbrev name_of : NamedSchedule → Text
@@ -138,12 +138,12 @@ quiet-one now old final s e =
         let stays : final s.name ≡ old s.name = e ∙ rw (a, c) refl in
         (rw a refl, rw (a, stays, c) refl)
 
-none-told : (now : Now) (old final : Shown) (schedules : List NamedSchedule) → Each (λ x. final x.name ≡ after now old x) schedules
+none-changes_shown : (now : Now) (old final : Shown) (schedules : List NamedSchedule) → Each (λ x. final x.name ≡ after now old x) schedules
     → flat_map (shown_by now final) schedules ≡ []
-none-told now old final [] each = refl
-none-told now old final (s ∷ rest) each =
+none-changes_shown now old final [] each = refl
+none-changes_shown now old final (s ∷ rest) each =
     let quiet = quiet-one now old final s each.0 in
-    rw (quiet.0, quiet.1) (none-told now old final rest each.1)
+    rw (quiet.0, quiet.1) (none-changes_shown now old final rest each.1)
 
 none-put : (now : Now) (old final : Shown) (schedules : List NamedSchedule) → Each (λ x. final x.name ≡ after now old x) schedules
     → flat_map (put_by now final) schedules ≡ []
@@ -159,10 +159,10 @@ none-cleared now old final (s ∷ rest) each =
     let quiet = quiet-one now old final s each.0 in
     rw quiet.1 (none-cleared now old final rest each.1)
 
-told-none : (now : Now) (old final : Shown) (schedules : List NamedSchedule) → Each (λ x. final x.name ≡ after now old x) schedules
-    → told now final schedules ≡ []
-unfolding told
-told-none now old final schedules each = none-told now old final schedules each
+changes_shown-none : (now : Now) (old final : Shown) (schedules : List NamedSchedule) → Each (λ x. final x.name ≡ after now old x) schedules
+    → changes_shown now final schedules ≡ []
+unfolding changes_shown
+changes_shown-none now old final schedules each = none-changes_shown now old final schedules each
 
 written-none : (now : Now) (old final : Shown) (schedules : List NamedSchedule) → Each (λ x. final x.name ≡ after now old x) schedules
     → written now final schedules ≡ []
@@ -170,13 +170,13 @@ unfolding written
 written-none now old final schedules each = λ i. none-cleared now old final schedules each i ++ none-put now old final schedules each i
 
 module _ (now : Now) (shown : Shown) (schedules : List NamedSchedule) (distinct : are_distinct (names_of schedules) ≡ true) where
-  each-final : Each (λ x. with_each with_shown (told now shown schedules) shown x.name ≡ after now shown x) schedules
-  unfolding told
+  each-final : Each (λ x. with_each with_shown (changes_shown now shown schedules) shown x.name ≡ after now shown x) schedules
+  unfolding changes_shown
   each-final = each-shows now shown shown schedules distinct (each-of (λ x. shown x.name ≡ shown x.name) (λ x. refl) schedules)
 
   -- settled once, they write nothing more
-  pub written-again : written now (with_each with_shown (told now shown schedules) shown) schedules ≡ []
-  written-again = written-none now shown (with_each with_shown (told now shown schedules) shown) schedules each-final
+  pub written-again : written now (with_each with_shown (changes_shown now shown schedules) shown) schedules ≡ []
+  written-again = written-none now shown (with_each with_shown (changes_shown now shown schedules) shown) schedules each-final
 
-  pub told-again : told now (with_each with_shown (told now shown schedules) shown) schedules ≡ []
-  told-again = told-none now shown (with_each with_shown (told now shown schedules) shown) schedules each-final
+  pub changes_shown-again : changes_shown now (with_each with_shown (changes_shown now shown schedules) shown) schedules ≡ []
+  changes_shown-again = changes_shown-none now shown (with_each with_shown (changes_shown now shown schedules) shown) schedules each-final

@@ -12,12 +12,13 @@ use Rattle.building.specs.Building.{Building}
 use Rattle.dates.specs.Entry.{spelling}
 use Rattle.local_times.specs.declared.local_clock.LocalTime.{LocalTime}
 use Rattle.sched.specs.declared.calendar.CalendarEntry.{CalendarEntry}
-use Rattle.settling.specs.Calendars.{Tells, texts_for, with_items}
-use Rattle.settling.specs.Settled.{Shown}
+use Rattle.desk_settling.specs.Calendars.{Tells, texts_for, with_items}
+use Rattle.desk_settling.specs.Settled.{Shown}
 use Rattle.store.specs.declared.change.Change.{Change}
 use Rattle.store.specs.declared.change.ImportedEntry.{ImportedEntry}
 use Rattle.store.specs.Change.{with_change, with_each, with_imported, with_last_tick, with_next, with_place, with_row, with_shown, without_rows}
-use Rattle.store.specs.Tables.{Tables, Text}
+use Rattle.store.specs.Tables.{Tables}
+use Rattle.points.specs.Texts.{Text}
 use Rattle.window.specs.declared.numbered_content.NumberedContent.{NumberedContent}
 use Rattle.window.specs.Applied.{applied}
 use Rattle.window.specs.Taken as asks
@@ -27,7 +28,7 @@ use Rattle.deliveries.specs.declared.reply.Reply.TheVariants as answer_of
 use Rattle.deliveries.specs.Accepted.{asked, panel_of, taken_by}
 use Rattle.deliveries.specs.Clocked.{Settles}
 use Rattle.deliveries.specs.Events.{acted_on, clock_event, events_after, has_calendar, is_later, is_moment, last_tick_of, later_of, machine, moment_of}
-use Rattle.deliveries.specs.Machine.{Machine, Tick, Import, added, local_of, opening_machine, run, settled, told_at, with_rows, writes_at, writes_of}
+use Rattle.deliveries.specs.Machine.{Machine, Tick, Import, added, local_of, opening_machine, run, settled, changes_shown_at, with_rows, writes_at, writes_of}
 use Rattle.deliveries.specs.Reply.{imported_reply, refused_record, reply}
 use Rattle.deliveries.specs.Tables.{tables}
 use Rattle.deliveries.proofs.EventLemmas.{machine-push, run-append, taken_by-push}
@@ -172,7 +173,7 @@ with_change-settles : (b : Building) (imported : Text → List Text) (shows : Sh
       places = with_each with_place (writes_at b imported shows local) t.places;
       next = t.next;
       row = t.row;
-      shown = with_each with_shown (told_at b imported shows local) t.shown;
+      shown = with_each with_shown (changes_shown_at b imported shows local) t.shown;
       imported = with_each with_imported items t.imported;
       last_tick = with_last_tick last t.last_tick;
     }
@@ -249,7 +250,7 @@ tables-imported b E rows change all settles =
       places = with_each with_place (writes_at b imported m.shown (local_of b m.last_tick)) m.places;
       next = (tables b E).next;
       row = (tables b E).row;
-      shown = with_each with_shown (told_at b imported m.shown (local_of b m.last_tick)) m.shown;
+      shown = with_each with_shown (changes_shown_at b imported m.shown (local_of b m.last_tick)) m.shown;
       imported = imported-tables b E items i;
       last_tick = m.last_tick;
     })

@@ -6,7 +6,6 @@ use Rattle.store.specs.Tables.{Tables}
 use Rattle.store.specs.declared.change.Change.{Change}
 use Rattle.store.specs.declared.change.ImportedEntry.{ImportedEntry}
 use Rattle.store.specs.declared.fault.StoreFault.{StoreFault}
-use Rattle.store.specs.declared.fault.StoreFault.TheVariants.{Failed}
 use Rattle.store.proofs.ReadLemmas.{kept-read}
 use Rattle.deliveries.specs.Delivered.{KeepsImported}
 

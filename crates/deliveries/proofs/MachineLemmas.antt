@@ -9,7 +9,7 @@ use Rattle.points.specs.declared.content.Content.{Content}
 use Rattle.points.specs.PriorityArray.{Places}
 use Rattle.points.specs.Run.{Rows}
 use Rattle.store.specs.Change.{with_each, with_row}
-use Rattle.store.specs.Tables.{Text}
+use Rattle.points.specs.Texts.{Text}
 use Rattle.window.specs.declared.numbered_content.NumberedContent.{NumberedContent}
 use Rattle.window.specs.Taken.{content_in}
 use Rattle.building.specs.Building.{Building}

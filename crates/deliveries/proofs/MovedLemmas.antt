@@ -13,7 +13,8 @@ use Rattle.points.specs.declared.content.Content.{Content}
 use Rattle.points.specs.PriorityArray.{Places}
 use Rattle.points.specs.Run.{Rows}
 use Rattle.store.specs.Change.{with_each, with_row, without_rows}
-use Rattle.store.specs.Tables.{Tables, Text}
+use Rattle.store.specs.Tables.{Tables}
+use Rattle.points.specs.Texts.{Text}
 use Rattle.window.specs.declared.numbered_content.NumberedContent.{NumberedContent}
 use Rattle.window.specs.declared.plan.Plan.{Plan}
 use Rattle.window.specs.declared.verdict.Verdict.{Verdict}
@@ -34,7 +35,7 @@ use Rattle.deliveries.specs.Accepted.{panel_of, taken_by}
 use Rattle.deliveries.specs.Events.{events_of, machine}
 use Rattle.deliveries.specs.Machine.{Machine, Command, run, step}
 use Rattle.deliveries.specs.Moved.{answered_rows, first_answer, moved, parked_rows, places_after_each}
-use Rattle.deliveries.specs.Reply.{number_asked, number_told, reply, reply_on}
+use Rattle.deliveries.specs.Reply.{number_asked, number_in_reply, reply, reply_on}
 use Rattle.deliveries.specs.Tables.{row_at, tables}
 use Rattle.deliveries.proofs.MachineLemmas.{Rise, answers-apart, bytes_eq-same, content_in-below, imported-run, last_tick-run, places-run, shown-run}
 use Rattle.deliveries.proofs.RowLemmas.{Rise-applied, rows-asked, rows-of_others}
@@ -128,7 +129,7 @@ module _ (b : Building) (E : List Delivery) (d : Delivery) (ask : asks.Ask) (ask
 
 -- the reply
 
--- only the verdict `Applies` is told with an answer
+-- only the verdict `Applies` is reported with an answer
 reply_on-other : (v : Verdict) (next later : ℕ) (z : ℤ) (answer given : Answer) → (v ≡ verdict.Applies → ⊥)
     → reply_on v next later z answer ≡ reply_on v next later z given
 reply_on-other verdict.Applies next later z answer given other = absurd (other refl)
@@ -192,13 +193,13 @@ is_applies verdict.TooFar = inr (λ e. cc)
 is_applies verdict.SkipDone = inr (λ e. cc)
 is_applies verdict.Forgotten = inr (λ e. cc)
 
--- the answer with which a verdict is told
-told-answer : (b : Building) (m : Machine) (p : Text) (t : asks.Taken) (ask : asks.Ask) (row : Option CommandRow) (next later : ℕ) (z : ℤ)
+-- the answer with which a verdict is reported
+reported-answer : (b : Building) (m : Machine) (p : Text) (t : asks.Taken) (ask : asks.Ask) (row : Option CommandRow) (next later : ℕ) (z : ℤ)
     → let entries = applied t (asks.take t ask) in
     reply_on (verdict_of t ask row) next later z ((run b m (events_of p entries)).answers p (number_asked ask))
     ≡ reply_on (verdict_of t ask row) next later z (first_answer b m.places p entries)
-told-answer b m p t (asks.Skip upto) row next later z = reply_on-other _ next later z _ _ (not_applies-skip t upto row)
-told-answer b m p t (asks.Command number content) row next later z =
+reported-answer b m p t (asks.Skip upto) row next later z = reply_on-other _ next later z _ _ (not_applies-skip t upto row)
+reported-answer b m p t (asks.Command number content) row next later z =
     elim (is_applies (verdict_of t (asks.Command number content) row)) [
       | inl applies ↦
           ap (reply_on (verdict_of t (asks.Command number content) row) next later z)
@@ -209,16 +210,16 @@ told-answer b m p t (asks.Command number content) row next later z =
 -- the reply to a delivery, from its plan
 pub reply-moved : (b : Building) (E : List Delivery) (d : Delivery) (ask : asks.Ask) (plan : Plan) → Asks b d ask
     → let t = taken_by b (panel_of d) E in Plans t ask (row_asked ((tables b E).row (panel_of d)) ask) plan
-    → reply b E d ≡ reply_on plan.verdict (asks.front t) plan.next (number_told d)
+    → reply b E d ≡ reply_on plan.verdict (asks.front t) plan.next (number_in_reply d)
     (first_answer b (tables b E).places (panel_of d) plan.apply)
 reply-moved b E d ask plan asking plans =
     let p = panel_of d in
     let t = taken_by b p E in
     let row = row_asked ((tables b E).row p) ask in
-    let z = number_told d in
+    let z = number_in_reply d in
     reply-asked b E d ask asking
     ∙ (λ i. reply_on (verdict_of t ask row) (asks.front t) (asks.front (taken-here b E d ask asking i)) z
     ((machine-asked b E d ask asking i).answers p (number_asked ask)))
-    ∙ told-answer b (machine b E) p t ask row (asks.front t) (asks.front (asks.take t ask)) z
+    ∙ reported-answer b (machine b E) p t ask row (asks.front t) (asks.front (asks.take t ask)) z
     ∙ (λ i. reply_on (sym plans.verdict i) (asks.front t) (sym plans.next i) z
     (first_answer b (sym (places-tables b E d ask asking) i) p (sym plans.apply i)))

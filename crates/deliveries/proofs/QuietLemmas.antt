@@ -5,18 +5,18 @@ use Rattle.std.proofs.lemmas.Bool.{cases_Bool}
 use Rattle.building.specs.Building.{Building}
 use Rattle.local_times.specs.declared.local_clock.LocalTime.{LocalTime}
 use Rattle.sched.specs.declared.calendar.CalendarEntry.{CalendarEntry}
-use Rattle.settling.specs.Calendars.{with_items}
-use Rattle.settling.specs.Settled.{Shown}
+use Rattle.desk_settling.specs.Calendars.{with_items}
+use Rattle.desk_settling.specs.Settled.{Shown}
 use Rattle.store.specs.Change.{with_each, with_place, with_shown}
-use Rattle.store.specs.Tables.{Text}
+use Rattle.points.specs.Texts.{Text}
 use Rattle.deliveries.specs.declared.delivery.Delivery.{Delivery}
 use Rattle.deliveries.specs.declared.delivery.Delivery.TheVariants as delivery_of
 use Rattle.deliveries.specs.Accepted.{taken_by}
 use Rattle.deliveries.specs.Events.{events_after, has_calendar, machine}
 use Rattle.deliveries.specs.Laws.{HasDistinctSchedules, WritesNothingMore}
-use Rattle.deliveries.specs.Machine.{Command, Event, Import, Machine, Tick, added, local_of, now_of, opening_machine, run, settled, step, told_at, with_rows, writes_at}
+use Rattle.deliveries.specs.Machine.{Command, Event, Import, Machine, Tick, added, local_of, now_of, opening_machine, run, settled, step, changes_shown_at, with_rows, writes_at}
 use Rattle.deliveries.specs.Tables.{tables}
-use Rattle.deliveries.proofs.AgainLemmas.{told-again, written-again}
+use Rattle.deliveries.proofs.AgainLemmas.{changes_shown-again, written-again}
 use Rattle.deliveries.proofs.ClockLemmas.{import-happens, tables-clock, tables-refused, with_items-none}
 use Rattle.deliveries.proofs.StepLemmas.{tables-at, tables-is}
 
@@ -25,12 +25,12 @@ pub settled-again : (b : Building) (imported : Text → List Text) (shown : Show
 settled-again b imported shown None distinct = record { writes = refl; tells = refl }
 settled-again b imported shown (Some local) distinct = record {
   writes = written-again (now_of b imported local) shown b.schedules distinct;
-  tells = told-again (now_of b imported local) shown b.schedules distinct;
+  tells = changes_shown-again (now_of b imported local) shown b.schedules distinct;
 }
 
 -- settled at the last tick
 abbrev pub Quiet : Building → Machine → Type 0
-Quiet b m = (writes_at b m.imported m.shown (local_of b m.last_tick) ≡ []) × (told_at b m.imported m.shown (local_of b m.last_tick) ≡ [])
+Quiet b m = (writes_at b m.imported m.shown (local_of b m.last_tick) ≡ []) × (changes_shown_at b m.imported m.shown (local_of b m.last_tick) ≡ [])
 
 pub Quiet-step : (b : Building) (m : Machine) (event : Event) → HasDistinctSchedules b → Quiet b m → Quiet b (step b m event)
 unfolding settled

@@ -1,5 +1,5 @@
 -- Rows of which none is refused have their calendars.
-use Rattle.std.proofs.Common.{◌≡◌, ℕ, Bool, true, false, not, List, [], ◌∷◌, ◌&&◌, ◌||◌, is_some, length, nat_lt, rules, refl, ap, ◌∙◌}
+use Rattle.std.proofs.Common.{◌≡◌, Bool, true, false, not, List, [], ◌∷◌, ◌&&◌, ◌||◌, is_some, length, nat_lt, rules, refl, ap, ◌∙◌}
 use Rattle.std.specs.List.{list_all, position_or_len}
 use Rattle.building.specs.Building.{Building}
 use Rattle.sched.specs.declared.calendar.CalendarEntry.{CalendarEntry}

@@ -9,7 +9,7 @@ use Rattle.points.specs.declared.command_row.CommandState.TheVariants.{Parked, A
 use Rattle.points.specs.declared.content.Content.{Content}
 use Rattle.points.specs.Run.{Rows}
 use Rattle.store.specs.Change.{with_each, with_row, without_rows}
-use Rattle.store.specs.Tables.{Text}
+use Rattle.points.specs.Texts.{Text}
 use Rattle.window.specs.declared.numbered_content.NumberedContent.{NumberedContent}
 use Rattle.window.specs.Applied.{applied, and_at, contents_from}
 use Rattle.window.specs.Plan.{parked_by}
@@ -73,8 +73,8 @@ parked-elsewhere p q (Some entry) row number apart = rw apart refl
 row_of-same : (f g number : ℕ) (answer given : Answer) (held content : Option Content) → held ≡ content → answer ≡ given
     → ((c : Content) → content ≡ Some c → nat_lt f number ≡ nat_lt g number)
     → option_map (row_of f number answer) held ≡ option_map (row_of g number given) content
-row_of-same f g number answer given held content same told tests =
-    ap (option_map (row_of f number answer)) same ∙ (of content tests ∙ ap (λ a. option_map (row_of g number a) content) told)
+row_of-same f g number answer given held content same reported tests =
+    ap (option_map (row_of f number answer)) same ∙ (of content tests ∙ ap (λ a. option_map (row_of g number a) content) reported)
   where
     of : (content : Option Content) → ((c : Content) → content ≡ Some c → nat_lt f number ≡ nat_lt g number)
         → option_map (row_of f number answer) content ≡ option_map (row_of g number answer) content
@@ -110,9 +110,9 @@ module _ (b : Building) (m : Machine) (p : Text) (t : Taken) (ask : Ask) (row : 
   unchanged : content_at new number ≡ content_at t number → put p number ≡ row p number → answer ≡ m.answers p number
       → ((c : Content) → content_at new number ≡ Some c → nat_lt (front t) number ≡ nat_lt (front new) number)
       → put p number ≡ option_map (row_of (front new) number answer) (content_at new number)
-  unchanged same stays told tests =
+  unchanged same stays reported tests =
       stays ∙ (held ∙ row_of-same (front t) (front new) number (m.answers p number) answer (kept_at t number) (content_at new number)
-      (kept-here t number (kept-since t ask number kept) ∙ sym same) (sym told) tests)
+      (kept-here t number (kept-since t ask number kept) ∙ sym same) (sym reported) tests)
 
   no_park-below : number < front new → front t ≤ number → (entry : NumberedContent) → parked_by t ask ≡ Some entry → entry.number ≢ number
   no_park-below below least entry parked =

@@ -2,11 +2,11 @@
 use Rattle.std.specs.Prelude.{◌≡◌, ℤ, List, [], Option}
 use Rattle.building.specs.Building.{Building}
 use Rattle.local_times.specs.declared.local_clock.LocalTime.{LocalTime}
-use Rattle.settling.specs.Settled.{Shown}
+use Rattle.desk_settling.specs.Settled.{Shown}
 use Rattle.store.specs.declared.change.Change.{Change}
 use Rattle.store.specs.declared.change.ImportedEntry.{ImportedEntry}
-use Rattle.store.specs.Tables.{Text}
-use Rattle.deliveries.specs.Machine.{told_at, writes_at}
+use Rattle.points.specs.Texts.{Text}
+use Rattle.deliveries.specs.Machine.{changes_shown_at, writes_at}
 
 -- the places and what is shown, as the schedules settle over what is imported and what they show; with these
 -- items and this last tick
@@ -16,6 +16,6 @@ pub record Settles (building : Building) (texts : Text → List Text) (shows : S
   pub rows : change.rows.items ≡ []
   pub dropped : change.dropped.items ≡ []
   pub places : change.places.items ≡ writes_at building texts shows local
-  pub shown : change.shown.items ≡ told_at building texts shows local
+  pub shown : change.shown.items ≡ changes_shown_at building texts shows local
   pub imported : change.imported.items ≡ items
   pub last_tick : change.last_tick ≡ last

@@ -22,8 +22,8 @@ LeavesEither building before after standing = (content : Content) → standing.m
 -- After a want of memory it holds what it held. After a failure it is shut, and opened again it holds the one
 -- or the other. A store that was shut before holds what it held; a row that cannot stand is never met.
 abbrev pub Delivers : Building → List Delivery → Delivery → Result Reply StoreFault → Standing → Type 0
-Delivers building earlier delivery (Ok told) now =
-    (told ≡ reply building earlier delivery) × Holds building (earlier ++ delivery ∷ []) now
+Delivers building earlier delivery (Ok reported) now =
+    (reported ≡ reply building earlier delivery) × Holds building (earlier ++ delivery ∷ []) now
 Delivers building earlier delivery (Err NoMemory) now = Holds building earlier now
 Delivers building earlier delivery (Err Failed) now = LeavesEither building earlier (earlier ++ delivery ∷ []) now
 Delivers building earlier delivery (Err Shut) now = Holds building earlier now

@@ -2,7 +2,7 @@ use Rattle.std.specs.Prelude.{ℤ, Bool, true, ◌&&◌, nat_lt, if◌then◌els
 use Rattle.std.specs.List.{list_all}
 use Rattle.local_times.specs.LocalTimes.{local_at}
 use Rattle.sched.specs.declared.calendar.CalendarEntry.{CalendarEntry}
-use Rattle.store.specs.Tables.{Text}
+use Rattle.points.specs.Texts.{Text}
 use Rattle.window.specs.declared.numbered_content.NumberedContent.{NumberedContent}
 use Rattle.window.specs.Applied.{applied}
 use Rattle.building.specs.Building.{Building}
@@ -51,7 +51,7 @@ is_later (Some last) moment = int_lt last moment
 
 -- each row names a calendar of the building
 abbrev pub has_calendar : Building → CalendarEntry → Bool
-has_calendar building row = nat_lt row.calendar.place (length building.calendars)
+has_calendar building row = nat_lt row.calendar.index (length building.calendars)
 
 -- a tick in range that is later than each before it, and an import of which each row has its calendar
 abbrev pub clock_event : Building → List Delivery → Delivery → List Event

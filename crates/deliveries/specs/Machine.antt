@@ -17,13 +17,13 @@ use Rattle.local_times.specs.declared.local_clock.LocalTime.{LocalTime}
 use Rattle.local_times.specs.LocalTimes.{local_at}
 use Rattle.sched.specs.declared.calendar.CalendarEntry.{CalendarEntry}
 use Rattle.building.specs.declared.named_calendar.NamedCalendar.{NamedCalendar}
-use Rattle.settling.specs.Calendars.{calendars_of, with_items}
-use Rattle.settling.specs.Settled.{Now, Shown, told, written}
+use Rattle.desk_settling.specs.Calendars.{calendars_of, with_items}
+use Rattle.desk_settling.specs.Settled.{Now, Shown, changes_shown, written}
 use Rattle.store.specs.declared.change.ImportedEntry.{ImportedEntry}
 use Rattle.store.specs.declared.change.PlaceValue.{PlaceValue}
 use Rattle.store.specs.declared.change.ShownValue.{ShownValue}
 use Rattle.store.specs.Change.{with_each, with_place, with_shown}
-use Rattle.store.specs.Tables.{Text}
+use Rattle.points.specs.Texts.{Text}
 use Rattle.deliveries.specs.Accepted.{panel_named}
 
 -- a command, a tick or an import that is acted on
@@ -107,16 +107,16 @@ abbrev pub writes_at : Building → (Text → List Text) → Shown → Option Lo
 writes_at building imported shown None = []
 writes_at building imported shown (Some local) = written (now_of building imported local) shown building.schedules
 
-abbrev pub told_at : Building → (Text → List Text) → Shown → Option LocalTime → List ShownValue
-told_at building imported shown None = []
-told_at building imported shown (Some local) = told (now_of building imported local) shown building.schedules
+abbrev pub changes_shown_at : Building → (Text → List Text) → Shown → Option LocalTime → List ShownValue
+changes_shown_at building imported shown None = []
+changes_shown_at building imported shown (Some local) = changes_shown (now_of building imported local) shown building.schedules
 
 -- the machine after the schedules have settled
 unfoldable pub settled : Building → Machine → Option LocalTime → Machine
 settled building machine local = record {
   places = with_each with_place (writes_at building machine.imported machine.shown local) machine.places;
   answers = machine.answers;
-  shown = with_each with_shown (told_at building machine.imported machine.shown local) machine.shown;
+  shown = with_each with_shown (changes_shown_at building machine.imported machine.shown local) machine.shown;
   imported = machine.imported;
   last_tick = machine.last_tick;
 }
@@ -144,7 +144,7 @@ added_to imported entry (Some calendar) =
     if is_known imported calendar entry then [] else record { calendar = calendar.name; entry = entry } ∷ []
 
 abbrev pub added_by : Building → (Text → List Text) → CalendarEntry → List ImportedEntry
-added_by building imported row = added_to imported row.entry (slice_get building.calendars row.calendar.place)
+added_by building imported row = added_to imported row.entry (slice_get building.calendars row.calendar.index)
 
 -- the items that rows add, each beside those before it
 abbrev pub added : Building → (Text → List Text) → List CalendarEntry → List ImportedEntry

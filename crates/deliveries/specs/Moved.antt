@@ -7,7 +7,8 @@ use Rattle.points.specs.declared.command_row.CommandState.TheVariants.{Parked, A
 use Rattle.points.specs.PriorityArray.{Places}
 use Rattle.store.specs.declared.change.KeptRow.{KeptRow}
 use Rattle.store.specs.Change.{with_each, with_next, with_row, without_rows}
-use Rattle.store.specs.Tables.{Tables, Text}
+use Rattle.store.specs.Tables.{Tables}
+use Rattle.points.specs.Texts.{Text}
 use Rattle.window.specs.declared.numbered_content.NumberedContent.{NumberedContent}
 use Rattle.window.specs.declared.plan.Plan.{Plan}
 use Rattle.window.specs.Window.{remembered}

@@ -19,14 +19,14 @@ use Rattle.deliveries.specs.Machine.{Machine, added, with_rows, writes_of}
 use Rattle.sched.specs.declared.calendar.CalendarEntry.{CalendarEntry}
 use Rattle.deliveries.specs.Tables.{tables}
 
--- the number that a delivery is told with
-abbrev pub number_told : Delivery → ℤ
-number_told (Command panel number content) = number
-number_told (Skip panel upto) = upto
-number_told (Tick at) = at
-number_told (Import rows) = pos 0
+-- the number that a delivery is answered with
+abbrev pub number_in_reply : Delivery → ℤ
+number_in_reply (Command panel number content) = number
+number_in_reply (Skip panel upto) = upto
+number_in_reply (Tick at) = at
+number_in_reply (Import rows) = pos 0
 
--- What is told on a verdict: with the next number before the delivery, the one after it, and the answer of
+-- The reply on a verdict: with the next number before the delivery, the one after it, and the answer of
 -- the command that it acts on.
 abbrev pub reply_on : Verdict → ℕ → ℕ → ℤ → Answer → Reply
 reply_on verdict.Applies next after number answer = answer_of.Answered number answer
@@ -50,7 +50,7 @@ reply_to building earlier delivery ask =
     let before = taken_by building panel earlier in
     let now = earlier ++ delivery ∷ [] in
     reply_on (verdict_of before ask (row_asked ((tables building earlier).row panel) ask))
-    (asks.front before) (asks.front (taken_by building panel now)) (number_told delivery)
+    (asks.front before) (asks.front (taken_by building panel now)) (number_in_reply delivery)
     ((machine building now).answers panel (number_asked ask))
 
 abbrev pub reply_in_range : Building → List Delivery → Delivery → Option asks.Ask → Reply

@@ -1,6 +1,5 @@
 //! What reaches the desk.
-use listing::Listing;
-use points::{Content, Name};
+use points::{Content, Listing, Name};
 use sched::CalendarEntry;
 
 /// One delivery, as it came: it may be a repeat, and come late or out of order.
@@ -17,8 +16,8 @@ pub enum Delivery {
         panel: Name,
         upto: i64,
     },
-    /// The schedules are to write what they say at a moment, in hundredths of a second since
-    /// 1970-01-01T00:00:00Z.
+    /// The desk settles at this moment, in hundredths of a second since 1970-01-01T00:00:00Z: the schedules that
+    /// are due write.
     Tick {
         at: i64,
     },

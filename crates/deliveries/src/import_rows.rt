@@ -9,7 +9,7 @@ use sched::CalendarEntry;
 fn has_calendar(building: &Building, row: &CalendarEntry) -> bool
     ensures { result ≡ has_calendar building.now row.now }
 {
-    row.calendar.place < building.calendars().len()
+    row.calendar.index < building.calendars().len()
 }
 
 /// The record of the first row that names no calendar of the building, if there is one: the header is record 1.

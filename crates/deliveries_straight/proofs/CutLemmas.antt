@@ -3,9 +3,9 @@ use Rattle.std.proofs.Common.{◌≡◌, true, List, [], ◌∷◌, ◌++◌, re
 use Rattle.std.specs.List.{list_all}
 use Rattle.building.specs.Building.{Building}
 use Rattle.sched.specs.declared.calendar.CalendarEntry.{CalendarEntry}
-use Rattle.settling.specs.Calendars.{with_items}
+use Rattle.desk_settling.specs.Calendars.{with_items}
 use Rattle.store.specs.declared.change.ImportedEntry.{ImportedEntry}
-use Rattle.store.specs.Tables.{Text}
+use Rattle.points.specs.Texts.{Text}
 use Rattle.window.specs.declared.numbered_content.NumberedContent.{NumberedContent}
 use Rattle.deliveries.specs.Events.{events_of, has_calendar}
 use Rattle.deliveries.specs.Laws.{HasDistinctSchedules}

@@ -11,8 +11,8 @@ use Rattle.points.specs.declared.command_row.CommandRow.{CommandRow}
 use Rattle.points.specs.declared.content.Content.{Content}
 use Rattle.points.specs.declared.panel.Panel.{Panel}
 use Rattle.sched.specs.declared.calendar.CalendarEntry.{CalendarEntry}
-use Rattle.settling.specs.Calendars.{with_items}
-use Rattle.store.specs.Tables.{Text}
+use Rattle.desk_settling.specs.Calendars.{with_items}
+use Rattle.points.specs.Texts.{Text}
 use Rattle.building.specs.declared.named_calendar.NamedCalendar.{NamedCalendar}
 use Rattle.std.specs.Prelude.{slice_get}
 use Rattle.window.specs.declared.verdict.Verdict.TheVariants as verdict
@@ -151,7 +151,7 @@ none_some (Some n) e = absurd (false≢true (sym e))
 -- a row adds one item at most
 one-added : (b : Building) (imported : Text → List Text) (row : CalendarEntry)
     → length (row_that_adds row (added_by b imported row)) ≡ length (added_by b imported row)
-one-added b imported row = by (slice_get b.calendars row.calendar.place)
+one-added b imported row = by (slice_get b.calendars row.calendar.index)
   where
     by : (found : Option NamedCalendar) → length (row_that_adds row (added_to imported row.entry found))
         ≡ length (added_to imported row.entry found)

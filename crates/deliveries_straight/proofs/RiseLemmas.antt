@@ -13,8 +13,8 @@ use Rattle.building.specs.Building.{Building}
 use Rattle.building.specs.Roster.{are_distinct}
 use Rattle.points.specs.declared.content.Content.{Content}
 use Rattle.points.specs.declared.panel.Panel.{Panel}
-use Rattle.points.specs.Names.{is_among}
-use Rattle.store.specs.Tables.{Text}
+use Rattle.points.specs.NameIndex.{is_among}
+use Rattle.points.specs.Texts.{Text}
 use Rattle.window.specs.Applied.{contents_from}
 use Rattle.window.specs.Taken as asks
 use Rattle.window.specs.Window.{window}

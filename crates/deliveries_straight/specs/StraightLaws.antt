@@ -3,7 +3,7 @@ use Rattle.std.specs.Prelude.{◌≡◌, ℤ, pos, int_lt, if◌then◌else◌, 
 use Rattle.std.specs.Bool.{IsTrue}
 use Rattle.std.specs.List.{flat_map}
 use Rattle.std.specs.Str.{bytes_eq}
-use Rattle.store.specs.Tables.{Text}
+use Rattle.points.specs.Texts.{Text}
 use Rattle.building.specs.Building.{Building}
 use Rattle.building.specs.Roster.{are_distinct}
 use Rattle.points.specs.declared.panel.Panel.{Panel}

@@ -8,7 +8,7 @@ use Rattle.deliveries.specs.Accepted.{panel_of, taken_by}
 use Rattle.deliveries.specs.Events.{clock_event, machine}
 use Rattle.deliveries.specs.Machine.{Command, Event, Import, Tick}
 use Rattle.points.specs.declared.panel.Panel.{Panel}
-use Rattle.store.specs.Tables.{Text}
+use Rattle.points.specs.Texts.{Text}
 use Rattle.window.specs.Taken as asks
 use Rattle.deliveries_straight.specs.Cut.{cut_event}
 use Rattle.window_straight.specs.Parked.{parked_asks}

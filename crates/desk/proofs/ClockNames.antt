@@ -12,15 +12,15 @@ use Rattle.sched.specs.declared.calendar.CalendarEntry.{CalendarEntry}
 use Rattle.building.specs.declared.named_calendar.NamedCalendar.{NamedCalendar}
 use Rattle.building.specs.declared.named_schedule.NamedSchedule.{NamedSchedule}
 use Rattle.building.specs.ScheduleTable.{is_sound_schedule}
-use Rattle.settling.specs.Calendars.{texts_for, with_items}
-use Rattle.settling.specs.Settled.{Now, Shown, cleared_by, falls_quiet, is_due, put_by, releases, told, value_of, written}
+use Rattle.desk_settling.specs.Calendars.{texts_for, with_items}
+use Rattle.desk_settling.specs.Settled.{Now, Shown, cleared_by, falls_quiet, is_due, put_by, releases, changes_shown, value_of, written}
 use Rattle.store.specs.declared.change.PlaceValue.{PlaceValue}
 use Rattle.store.specs.Change.{with_each, with_place, with_shown}
-use Rattle.store.specs.Tables.{Text}
+use Rattle.points.specs.Texts.{Text}
 use Rattle.building.specs.Building.{Building}
 use Rattle.dates.specs.declared.entry.Entry.{Entry}
 use Rattle.local_times.specs.declared.local_clock.LocalTime.{LocalTime}
-use Rattle.clock.proofs.AddedLemmas.{texts_for-append}
+use Rattle.desk_clock.proofs.AddedLemmas.{texts_for-append}
 use Rattle.deliveries.specs.Machine.{Machine, added, added_by, added_to, is_known, now_of, settled, writes_at}
 use Rattle.deliveries.proofs.AgainLemmas.{both-parts, or-parts, shown-outside}
 use Rattle.desk.specs.Opening.{has_calendar, has_point, has_schedule}
@@ -109,17 +109,17 @@ module _ (b : Building) (q : Text) (missing : has_point b q ≡ false) where
 
 -- ---- schedules
 
-told-outside : (b : Building) (q : Text) → has_schedule b q ≡ false → (now : Now) (shown : Shown)
-    → with_each with_shown (told now shown b.schedules) shown q ≡ shown q
-unfolding told
-told-outside b q missing now shown =
+changes_shown-outside : (b : Building) (q : Text) → has_schedule b q ≡ false → (now : Now) (shown : Shown)
+    → with_each with_shown (changes_shown now shown b.schedules) shown q ≡ shown q
+unfolding changes_shown
+changes_shown-outside b q missing now shown =
     shown-outside now shown shown b.schedules q (among-map (λ (schedule : NamedSchedule). schedule.name) q b.schedules ∙ missing)
 
 pub settled-no_schedule : (b : Building) (q : Text) → has_schedule b q ≡ false → (m : Machine) (local : Option LocalTime)
     → m.shown q ≡ None → (settled b m local).shown q ≡ None
 unfolding settled
 settled-no_schedule b q missing m None none = none
-settled-no_schedule b q missing m (Some local) none = told-outside b q missing (now_of b m.imported local) m.shown ∙ none
+settled-no_schedule b q missing m (Some local) none = changes_shown-outside b q missing (now_of b m.imported local) m.shown ∙ none
 
 -- ---- calendars
 
@@ -142,13 +142,13 @@ module _ (b : Building) (q : Text) (missing : has_calendar b q ≡ false) where
       by false e = rw (e, apart) refl
 
   added_by-outside : (imported : Text → List Text) (row : CalendarEntry) → texts_for q (added_by b imported row) ≡ []
-  added_by-outside imported row = by (slice_get b.calendars row.calendar.place) refl
+  added_by-outside imported row = by (slice_get b.calendars row.calendar.index) refl
     where
-      by : (found : Option NamedCalendar) → slice_get b.calendars row.calendar.place ≡ found → texts_for q (added_by b imported row) ≡ []
+      by : (found : Option NamedCalendar) → slice_get b.calendars row.calendar.index ≡ found → texts_for q (added_by b imported row) ≡ []
       by None e = rw e refl
       by (Some calendar) e =
           ap (λ calendar. texts_for q (added_to imported row.entry calendar)) e ∙ added_to-outside imported row.entry calendar
-          (got-apart (λ (c : NamedCalendar). bytes_eq c.name q) b.calendars row.calendar.place calendar missing e)
+          (got-apart (λ (c : NamedCalendar). bytes_eq c.name q) b.calendars row.calendar.index calendar missing e)
 
   added-outside : (imported : Text → List Text) (rows : List CalendarEntry) → texts_for q (added b imported rows) ≡ []
   added-outside imported [] = refl

@@ -20,7 +20,7 @@ use Rattle.store.specs.declared.fault.StoreFault.{StoreFault}
 use Rattle.store.specs.declared.fault.StoreFault.TheVariants.{BadRow}
 use Rattle.store.specs.Listed.{HasPanel, HasPoint}
 use Rattle.store.specs.Standing.{Content as a_holding, Standing}
-use Rattle.store.specs.Tables.{Text}
+use Rattle.points.specs.Texts.{Text}
 use Rattle.window.specs.Taken as asks
 use Rattle.window.specs.Window.{remembered}
 use Rattle.building.specs.Building.{Building}
@@ -37,7 +37,7 @@ use Rattle.deliveries.specs.Delivered.{Holds}
 use Rattle.local_times.specs.declared.local_clock.LocalTime.{LocalTime}
 use Rattle.building.specs.ScheduleTable.{is_sound_schedule}
 use Rattle.desk.specs.Opening.{AreKnown, Opens, Suits, has_calendar, has_panel, has_point, has_schedule, is_ticked}
-use Rattle.panel_commands.proofs.DeliverLemmas.{none_of}
+use Rattle.desk_commands.proofs.DeliverLemmas.{none_of}
 use Rattle.desk.proofs.ClockNames.{imported-no_calendar, settled-no_point, settled-no_schedule}
 use Rattle.desk.proofs.OpeningLemmas.{is_some-find}
 

@@ -1,14 +1,14 @@
 -- Opening a desk over a store.
-use Rattle.std.proofs.Common.{◌≡◌, ℕ, suc, ◌+◌, ◌<◌, take, get_or, Bool, true, false, ◌&&◌, List, [], ◌∷◌, length, Option, Some, None, is_some, Result, Ok, Err, OnOk, nat_lt, cond, Bor}
+use Rattle.std.proofs.Common.{◌≡◌, ℕ, suc, ◌+◌, ◌<◌, Bool, true, false, ◌&&◌, List, [], ◌∷◌, length, Option, Some, None, is_some, Result, Ok, Err, OnOk, nat_lt, cond, Bor}
 use Rattle.std.specs.Result.{result_err}
-use Rattle.std.proofs.Common.{ℤ, arith, find, position, option_copied, refl, sym, ap, ◌∙◌, subst, zero, inl, inr}
+use Rattle.std.proofs.Common.{ℤ, arith, find, position, option_copied, refl, sym, ap, ◌∙◌, subst, inl, inr}
 use Rattle.std.specs.Bool.{IsTrue}
 use Rattle.std.specs.List.{Contains, list_all, list_any, position_or_len}
-use Rattle.std.proofs.lemmas.Bool.{cases_Bool, false≢true, or_from, or_parts}
+use Rattle.std.proofs.lemmas.Bool.{cases_Bool, false≢true}
 use Rattle.std.proofs.lemmas.Bool.Decides.{nat_tests}
-use Rattle.std.proofs.lemmas.List.Folds.{list_any_more}
 use Rattle.std.proofs.lemmas.List.Elements.{All-contains, All-contains_itself, All-weaker}
 use Rattle.std.proofs.lemmas.List.Sums.{AllPass-from_list_all, list_all-from_AllPass}
+use Rattle.store.proofs.StoodLemmas.{none_any, not_true}
 use Rattle.store.specs.declared.fault.StoreFault.{StoreFault}
 use Rattle.store.specs.declared.fault.StoreFault.TheVariants.{Failed, Shut, BadRow}
 use Rattle.store.specs.declared.names.Names.{Names}
@@ -16,13 +16,14 @@ use Rattle.store.specs.Listed.{AreNames, AreTexts, HasCalendar, HasPanel, HasPoi
 use Rattle.store.specs.Asked.{Asked, Judges}
 use Rattle.store.specs.Asked.Asked.{AnyName, EntriesOf, LastTick, NextOf}
 use Rattle.store.specs.Standing.{Content, Reads, Standing, sound}
-use Rattle.store.specs.Tables.{Tables, Text, no_tables}
-use Rattle.store.proofs.ReadLemmas.{Goes-told, Reads-then}
+use Rattle.store.specs.Tables.{Tables, no_tables}
+use Rattle.points.specs.Texts.{Text}
+use Rattle.store.proofs.ReadLemmas.{Goes-reported, Reads-then}
 use Rattle.building.specs.Building.{Building}
 use Rattle.building.specs.declared.named_calendar.NamedCalendar.{NamedCalendar}
 use Rattle.deliveries.specs.Delivered.{Holds}
 use Rattle.deliveries.proofs.EmptyLemmas.{tables-none}
-use Rattle.desk.specs.Opening.{AreKnown, CanRest, HaveStood, Opens, Suits, are_known, has_calendar, has_panel, has_point, has_schedule, is_ticked}
+use Rattle.desk.specs.Opening.{AreKnown, HaveStood, Opens, Suits, are_known, has_calendar, has_panel, has_point, has_schedule, is_ticked}
 
 pub is_some-find : {A : Type 0} (test : A → Bool) (xs : List A) → is_some (find test xs) ≡ list_any test xs
 is_some-find test [] = refl
@@ -112,7 +113,7 @@ Opens-failed b fault old new reads = record {
   left = reads.left;
   known = λ honest none. absurd (some_none fault none);
   rests = λ honest none. absurd (some_none fault none);
-  bad_row = λ honest told. inr (reads.bad_row honest told);
+  bad_row = λ honest reported. inr (reads.bad_row honest reported);
 }
 
 not_shut : Some BadRow ≡ Some Shut → ⊥
@@ -125,12 +126,12 @@ not_failed e = cc
 Opens-unsuited : (b : Building) (old new : Standing) → Reads None old new → (new.is_honest → Suits b old.content.tables → ⊥)
     → Opens b (Some BadRow) old new
 Opens-unsuited b old new reads unsuited = record {
-  goes = Goes-told BadRow old new reads.goes not_shut not_failed;
-  kept = λ honest told. reads.kept honest (λ e. cc);
+  goes = Goes-reported BadRow old new reads.goes not_shut not_failed;
+  kept = λ honest reported. reads.kept honest (λ e. cc);
   left = reads.left;
   known = λ honest none. absurd (some_none BadRow none);
   rests = λ honest none. absurd (some_none BadRow none);
-  bad_row = λ honest told. inl (unsuited honest);
+  bad_row = λ honest reported. inl (unsuited honest);
 }
 
 -- a name that the building lacks
@@ -140,12 +141,6 @@ pub Opens-unknown : (b : Building) (old new : Standing) (names : Names) → Read
 Opens-unknown b old new names reads are unknown =
     Opens-unsuited b old new reads (λ honest suits. false≢true
     (sym unknown ∙ names-known b old.content.tables names (are honest) suits.names))
-
--- one row more that can stand
-pub more_stood : {A : Type 0} (test : A → Bool) (xs : List A) (i : ℕ) (x : A) → i < length xs → x ≡ get_or xs i x
-    → list_any test (take i xs) ≡ false → test x ≡ false → list_any test (take (i + 1) xs) ≡ false
-more_stood test xs i x below is before here =
-    list_any_more test xs i x below ∙ or_from (list_any test (take i xs)) (test (get_or xs i x)) before (ap test (sym is) ∙ here)
 
 pub on_ok : {A E P : Type 0} (r : Result A E) → OnOk r P → result_err r ≡ None → P
 on_ok (Ok value) holds none = holds
@@ -159,16 +154,6 @@ pub nexts-stood : {A E : Type 0} (r : Result A E) (calendars : List NamedCalenda
 nexts-stood (Ok value) calendars panels first second same entries nexts =
     record { entries = entries; nexts = subst (λ f. list_any (λ panel. f (NextOf panel)) panels ≡ false) same nexts }
 nexts-stood (Err e) calendars panels first second same entries nexts = tt
-
-pub not_true : (b : Bool) → (IsTrue b → ⊥) → b ≡ false
-not_true false none = refl
-not_true true none = absurd (none refl)
-
-none_any : {A : Type 0} (test : A → Bool) (xs : List A) → list_any test xs ≡ false → (x : A) → Contains xs x → test x ≡ false
-none_any test [] none x here = absurd (let below = here.1 in omega (arith, below))
-none_any test (y ∷ ys) none x (zero, below, is) = ap test (sym is) ∙ (or_parts (test y) (list_any test ys) none).0
-none_any test (y ∷ ys) none x (suc k, below, is) =
-    none_any test ys (or_parts (test y) (list_any test ys) none).1 x (k, omega (arith, below), is)
 
 -- The names are the building's, and the last tick was read.
 module _ (b : Building) (first second third : Standing) (last : Option ℤ) (before : Reads None first second)
@@ -217,7 +202,7 @@ module _ (b : Building) (first second third : Standing) (last : Option ℤ) (bef
                   (subst (λ f. list_any (λ name. f (NextOf name)) names.panels.items ≡ false) same_third rows.nexts)
                   panel (((are honest_second).panels.each panel).1 has);
             };
-        bad_row = λ honest told. inr (whole.bad_row honest told);
+        bad_row = λ honest reported. inr (whole.bad_row honest reported);
       }
 
 -- the last tick is not read

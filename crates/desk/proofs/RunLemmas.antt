@@ -6,8 +6,7 @@ use Rattle.std.proofs.lemmas.List.{append-nil}
 use Rattle.store.specs.declared.fault.StoreFault.{StoreFault}
 use Rattle.store.specs.declared.fault.StoreFault.TheVariants.{NoMemory, Failed, Shut, BadRow}
 use Rattle.store.specs.declared.change.Change.{Change}
-use Rattle.store.specs.Standing.{ChangesOnce, Content, Goes, HasRisen, IsSettled, Makes, Standing, sound}
-use Rattle.store.proofs.ReadLemmas.{was_open}
+use Rattle.store.specs.Standing.{ChangesOnce, Content, Goes, HasRisen, Makes, Standing, sound}
 use Rattle.building.specs.Building.{Building}
 use Rattle.deliveries.specs.declared.delivery.Delivery.{Delivery}
 use Rattle.deliveries.specs.declared.reply.Reply.{Reply}
@@ -24,10 +23,10 @@ replies-push b E (x ∷ ds) d =
     ∙ ap (λ earlier. replies b (E ++ x ∷ []) ds ++ reply b earlier d ∷ []) (append_assoc E (x ∷ []) ds))
 
 -- one delivery more of a run
-pub run-more : (b : Building) (E ds more : List Delivery) (d : Delivery) (told : List Reply) (now : Standing) (one : Reply)
-    → more ≡ ds ++ d ∷ [] → told ≡ replies b E ds → Delivers b (E ++ ds) d (Ok one) now
-    → (told ++ one ∷ [] ≡ replies b E more) × Holds b (E ++ more) now
-run-more b E ds more d told now one is said delivered = (
+pub run-more : (b : Building) (E ds more : List Delivery) (d : Delivery) (reported : List Reply) (now : Standing) (one : Reply)
+    → more ≡ ds ++ d ∷ [] → reported ≡ replies b E ds → Delivers b (E ++ ds) d (Ok one) now
+    → (reported ++ one ∷ [] ≡ replies b E more) × Holds b (E ++ more) now
+run-more b E ds more d reported now one is said delivered = (
   (λ i. said i ++ delivered.0 i ∷ []) ∙ sym (replies-push b E ds d) ∙ ap (replies b E) (sym is),
   delivered.1 ∙ ap (λ list. sound (tables b list)) (append_assoc E ds (d ∷ []) ∙ ap (λ rest. E ++ rest) (sym is)),
 )
@@ -36,15 +35,15 @@ pub Stands-after : (fault : Option StoreFault) (first second third : Standing) �
     → Stands fault first third
 Stands-after fault first second third before after = record {
   honest = λ honest. before.honest (after.honest honest);
-  shut = λ told. sym (before.goes_on (λ e. cc)) ∙ after.shut.0 told;
+  shut = λ reported. sym (before.goes_on (λ e. cc)) ∙ after.shut.0 reported;
   untouched = λ honest shut.
       let earlier = before.untouched (after.honest honest) shut in
       let later = after.untouched honest (before.goes_on (λ e. cc) ∙ shut) in
       record { content = later.content ∙ earlier.content; leaves = λ content left. earlier.leaves content (later.leaves content left) };
-  goes_on = λ told. after.goes_on told ∙ before.goes_on (λ e. cc);
-  steady = λ told. after.steady told ∙ before.steady (λ e. cc);
+  goes_on = λ reported. after.goes_on reported ∙ before.goes_on (λ e. cc);
+  steady = λ reported. after.steady reported ∙ before.steady (λ e. cc);
   failed =
-      λ told. let rises = after.failed told in (rises.0, subst (λ count. HasRisen count third.failures) (before.steady (λ e. cc)) rises.1);
+      λ reported. let rises = after.failed reported in (rises.0, subst (λ count. HasRisen count third.failures) (before.steady (λ e. cc)) rises.1);
   settled = λ was. after.settled;
 }
 
@@ -84,26 +83,26 @@ follows_more steps old mid new before step =
     let next : suc steps ≡ steps + 1 = omega arith in subst (λ n. FollowsIn n old new) next (mid, before, step)
 
 -- a run that stopped before its first delivery, or at its end
-pub changes_each_whole : (told : List Reply) (fault : Option StoreFault) (old new : Standing) → Stands fault old new
-    → (fault ≡ Some Failed → ⊥) → (new.is_honest → FollowsIn (length told) old.content new.content)
-    → ChangesEach told fault old new
-changes_each_whole told fault old new stands going follows = record {
+pub changes_each_whole : (reported : List Reply) (fault : Option StoreFault) (old new : Standing) → Stands fault old new
+    → (fault ≡ Some Failed → ⊥) → (new.is_honest → FollowsIn (length reported) old.content new.content)
+    → ChangesEach reported fault old new
+changes_each_whole reported fault old new stands going follows = record {
   held = λ honest other. follows honest;
   left = λ honest settled was content left.
-      inl (subst (FollowsIn (length told) old.content)
+      inl (subst (FollowsIn (length reported) old.content)
       (sym (stands.settled settled honest (stands.goes_on going ∙ was) content left)) (follows honest));
 }
 
 -- a run that stopped at a delivery
-pub changes_each_stopped : (told : List Reply) (count : ℕ) (fault : StoreFault) (old mid new : Standing) → length told ≡ count
+pub changes_each_stopped : (reported : List Reply) (count : ℕ) (fault : StoreFault) (old mid new : Standing) → length reported ≡ count
     → Stands None old mid → Goes (Some fault) mid new → ChangesOnce (Some fault) mid new
-    → (mid.is_honest → FollowsIn count old.content mid.content) → ChangesEach told (Some fault) old new
-changes_each_stopped told count fault old mid new size before goes once follows = record {
+    → (mid.is_honest → FollowsIn count old.content mid.content) → ChangesEach reported (Some fault) old new
+changes_each_stopped reported count fault old mid new size before goes once follows = record {
   held = λ honest going. of_steps honest (kept honest going (mid.is_shut) refl);
   left = λ honest settled was content left. either honest content (once.left honest (before.goes_on (λ e. cc) ∙ was) content left);
 }
   where
-    of_steps : new.is_honest → new.content ≡ mid.content → FollowsIn (length told) old.content new.content
+    of_steps : new.is_honest → new.content ≡ mid.content → FollowsIn (length reported) old.content new.content
     of_steps honest same =
         subst (λ n. FollowsIn n old.content new.content) (sym size)
         (subst (FollowsIn count old.content) (sym same) (follows (goes.honest honest)))
@@ -113,7 +112,7 @@ changes_each_stopped told count fault old mid new size before goes once follows 
     kept honest going false opened = once.unchanged honest (goes.goes_on going ∙ opened) fault refl
 
     either : new.is_honest → (content : Content) → (content ≡ mid.content) ⊎ ((change : Change) × Makes change mid.content content)
-        → FollowsIn (length told) old.content content ⊎ FollowsIn (length told + 1) old.content content
+        → FollowsIn (length reported) old.content content ⊎ FollowsIn (length reported + 1) old.content content
     either honest content (inl same) =
         inl (subst (λ n. FollowsIn n old.content content) (sym size)
         (subst (FollowsIn count old.content) (sym same) (follows (goes.honest honest))))

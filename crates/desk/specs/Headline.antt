@@ -22,11 +22,11 @@ Ends building earlier deliveries count (Some BadRow) now = ⊥
 
 -- A run: the replies are the definition's for a beginning of the list, in order; the tables are those of what
 -- came before and that beginning.
-pub record Runs (building : Building) (earlier deliveries : List Delivery) (told : List Reply) (fault : Option StoreFault)
+pub record Runs (building : Building) (earlier deliveries : List Delivery) (reported : List Reply) (fault : Option StoreFault)
     (now : Standing) : Type 0 where
   pub count : ℕ
   pub within : count ≤ length deliveries
-  pub replies_are : told ≡ replies building earlier (take count deliveries)
+  pub replies_are : reported ≡ replies building earlier (take count deliveries)
   pub ends : Ends building earlier deliveries count fault now
 
 -- How the store stands after a run: S2 shuts it and is counted; S3 comes of a store that was shut, and such a
@@ -47,7 +47,7 @@ FollowsIn (suc steps) old new = (mid : Content) × FollowsIn steps old mid × ((
 
 -- A run over whatever a store held: each delivery that was answered made one change or none, and that at which the run
 -- stopped made none, or after a failure a stop leaves what was held without its change or with it.
-pub record ChangesEach (told : List Reply) (fault : Option StoreFault) (old new : Standing) : Type 0 where
-  pub held : new.is_honest → (fault ≡ Some Failed → ⊥) → FollowsIn (length told) old.content new.content
+pub record ChangesEach (reported : List Reply) (fault : Option StoreFault) (old new : Standing) : Type 0 where
+  pub held : new.is_honest → (fault ≡ Some Failed → ⊥) → FollowsIn (length reported) old.content new.content
   pub left : new.is_honest → IsSettled old → old.is_shut ≡ false → (content : Content) → new.may_leave content
-      → FollowsIn (length told) old.content content ⊎ FollowsIn (length told + 1) old.content content
+      → FollowsIn (length reported) old.content content ⊎ FollowsIn (length reported + 1) old.content content

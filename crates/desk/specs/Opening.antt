@@ -9,7 +9,8 @@ use Rattle.store.specs.declared.fault.StoreFault.TheVariants.{Failed, BadRow}
 use Rattle.store.specs.declared.names.Names.{Names}
 use Rattle.store.specs.Listed.{HasCalendar, HasPanel, HasPoint, HasSchedule}
 use Rattle.store.specs.Standing.{Content, Goes, Standing}
-use Rattle.store.specs.Tables.{Tables, Text}
+use Rattle.store.specs.Tables.{Tables}
+use Rattle.points.specs.Texts.{Text}
 use Rattle.building.specs.Building.{Building}
 use Rattle.building.specs.declared.named_calendar.NamedCalendar.{NamedCalendar}
 use Rattle.deliveries.specs.Events.{is_moment}
@@ -62,8 +63,8 @@ pub record CanRest (building : Building) (standing : Standing) : Type 0 where
   pub entries : list_any (λ calendar. standing.cannot_stand (EntriesOf calendar.name)) building.calendars ≡ false
   pub nexts : (panel : Text) → HasPanel standing.content.tables panel → standing.cannot_stand (NextOf panel) ≡ false
 
--- A desk is opened over a store, or a fault is told. Nothing changes. Where it is opened the tables suit the building, and
--- the rows that it rests on can stand; S5 is told where they don't, or where a row is kept that cannot stand.
+-- A desk is opened over a store, or a fault is reported. Nothing changes. Where it is opened the tables suit the building, and
+-- the rows that it rests on can stand; S5 is reported where they don't, or where a row is kept that cannot stand.
 pub record Opens (building : Building) (fault : Option StoreFault) (old new : Standing) : Type 0 where
   pub goes : Goes fault old new
   pub kept : new.is_honest → (fault ≡ Some Failed → ⊥) → new.content ≡ old.content

@@ -9,7 +9,7 @@ ghost use Rattle.desk.specs.Opening.{HaveStood, Opens, are_known, has_calendar, 
 use building::{Building, NamedCalendar};
 use local_times::local_time;
 use points::Name;
-use store::{Names, Store, StoreFault};
+use store::{Names, Store, StoreFault, read_nexts};
 
 fn has_panel(building: &Building, name: &Name) -> bool
     ensures { result ≡ has_panel building.now name.now }
@@ -26,13 +26,13 @@ fn has_point(building: &Building, name: &Name) -> bool
 fn has_schedule(building: &Building, name: &Name) -> bool
     ensures { result ≡ has_schedule building.now name.now }
 {
-    building.schedule_place(name).is_some()
+    building.schedule_index(name).is_some()
 }
 
 fn has_calendar(building: &Building, name: &Name) -> bool
     ensures { result ≡ has_calendar building.now name.now }
 {
-    building.calendar_place(name).is_some()
+    building.calendar_index(name).is_some()
 }
 
 fn are_panels(building: &Building, names: &[Name]) -> bool
@@ -78,19 +78,6 @@ fn read_entries<S: Store>(store: &mut S, calendars: &[NamedCalendar]) -> Result<
 {
     for calendar in calendars {
         let _entries = store.entries(&calendar.name)?;
-    }
-    Ok(())
-}
-
-// Reads the next number of each panel.
-fn read_nexts<S: Store>(store: &mut S, panels: &[Name]) -> Result<(), StoreFault>
-    requires { IsOpen (S.standing store.old) }
-    ensures reads { Reads (result_err result) (S.standing store.old) (S.standing store.new) }
-    ensures stood { (S.standing store.new).is_honest
-        → OnOk result (list_any (λ panel. (S.standing store.old).cannot_stand (NextOf panel)) panels.now ≡ false) }
-{
-    for panel in panels {
-        let _next = store.panel_next(panel)?;
     }
     Ok(())
 }

@@ -2,13 +2,14 @@
 ghost use Rattle.std.specs.Prelude.{◌≡◌, ◌<◌, ◌⊎◌, false, List, [], None, Some, IfErr, IfOk, length, string_bytes};
 ghost use Rattle.std.specs.Bool.{IsTrue};
 ghost use Rattle.std.specs.Result.{result_err};
-ghost use Rattle.day_reports.specs.DayReport.{report_text};
+ghost use Rattle.desk_reports.specs.DayReport.{report_text};
 ghost use Rattle.points.specs.Rights.{point_named};
-ghost use Rattle.settling.specs.Calendars.{Tells};
-ghost use Rattle.settling.specs.Kept.{AreSpans, AreToday};
+ghost use Rattle.desk_settling.specs.Calendars.{Tells};
+ghost use Rattle.desk_settling.specs.Kept.{AreSpans, AreToday};
 ghost use Rattle.store.specs.declared.fault.StoreFault.TheVariants.{BadRow, NoMemory, Shut};
 ghost use Rattle.store.specs.Standing.{ChangesOnce, Goes, Reads, sound};
-ghost use Rattle.store.specs.Tables.{Text, no_tables};
+ghost use Rattle.store.specs.Tables.{no_tables};
+ghost use Rattle.points.specs.Texts.{Text};
 ghost use Rattle.deliveries.specs.declared.delivery.Delivery.{Delivery as a_delivery};
 ghost use Rattle.deliveries.specs.Delivered.{Delivers, Holds};
 ghost use Rattle.desk.specs.Headline.{ChangesEach, Runs, Stands};
@@ -18,18 +19,18 @@ ghost use Rattle.desk.specs.PointState.{state_of};
 use crate::opening::look_over;
 use crate::point_state::PointState;
 use building::Building;
-use clock::{deliver_import_after, deliver_tick_after};
 use dates::Day;
-use day_reports::day_report;
 use deliveries::{Delivery, Reply};
-use panel_commands::{deliver_command, deliver_skip};
+use desk_clock::{deliver_import_after, deliver_tick_after};
+use desk_commands::{deliver_command, deliver_skip};
+use desk_reports::day_report;
+use desk_settling::Kept;
 use points::Name;
-use settling::Kept;
 use std::alloc::Global;
 use store::{Store, StoreFault};
 
-/// A desk of a building, over a store of its tables. Beside the store it keeps what was found of the day of the last tick: which
-/// calendars hold on it, and of each schedule the span over which its value stands.
+/// A desk of a building, over a store of its tables. Beside the store it keeps what was found of the day of the last
+/// tick: which calendars hold on it, and of each schedule the span over which its value stands.
 #[derive(Drop)]
 pub struct Desk<S: Store + Drop> {
     alloc: Global,
@@ -66,9 +67,9 @@ impl<S: Store + Drop> Desk<S> {
         ensures opened { IfOk result (λ desk. Opens building None (S.standing store) (S.standing desk.store)) }
         ensures begins { (S.standing store).content ≡ sound no_tables
             → IfOk result (λ desk. (S.standing desk.store).is_honest → Holds building [] (S.standing desk.store)) }
-        ensures refused { IfErr result (λ told. Opens building (Some told.0) (S.standing store) (S.standing told.1)) }
+        ensures refused { IfErr result (λ failed. Opens building (Some failed.0) (S.standing store) (S.standing failed.1)) }
         ensures own_tables { (earlier : List a_delivery) → Holds building earlier (S.standing store)
-            → IfErr result (λ told. (S.standing told.1).is_honest → told.0 ≡ BadRow → ⊥) }
+            → IfErr result (λ failed. (S.standing failed.1).is_honest → failed.0 ≡ BadRow → ⊥) }
     {
         let mut store = store;
         // what a building that was read says of its schedules
@@ -98,8 +99,8 @@ impl<S: Store + Drop> Desk<S> {
         self.store
     }
 
-    /// How often a schedule was evaluated since the desk was opened; the count stays at its greatest value. A schedule whose
-    /// value stands over the time of a tick is not evaluated again.
+    /// How often a schedule was evaluated since the desk was opened; the count stays at its greatest value. A schedule
+    /// whose value stands over the time of a tick is not evaluated again.
     pub fn evaluations(&self) -> u64
         ensures { result ≡ self.now.kept.evaluations }
     {
@@ -155,8 +156,8 @@ impl<S: Store + Drop> Desk<S> {
         }
     }
 
-    /// Delivers a list, each delivery after those before it, up to a fault. What was answered stands. On a store that is
-    /// shut the first delivery is answered S3, unless there is no memory for the replies.
+    /// Delivers a list, each delivery after those before it, up to a fault. What was answered stands. On a store that
+    /// is shut the first delivery is answered S3, unless there is no memory for the replies.
     pub fn run(&mut self, deliveries: &[Delivery]) -> (Vec<Reply>, Option<StoreFault>)
         ensures headline { (earlier : List a_delivery) → (S.standing self.new.store).is_honest
             → Holds self.old.building earlier (S.standing self.old.store)

@@ -3,12 +3,12 @@ use Rattle.std.proofs.Common.{◌≡◌, ℕ, ℤ, ◌++◌, true, false, List, 
 use Rattle.std.proofs.lemmas.List.{append-nil}
 use Rattle.building.specs.Building.{Building}
 use Rattle.deliveries.specs.declared.delivery.Delivery.{Delivery}
-use Rattle.delivery_lines.specs.declared.told.Told.TheVariants as of
-use Rattle.delivery_lines.specs.DeliveryLine.{told_of}
-use Rattle.holidays.specs.declared.import_fault.ImportFault.{ImportFault}
+use Rattle.delivery_json.specs.declared.parsed_line.ParsedLine.TheVariants as of
+use Rattle.delivery_json.specs.DeliveryLine.{parse_line}
+use Rattle.building_holidays.specs.declared.import_fault.ImportFault.{ImportFault}
 use Rattle.desk_cli.specs.ListLines.{Collects, TakesLine}
 use Rattle.desk_cli.specs.Replay.{deliveries_in, is_empty_line, is_past_until, lines_of, lines_until}
-use Rattle.desk_cli.proofs.LineLemmas.{deliveries_in-append, told_by-append, until-none, until-past, until-within}
+use Rattle.desk_cli.proofs.LineLemmas.{deliveries_in-append, parsed_by-append, until-none, until-past, until-within}
 
 -- ---- one line
 
@@ -16,7 +16,7 @@ pub collects_empty : (b : Building) (line : List ℕ) (ds : List Delivery) → i
 collects_empty b line ds empty = record { read = []; read_is = rw empty refl; added = sym (append-nil ds) }
 
 pub collects_delivery : (b : Building) (line : List ℕ) (old new : List Delivery) (d : Delivery) → is_empty_line line ≡ false
-    → told_of b line ≡ Some (of.Delivery d) → new ≡ old ++ d ∷ [] → Collects b (line ∷ []) old new
+    → parse_line b line ≡ Some (of.Delivery d) → new ≡ old ++ d ∷ [] → Collects b (line ∷ []) old new
 collects_delivery b line old new d some one added = record {
   read = of.Delivery d ∷ [];
   read_is = rw (some, one) refl;
@@ -24,7 +24,7 @@ collects_delivery b line old new d some one added = record {
 }
 
 pub collects_refused : (b : Building) (line : List ℕ) (ds : List Delivery) (refused : ImportFault) → is_empty_line line ≡ false
-    → told_of b line ≡ Some (of.RefusedImport refused) → Collects b (line ∷ []) ds ds
+    → parse_line b line ≡ Some (of.RefusedImport refused) → Collects b (line ∷ []) ds ds
 collects_refused b line ds refused some one = record {
   read = of.RefusedImport refused ∷ [];
   read_is = rw (some, one) refl;
@@ -37,7 +37,7 @@ pub Collects-Collects : (b : Building) (ls ms : List (List ℕ)) (x y z : List D
     → Collects b (ls ++ ms) x z
 Collects-Collects b ls ms x y z first more = record {
   read = first.read ++ more.read;
-  read_is = told_by-append b ls ms first.read more.read first.read_is more.read_is;
+  read_is = parsed_by-append b ls ms first.read more.read first.read_is more.read_is;
   added =
       more.added ∙ ap (λ ds. ds ++ deliveries_in more.read) first.added
       ∙ append_assoc x (deliveries_in first.read) (deliveries_in more.read)

@@ -6,34 +6,34 @@ use Rattle.std.proofs.lemmas.Option.{same_Some}
 use Rattle.std.specs.Io.KnownBytes.{IsAtEnd}
 use Rattle.std.specs.Io.BufRead.{DropsThrough, drop_through, strip_last, take_through}
 use Rattle.building.specs.Building.{Building}
-use Rattle.delivery_lines.specs.declared.told.Told.{Told}
-use Rattle.delivery_lines.specs.declared.told.Told.TheVariants as of
-use Rattle.delivery_lines.specs.DeliveryLine.{told_of}
+use Rattle.delivery_json.specs.declared.parsed_line.ParsedLine.{ParsedLine}
+use Rattle.delivery_json.specs.declared.parsed_line.ParsedLine.TheVariants as of
+use Rattle.delivery_json.specs.DeliveryLine.{parse_line}
 use Rattle.desk_cli.specs.ListLines.{TakesLine}
-use Rattle.desk_cli.specs.Replay.{deliveries_in, is_empty_line, is_past_until, lines_of, lines_until, told_by, with_first}
+use Rattle.desk_cli.specs.Replay.{deliveries_in, is_empty_line, is_past_until, lines_of, lines_until, parsed_by, with_first}
 use Rattle.std.proofs.lemmas.Bool.{false≢true}
 
 -- ---- what lines tell, one part after another
 
-pub deliveries_in-append : (ts us : List Told) → deliveries_in (ts ++ us) ≡ deliveries_in ts ++ deliveries_in us
+pub deliveries_in-append : (ts us : List ParsedLine) → deliveries_in (ts ++ us) ≡ deliveries_in ts ++ deliveries_in us
 deliveries_in-append [] us = refl
 deliveries_in-append (of.Delivery d ∷ ts) us = ap (λ ds. d ∷ ds) (deliveries_in-append ts us)
 deliveries_in-append (of.RefusedImport refused ∷ ts) us = deliveries_in-append ts us
 
-pub told_by-append : (b : Building) (ls ms : List (List ℕ)) (ds es : List Told) → told_by b ls ≡ Some ds → told_by b ms ≡ Some es
-    → told_by b (ls ++ ms) ≡ Some (ds ++ es)
-told_by-append b [] ms ds es p q = q ∙ ap (λ (ts : List Told). Some (ts ++ es)) (same_Some _ _ p)
-told_by-append b (l ∷ ls) ms ds es p q =
-    step (is_empty_line l) (told_of b l) (told_by b ls) (told_by b (ls ++ ms)) p (λ ts e. told_by-append b ls ms ts es e q)
+pub parsed_by-append : (b : Building) (ls ms : List (List ℕ)) (ds es : List ParsedLine) → parsed_by b ls ≡ Some ds → parsed_by b ms ≡ Some es
+    → parsed_by b (ls ++ ms) ≡ Some (ds ++ es)
+parsed_by-append b [] ms ds es p q = q ∙ ap (λ (ts : List ParsedLine). Some (ts ++ es)) (same_Some _ _ p)
+parsed_by-append b (l ∷ ls) ms ds es p q =
+    step (is_empty_line l) (parse_line b l) (parsed_by b ls) (parsed_by b (ls ++ ms)) p (λ ts e. parsed_by-append b ls ms ts es e q)
   where
-    step : (empty : Bool) (one : Option Told) (rest all : Option (List Told))
+    step : (empty : Bool) (one : Option ParsedLine) (rest all : Option (List ParsedLine))
         → cond empty rest (option_and_then (λ d. option_map (λ ts. d ∷ ts) rest) one) ≡ Some ds
-        → ((ts : List Told) → rest ≡ Some ts → all ≡ Some (ts ++ es))
+        → ((ts : List ParsedLine) → rest ≡ Some ts → all ≡ Some (ts ++ es))
         → cond empty all (option_and_then (λ d. option_map (λ ts. d ∷ ts) all) one) ≡ Some (ds ++ es)
     step true one rest all e ih = ih ds e
     step false None rest all e ih = cc
     step false (Some d) None all e ih = cc
-    step false (Some d) (Some ts) all e ih = rw (ih ts refl) (ap (λ (xs : List Told). Some (xs ++ es)) (same_Some _ _ e))
+    step false (Some d) (Some ts) all e ih = rw (ih ts refl) (ap (λ (xs : List ParsedLine). Some (xs ++ es)) (same_Some _ _ e))
 
 -- ---- the lines up to a moment
 

@@ -16,18 +16,18 @@ use Rattle.store.specs.Tables.{Tables}
 use Rattle.points.specs.declared.Point.{Point}
 use Rattle.points.specs.Rights.{point_named}
 use Rattle.desk.specs.PointState.{state_of}
-use Rattle.delivery_lines.specs.declared.told.Told.{Told}
-use Rattle.delivery_lines.specs.declared.told.Told.TheVariants as of
-use Rattle.desk_console.proofs.PrintedLemmas.{Appends-Appends, Appends-Keeps, Appends-nothing}
+use Rattle.delivery_json.specs.declared.parsed_line.ParsedLine.{ParsedLine}
+use Rattle.delivery_json.specs.declared.parsed_line.ParsedLine.TheVariants as of
+use Rattle.cli_common.proofs.PrintedLemmas.{Appends-Appends, Appends-Keeps, Appends-nothing}
 use Rattle.desk_cli.specs.ListLines.{TakesLine}
 use Rattle.desk_cli.specs.Replay.{Prints, Replays, answers_to, deliveries_in, is_past_until, line_of_point, lines_of, lines_until}
 use Rattle.desk_cli.specs.Replay.{point_lines, state_line}
-use Rattle.desk_cli.proofs.LineLemmas.{deliveries_in-append, told_by-append, until-none, until-past, until-within}
-use Rattle.delivery_lines.specs.ReplyText.{refusal_line, reply_line}
+use Rattle.desk_cli.proofs.LineLemmas.{deliveries_in-append, parsed_by-append, until-none, until-past, until-within}
+use Rattle.delivery_json.specs.ReplyText.{refusal_line, reply_line}
 
 -- ---- answers, one part after another
 
-pub answers_to-append : (b : Building) (E : List Delivery) (ts us : List Told)
+pub answers_to-append : (b : Building) (E : List Delivery) (ts us : List ParsedLine)
     → answers_to b E (ts ++ us) ≡ answers_to b E ts ++ answers_to b (E ++ deliveries_in ts) us
 answers_to-append b E [] us = ap (λ F. answers_to b F us) (sym (append-nil E))
 answers_to-append b E (of.Delivery d ∷ ts) us =
@@ -43,15 +43,15 @@ answers_to-append b E (of.RefusedImport refused ∷ ts) us =
 
 -- what was printed of some lines, and then of more
 pub Prints-Prints : (b : Building) (E : List Delivery) (ls ms : List (List ℕ)) (w x y : Option (List ℕ)) (t u : Content)
-    → (first : Prints b E ls w x t) → Prints b (E ++ deliveries_in first.told) ms x y u → Prints b E (ls ++ ms) w y u
+    → (first : Prints b E ls w x t) → Prints b (E ++ deliveries_in first.parsed) ms x y u → Prints b E (ls ++ ms) w y u
 Prints-Prints b E ls ms w x y t u first more = record {
-  told = first.told ++ more.told;
-  told_is = told_by-append b ls ms first.told more.told first.told_is more.told_is;
+  parsed = first.parsed ++ more.parsed;
+  parsed_is = parsed_by-append b ls ms first.parsed more.parsed first.parsed_is more.parsed_is;
   printed = subst (λ text. Appends w y text)
-      (sym (answers_to-append b E first.told more.told))
+      (sym (answers_to-append b E first.parsed more.parsed))
       (Appends-Appends w x y _ _ first.printed more.printed);
-  holds = more.holds ∙ ap (λ list. sound (tables b list)) (append_assoc E (deliveries_in first.told) (deliveries_in more.told)
-      ∙ ap (λ ds. E ++ ds) (sym (deliveries_in-append first.told more.told)));
+  holds = more.holds ∙ ap (λ list. sound (tables b list)) (append_assoc E (deliveries_in first.parsed) (deliveries_in more.parsed)
+      ∙ ap (λ ds. E ++ ds) (sym (deliveries_in-append first.parsed more.parsed)));
 }
 
 -- ---- the way through a reader's bytes
@@ -74,8 +74,8 @@ Progress-start b until E bytes left old now left_is holds = record {
   lines_are = refl;
   prints =
       record {
-        told = [];
-        told_is = refl;
+        parsed = [];
+        parsed_is = refl;
         printed = Appends-nothing old;
         holds = holds ∙ ap (λ list. sound (tables b list)) (sym (append-nil E));
       };
@@ -121,7 +121,7 @@ Progress-line b until E bytes line left after old mid new now then p takes withi
           ∙ ap (λ ls. p.passed ++ ls) (ap (lines_until b until) next.2 ∙ until-within b until line (lines_of next.0) within)
           ∙ sym (append_assoc p.passed (line ∷ []) (lines_until b until (lines_of next.0)));
       prints = Prints-Prints b E p.passed (line ∷ []) old mid new now then p.prints
-          (prints (E ++ deliveries_in p.prints.told) p.prints.holds);
+          (prints (E ++ deliveries_in p.prints.parsed) p.prints.holds);
     }
 
 -- what is printed stays printed
@@ -129,9 +129,9 @@ pub Replays-Keeps : (until : Option ℤ) (file list : List ℕ) (old mid new : O
     → Keeps mid new → Replays until file list old new
 Replays-Keeps until file list old mid new r kept = record {
   building = r.building;
-  told = r.told;
+  parsed = r.parsed;
   building_is = r.building_is;
-  told_is = r.told_is;
+  parsed_is = r.parsed_is;
   printed = Appends-Keeps old mid new _ r.printed kept;
 }
 
@@ -142,9 +142,9 @@ pub Replays-done : (until : Option ℤ) (file list : List ℕ) (b b' b'' : Build
     → Replays until file list old new
 Replays-done until file list b b' b'' old mid new now file_is same prints still points = record {
   building = b';
-  told = prints.told;
+  parsed = prints.parsed;
   building_is = file_is ∙ ap (λ (building : Building). Ok (contents_of building)) (sym same);
-  told_is = prints.told_is;
+  parsed_is = prints.parsed_is;
   printed = Appends-Appends old mid new _ _ prints.printed (subst (λ text. Appends mid new text)
       (ap₂ (λ x (held : Content). point_lines x held.tables) still prints.holds) points);
 }

@@ -12,30 +12,30 @@ use Rattle.deliveries.specs.Tables.{tables}
 use Rattle.store.specs.Standing.{Content, Standing, sound}
 use Rattle.desk_cli.specs.LineAnswer.{AnswersLine}
 use Rattle.desk_cli.specs.ListLines.{TakesLine}
-use Rattle.delivery_lines.specs.declared.told.Told.{Told}
-use Rattle.delivery_lines.specs.declared.told.Told.TheVariants as of
-use Rattle.delivery_lines.specs.DeliveryLine.{told_of}
-use Rattle.desk_console.specs.Printed.{AppendsStart}
-use Rattle.desk_console.proofs.PrintedLemmas.{start-Keeps, start-after, start-longer, start-nothing, start-whole}
+use Rattle.delivery_json.specs.declared.parsed_line.ParsedLine.{ParsedLine}
+use Rattle.delivery_json.specs.declared.parsed_line.ParsedLine.TheVariants as of
+use Rattle.delivery_json.specs.DeliveryLine.{parse_line}
+use Rattle.points.specs.Beginnings.{AppendsStart}
+use Rattle.cli_common.proofs.PrintedLemmas.{start-Keeps, start-after, start-longer, start-nothing, start-whole}
 use Rattle.desk_cli.specs.Replay.{Prints, PrintsNoMore, PrintsStart, deliveries_in, is_empty_line, is_past_until, lines_of, lines_until}
 use Rattle.desk_cli.specs.Replay.{point_lines}
-use Rattle.delivery_lines.specs.ReplyText.{refusal_line, reply_line}
-use Rattle.desk_cli.proofs.LineLemmas.{told_by-append, until-within}
+use Rattle.delivery_json.specs.ReplyText.{refusal_line, reply_line}
+use Rattle.desk_cli.proofs.LineLemmas.{parsed_by-append, until-within}
 use Rattle.desk_cli.proofs.ReplayLemmas.{Progress, answers_to-append}
 
 -- ---- the first lines
 
 pub first-none : (b : Building) (E : List Delivery) (lines : List (List ℕ)) (a : Option (List ℕ)) → PrintsStart b E lines a a
-first-none b E lines a = record { first = []; others = lines; told = []; cut = refl; told_is = refl; printed = start-nothing a [] }
+first-none b E lines a = record { first = []; others = lines; parsed = []; cut = refl; parsed_is = refl; printed = start-nothing a [] }
 
 pub first-all : (b : Building) (E : List Delivery) (lines : List (List ℕ)) (old new : Option (List ℕ)) (now : Content)
     → Prints b E lines old new now → PrintsStart b E lines old new
 first-all b E lines old new now prints = record {
   first = lines;
   others = [];
-  told = prints.told;
+  parsed = prints.parsed;
   cut = sym (append-nil lines);
-  told_is = prints.told_is;
+  parsed_is = prints.parsed_is;
   printed = start-whole old new _ prints.printed;
 }
 
@@ -50,83 +50,83 @@ pub first-of_more : (b : Building) (E : List Delivery) (lines more : List (List 
 first-of_more b E lines more old new part = record {
   first = part.first;
   others = part.others ++ more;
-  told = part.told;
+  parsed = part.parsed;
   cut = ap (λ ls. ls ++ more) part.cut ∙ append_assoc part.first part.others more;
-  told_is = part.told_is;
+  parsed_is = part.parsed_is;
   printed = part.printed;
 }
 
 -- some lines, and the first of others
 pub first-after : (b : Building) (E : List Delivery) (lines more : List (List ℕ)) (old mid new : Option (List ℕ)) (now : Content)
-    → (prints : Prints b E lines old mid now) → PrintsStart b (E ++ deliveries_in prints.told) more mid new
+    → (prints : Prints b E lines old mid now) → PrintsStart b (E ++ deliveries_in prints.parsed) more mid new
     → PrintsStart b E (lines ++ more) old new
 first-after b E lines more old mid new now prints part = record {
   first = lines ++ part.first;
   others = part.others;
-  told = prints.told ++ part.told;
+  parsed = prints.parsed ++ part.parsed;
   cut = ap (λ ls. lines ++ ls) part.cut ∙ sym (append_assoc lines part.first part.others);
-  told_is = told_by-append b lines part.first prints.told part.told prints.told_is part.told_is;
+  parsed_is = parsed_by-append b lines part.first prints.parsed part.parsed prints.parsed_is part.parsed_is;
   printed = subst (λ text. AppendsStart old new text)
-      (sym (answers_to-append b E prints.told part.told))
+      (sym (answers_to-append b E prints.parsed part.parsed))
       (start-after old mid new _ _ prints.printed part.printed);
 }
 
 -- what a line is answered
 answered_whole : (b : Building) (E : List Delivery) (line text : List ℕ) (answered : Vec ℕ Global) (old new : Option (List ℕ))
     (now : Standing)
-    (told : Option Told)
-    → is_empty_line line ≡ false → told_of b line ≡ told → AnswersLine b E told (Ok answered) now → text ≡ answered.items
+    (parsed : Option ParsedLine)
+    → is_empty_line line ≡ false → parse_line b line ≡ parsed → AnswersLine b E parsed (Ok answered) now → text ≡ answered.items
     → Appends old new text → Prints b E (line ∷ []) old new now.content
 answered_whole b E line text answered old new now None some one answers is printed = absurd answers
 answered_whole b E line text answered old new now (Some (of.Delivery d)) some one answers is printed = record {
-  told = of.Delivery d ∷ [];
-  told_is = rw (some, one) refl;
+  parsed = of.Delivery d ∷ [];
+  parsed_is = rw (some, one) refl;
   printed = subst (λ t. Appends old new t) (is ∙ answers.0 ∙ sym (append-nil (reply_line (reply b E d)))) printed;
   holds = answers.1;
 }
 answered_whole b E line text answered old new now (Some (of.RefusedImport refused)) some one answers is printed = record {
-  told = of.RefusedImport refused ∷ [];
-  told_is = rw (some, one) refl;
+  parsed = of.RefusedImport refused ∷ [];
+  parsed_is = rw (some, one) refl;
   printed = subst (λ t. Appends old new t) (is ∙ answers.0 ∙ sym (append-nil (refusal_line refused))) printed;
   holds = answers.1 ∙ ap (λ list. sound (tables b list)) (sym (append-nil E));
 }
 
 pub Prints-answered : (b : Building) (E : List Delivery) (line text : List ℕ) (answered : Vec ℕ Global) (old new : Option (List ℕ))
     (now : Standing)
-    → is_empty_line line ≡ false → AnswersLine b E (told_of b line) (Ok answered) now → text ≡ answered.items → Appends old new text
+    → is_empty_line line ≡ false → AnswersLine b E (parse_line b line) (Ok answered) now → text ≡ answered.items → Appends old new text
     → Prints b E (line ∷ []) old new now.content
 Prints-answered b E line text answered old new now some answers is printed = answered_whole b E line text answered old new now
-    (told_of b line) some refl answers is printed
+    (parse_line b line) some refl answers is printed
 
 -- what a line is answered, or a beginning of it
 replied : (b : Building) (E : List Delivery) (line text : List ℕ) (answered : Vec ℕ Global) (old new : Option (List ℕ)) (now : Standing)
-    (told : Option Told)
-    → is_empty_line line ≡ false → told_of b line ≡ told → AnswersLine b E told (Ok answered) now → text ≡ answered.items
+    (parsed : Option ParsedLine)
+    → is_empty_line line ≡ false → parse_line b line ≡ parsed → AnswersLine b E parsed (Ok answered) now → text ≡ answered.items
     → AppendsStart old new text → PrintsStart b E (line ∷ []) old new
 replied b E line text answered old new now None some none answers is start = absurd answers
 replied b E line text answered old new now (Some (of.Delivery d)) some one answers is start = record {
   first = line ∷ [];
   others = [];
-  told = of.Delivery d ∷ [];
+  parsed = of.Delivery d ∷ [];
   cut = refl;
-  told_is = rw (some, one) refl;
+  parsed_is = rw (some, one) refl;
   printed = start-longer old new (reply_line (reply b E d)) [] (subst (λ t. AppendsStart old new t) (is ∙ answers.0) start);
 }
 replied b E line text answered old new now (Some (of.RefusedImport refused)) some one answers is start = record {
   first = line ∷ [];
   others = [];
-  told = of.RefusedImport refused ∷ [];
+  parsed = of.RefusedImport refused ∷ [];
   cut = refl;
-  told_is = rw (some, one) refl;
+  parsed_is = rw (some, one) refl;
   printed = start-longer old new (refusal_line refused) [] (subst (λ t. AppendsStart old new t) (is ∙ answers.0) start);
 }
 
 pub first-replied : (b : Building) (E : List Delivery) (line text : List ℕ) (answered : Vec ℕ Global) (old new : Option (List ℕ))
     (now : Standing)
-    → is_empty_line line ≡ false → AnswersLine b E (told_of b line) (Ok answered) now → text ≡ answered.items → AppendsStart old new text
+    → is_empty_line line ≡ false → AnswersLine b E (parse_line b line) (Ok answered) now → text ≡ answered.items → AppendsStart old new text
     → PrintsStart b E (line ∷ []) old new
 first-replied b E line text answered old new now some answers is start = replied b E line text answered old new now
-    (told_of b line) some refl answers is start
+    (parse_line b line) some refl answers is start
 
 -- ---- where the reading stops
 
@@ -151,8 +151,8 @@ Progress-stops-at b until E bytes line left after old mid new now p takes within
     (sym (p.lines_are
     ∙ ap (λ ls. p.passed ++ ls) (ap (lines_until b until) next.2 ∙ until-within b until line (lines_of next.0) within)))
     (first-after b E p.passed (line ∷ lines_until b until (lines_of next.0)) old mid new now p.prints
-    (first-of_more b (E ++ deliveries_in p.prints.told) (line ∷ []) (lines_until b until (lines_of next.0)) mid new
-    (stops (E ++ deliveries_in p.prints.told) p.prints.holds)))
+    (first-of_more b (E ++ deliveries_in p.prints.parsed) (line ∷ []) (lines_until b until (lines_of next.0)) mid new
+    (stops (E ++ deliveries_in p.prints.parsed) p.prints.holds)))
 
 -- ---- the whole run
 
@@ -165,9 +165,9 @@ no_more-lines until file list b b' old mid new file_is same part kept = inr (
   inl (record {
     first = part.first;
     others = part.others;
-    told = part.told;
+    parsed = part.parsed;
     cut = part.cut;
-    told_is = part.told_is;
+    parsed_is = part.parsed_is;
     printed = start-Keeps old mid new _ part.printed kept;
   }),
 )
@@ -180,8 +180,8 @@ no_more-points until file list b b' b'' old mid new last now file_is same prints
   b',
   file_is ∙ ap (λ (building : Building). Ok (contents_of building)) (sym same),
   inr (record {
-    told = prints.told;
-    told_is = prints.told_is;
+    parsed = prints.parsed;
+    parsed_is = prints.parsed_is;
     printed = start-Keeps old new last _
         (start-after old mid new _ _ prints.printed (subst (λ text. AppendsStart mid new text)
         (λ i. point_lines (still i) (prints.holds i).tables) points)) kept;
@@ -205,8 +205,8 @@ no_more-Keeps until file list old mid new said kept = ⊎_elim
       some.0,
       some.1,
       inr (record {
-        told = all.told;
-        told_is = all.told_is;
+        parsed = all.parsed;
+        parsed_is = all.parsed_is;
         printed = start-Keeps old mid new _
             all.printed kept;
       }),

@@ -9,9 +9,9 @@ use Rattle.building.specs.Building.{Building, contents_of}
 use Rattle.building.specs.BuildingFile.{building_of}
 use Rattle.deliveries.specs.declared.delivery.Delivery.{Delivery}
 use Rattle.deliveries_straight.specs.StraightList.{straight_list}
-use Rattle.delivery_lines.specs.DeliveryText.{delivery_line}
-use Rattle.desk_console.specs.Printed.{AppendsStart}
-use Rattle.desk_console.proofs.PrintedLemmas.{Appends-Keeps, start-Keeps}
+use Rattle.delivery_json.specs.DeliveryText.{delivery_line}
+use Rattle.points.specs.Beginnings.{AppendsStart}
+use Rattle.cli_common.proofs.PrintedLemmas.{Appends-Keeps, start-Keeps}
 use Rattle.desk_cli.specs.ListLines.{Collects}
 use Rattle.desk_cli.specs.Replay.{deliveries_in, lines_of}
 use Rattle.desk_cli.specs.Straighten.{Straightens, StraightensNoMore, straight_lines}

@@ -14,5 +14,5 @@ pub record Tells (bytes line : List ℕ) : Type 0 where
 -- the file names a building, and its line was printed
 pub record Describes (bytes : List ℕ) (old new : Option (List ℕ)) : Type 0 where
   pub line : List ℕ
-  pub is_told : Tells bytes line
+  pub is_reported : Tells bytes line
   pub printed : Appends old new line

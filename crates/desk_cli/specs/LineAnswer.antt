@@ -8,12 +8,12 @@ use Rattle.building.specs.Building.{Building}
 use Rattle.deliveries.specs.declared.delivery.Delivery.{Delivery}
 use Rattle.deliveries.specs.Reply.{reply}
 use Rattle.deliveries.specs.Delivered.{Holds, LeavesEither}
-use Rattle.delivery_lines.specs.declared.line_fault.LineFault.{LineFault}
-use Rattle.delivery_lines.specs.declared.line_fault.LineFault.TheVariants.{NotDelivery, NotDone}
-use Rattle.delivery_lines.specs.declared.told.Told.{Told}
-use Rattle.delivery_lines.specs.declared.told.Told.TheVariants as told
-use Rattle.delivery_lines.specs.ReplyText.{refusal_line, reply_line}
-use Rattle.holidays.specs.declared.import_fault.ImportFault.{ImportFault}
+use Rattle.delivery_json.specs.declared.line_fault.LineFault.{LineFault}
+use Rattle.delivery_json.specs.declared.line_fault.LineFault.TheVariants.{NotDelivery, NotDone}
+use Rattle.delivery_json.specs.declared.parsed_line.ParsedLine.{ParsedLine}
+use Rattle.delivery_json.specs.declared.parsed_line.ParsedLine.TheVariants as parsed
+use Rattle.delivery_json.specs.ReplyText.{refusal_line, reply_line}
+use Rattle.building_holidays.specs.declared.import_fault.ImportFault.{ImportFault}
 
 -- where a delivery after earlier ones has no answer: after a want of memory the store holds the tables of the earlier
 -- ones, or those with this one; after a failure it leaves the one or the other
@@ -45,8 +45,8 @@ AnswersOther building earlier (Ok text) now = ⊥
 AnswersOther building earlier (Err NotDelivery) now = Holds building earlier now
 AnswersOther building earlier (Err (NotDone fault)) now = (fault ≡ NoMemory) × Holds building earlier now
 
-abbrev pub AnswersLine : Building → List Delivery → Option Told → Result (Vec ℕ Global) LineFault → Standing
+abbrev pub AnswersLine : Building → List Delivery → Option ParsedLine → Result (Vec ℕ Global) LineFault → Standing
     → Type 0
-AnswersLine building earlier (Some (told.Delivery delivery)) answered now = AnswersDelivery building earlier delivery answered now
-AnswersLine building earlier (Some (told.RefusedImport refused)) answered now = AnswersRefused building earlier refused answered now
+AnswersLine building earlier (Some (parsed.Delivery delivery)) answered now = AnswersDelivery building earlier delivery answered now
+AnswersLine building earlier (Some (parsed.RefusedImport refused)) answered now = AnswersRefused building earlier refused answered now
 AnswersLine building earlier None answered now = AnswersOther building earlier answered now

@@ -2,8 +2,8 @@
 use Rattle.std.specs.Prelude.{◌≡◌, ℕ, Bool, true, false, List, [], ◌∷◌, ◌++◌, Option, Some}
 use Rattle.building.specs.Building.{Building}
 use Rattle.deliveries.specs.declared.delivery.Delivery.{Delivery}
-use Rattle.delivery_lines.specs.declared.told.Told.{Told}
-use Rattle.desk_cli.specs.Replay.{deliveries_in, lines_of, told_by}
+use Rattle.delivery_json.specs.declared.parsed_line.ParsedLine.{ParsedLine}
+use Rattle.desk_cli.specs.Replay.{deliveries_in, lines_of, parsed_by}
 
 -- the first line of the bytes was read, and the bytes of the others are left; or they have no line
 abbrev pub TakesLine : List ℕ → Bool → List ℕ → Option (List ℕ) → Type 0
@@ -12,6 +12,6 @@ TakesLine bytes false line left = lines_of bytes ≡ []
 
 -- each of the lines can be read, and the deliveries among them were added
 pub record Collects (building : Building) (lines : List (List ℕ)) (old new : List Delivery) : Type 0 where
-  pub read : List Told
-  pub read_is : told_by building lines ≡ Some read
+  pub read : List ParsedLine
+  pub read_is : parsed_by building lines ≡ Some read
   pub added : new ≡ old ++ deliveries_in read

@@ -17,13 +17,13 @@ use Rattle.deliveries.specs.Reply.{reply}
 use Rattle.deliveries.specs.Tables.{tables}
 use Rattle.store.specs.Standing.{Content, sound}
 use Rattle.store.specs.Tables.{Tables}
-use Rattle.delivery_lines.specs.declared.told.Told.{Told}
-use Rattle.delivery_lines.specs.declared.told.Told.TheVariants as of
-use Rattle.delivery_lines.specs.DeliveryLine.{told_of}
-use Rattle.desk_console.specs.Printed.{AppendsStart}
-use Rattle.point_lines.specs.PointLine.{point_line}
-use Rattle.delivery_lines.specs.ReplyText.{refusal_line, reply_line}
-use Rattle.texts.specs.Steps.{◌>>=◌}
+use Rattle.delivery_json.specs.declared.parsed_line.ParsedLine.{ParsedLine}
+use Rattle.delivery_json.specs.declared.parsed_line.ParsedLine.TheVariants as of
+use Rattle.delivery_json.specs.DeliveryLine.{parse_line}
+use Rattle.points.specs.Beginnings.{AppendsStart}
+use Rattle.points.specs.PointLine.{point_line}
+use Rattle.delivery_json.specs.ReplyText.{refusal_line, reply_line}
+use Rattle.points.specs.Steps.{◌>>=◌}
 
 -- ---- lines
 
@@ -48,13 +48,13 @@ is_tick_past until (delivery_of.Skip panel upto) = false
 is_tick_past until (delivery_of.Tick moment) = int_lt until moment
 is_tick_past until (delivery_of.Import rows) = false
 
-abbrev pub is_told_past : ℤ → Told → Bool
-is_told_past until (of.Delivery delivery) = is_tick_past until delivery
-is_told_past until (of.RefusedImport refused) = false
+abbrev pub is_parsed_past : ℤ → ParsedLine → Bool
+is_parsed_past until (of.Delivery delivery) = is_tick_past until delivery
+is_parsed_past until (of.RefusedImport refused) = false
 
 -- the line tells a tick later than a moment
 abbrev pub is_past : Building → ℤ → List ℕ → Bool
-is_past building until line = option_map_or (is_told_past until) (told_of building line) false
+is_past building until line = option_map_or (is_parsed_past until) (parse_line building line) false
 
 abbrev pub is_past_until : Building → Option ℤ → List ℕ → Bool
 is_past_until building None line = false
@@ -73,26 +73,26 @@ lines_until building (Some until) lines = lines_before building until lines
 -- ---- what they tell
 
 -- what the lines tell, without the empty ones, where each of the others tells something
-abbrev pub told_by : Building → List (List ℕ) → Option (List Told)
-told_by building [] = Some []
-told_by building (line ∷ lines) = if is_empty_line line then told_by building lines
-    else (told_of building line >>= (λ one. option_map (λ others. one ∷ others) (told_by building lines)))
+abbrev pub parsed_by : Building → List (List ℕ) → Option (List ParsedLine)
+parsed_by building [] = Some []
+parsed_by building (line ∷ lines) = if is_empty_line line then parsed_by building lines
+    else (parse_line building line >>= (λ one. option_map (λ others. one ∷ others) (parsed_by building lines)))
 
 -- the deliveries among it: an import whose holiday list is at fault is none
-abbrev pub deliveries_in : List Told → List Delivery
+abbrev pub deliveries_in : List ParsedLine → List Delivery
 deliveries_in [] = []
-deliveries_in (of.Delivery delivery ∷ told) = delivery ∷ deliveries_in told
-deliveries_in (of.RefusedImport refused ∷ told) = deliveries_in told
+deliveries_in (of.Delivery delivery ∷ parsed) = delivery ∷ deliveries_in parsed
+deliveries_in (of.RefusedImport refused ∷ parsed) = deliveries_in parsed
 
 -- ---- what is printed
 
 -- what is answered after earlier deliveries: each delivery its reply, after those before it, and each list at fault
 -- its refusal
-abbrev pub answers_to : Building → List Delivery → List Told → List ℕ
+abbrev pub answers_to : Building → List Delivery → List ParsedLine → List ℕ
 answers_to building earlier [] = []
-answers_to building earlier (of.Delivery delivery ∷ told) =
-    reply_line (reply building earlier delivery) ++ answers_to building (earlier ++ delivery ∷ []) told
-answers_to building earlier (of.RefusedImport refused ∷ told) = refusal_line refused ++ answers_to building earlier told
+answers_to building earlier (of.Delivery delivery ∷ parsed) =
+    reply_line (reply building earlier delivery) ++ answers_to building (earlier ++ delivery ∷ []) parsed
+answers_to building earlier (of.RefusedImport refused ∷ parsed) = refusal_line refused ++ answers_to building earlier parsed
 
 -- the line of a point that the building has
 abbrev pub state_line : List ℕ → Option PointState → List ℕ
@@ -109,20 +109,20 @@ point_lines building now = flat_map (line_of_point building now) building.points
 -- after earlier deliveries what the lines tell was answered, and the tables are those with the deliveries among it
 pub record Prints (building : Building) (earlier : List Delivery) (lines : List (List ℕ)) (old new : Option (List ℕ))
     (now : Content) : Type 0 where
-  pub told : List Told
-  pub told_is : told_by building lines ≡ Some told
-  pub printed : Appends old new (answers_to building earlier told)
-  pub holds : now ≡ sound (tables building (earlier ++ deliveries_in told))
+  pub parsed : List ParsedLine
+  pub parsed_is : parsed_by building lines ≡ Some parsed
+  pub printed : Appends old new (answers_to building earlier parsed)
+  pub holds : now ≡ sound (tables building (earlier ++ deliveries_in parsed))
 
 -- the file is a building, each line of the list up to a moment tells something, and what was printed is what they are
 -- answered and then the points as their deliveries leave them
 pub record Replays (until : Option ℤ) (file list : List ℕ) (old new : Option (List ℕ)) : Type 0 where
   pub building : Building
-  pub told : List Told
+  pub parsed : List ParsedLine
   pub building_is : building_of file ≡ Ok (contents_of building)
-  pub told_is : told_by building (lines_until building until (lines_of list)) ≡ Some told
+  pub parsed_is : parsed_by building (lines_until building until (lines_of list)) ≡ Some parsed
   pub printed : Appends old new
-      (answers_to building [] told ++ point_lines building (tables building (deliveries_in told)))
+      (answers_to building [] parsed ++ point_lines building (tables building (deliveries_in parsed)))
 
 -- ---- what is printed at most, whatever the end
 
@@ -131,16 +131,16 @@ pub record PrintsStart (building : Building) (earlier : List Delivery) (lines : 
     (old new : Option (List ℕ)) : Type 0 where
   pub first : List (List ℕ)
   pub others : List (List ℕ)
-  pub told : List Told
+  pub parsed : List ParsedLine
   pub cut : lines ≡ first ++ others
-  pub told_is : told_by building first ≡ Some told
-  pub printed : AppendsStart old new (answers_to building earlier told)
+  pub parsed_is : parsed_by building first ≡ Some parsed
+  pub printed : AppendsStart old new (answers_to building earlier parsed)
 
 -- each line tells something, and a beginning of what they are answered and the points was printed
 pub record PrintsAllLines (building : Building) (lines : List (List ℕ)) (old new : Option (List ℕ)) : Type 0 where
-  pub told : List Told
-  pub told_is : told_by building lines ≡ Some told
-  pub printed : AppendsStart old new (answers_to building [] told ++ point_lines building (tables building (deliveries_in told)))
+  pub parsed : List ParsedLine
+  pub parsed_is : parsed_by building lines ≡ Some parsed
+  pub printed : AppendsStart old new (answers_to building [] parsed ++ point_lines building (tables building (deliveries_in parsed)))
 
 -- nothing was printed; or the file is a building, and a beginning of what the first lines are answered was
 -- printed, or of what all of them are and the points

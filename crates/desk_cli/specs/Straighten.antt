@@ -6,10 +6,10 @@ use Rattle.building.specs.Building.{Building, contents_of}
 use Rattle.building.specs.BuildingFile.{building_of}
 use Rattle.deliveries.specs.declared.delivery.Delivery.{Delivery}
 use Rattle.deliveries_straight.specs.StraightList.{straight_list}
-use Rattle.delivery_lines.specs.declared.told.Told.{Told}
-use Rattle.delivery_lines.specs.DeliveryText.{delivery_line}
-use Rattle.desk_console.specs.Printed.{AppendsStart}
-use Rattle.desk_cli.specs.Replay.{deliveries_in, lines_of, told_by}
+use Rattle.delivery_json.specs.declared.parsed_line.ParsedLine.{ParsedLine}
+use Rattle.delivery_json.specs.DeliveryText.{delivery_line}
+use Rattle.points.specs.Beginnings.{AppendsStart}
+use Rattle.desk_cli.specs.Replay.{deliveries_in, lines_of, parsed_by}
 
 -- the lines of the straight list of some deliveries
 abbrev pub straight_lines : Building → List Delivery → List ℕ
@@ -19,17 +19,17 @@ straight_lines building deliveries = flat_map (delivery_line building) (straight
 -- printed
 pub record Straightens (file list : List ℕ) (old new : Option (List ℕ)) : Type 0 where
   pub building : Building
-  pub read : List Told
+  pub read : List ParsedLine
   pub building_is : building_of file ≡ Ok (contents_of building)
-  pub read_is : told_by building (lines_of list) ≡ Some read
+  pub read_is : parsed_by building (lines_of list) ≡ Some read
   pub printed : Appends old new (straight_lines building (deliveries_in read))
 
 -- the same, but that a beginning of it was printed
 pub record StraightensStart (file list : List ℕ) (old new : Option (List ℕ)) : Type 0 where
   pub building : Building
-  pub read : List Told
+  pub read : List ParsedLine
   pub building_is : building_of file ≡ Ok (contents_of building)
-  pub read_is : told_by building (lines_of list) ≡ Some read
+  pub read_is : parsed_by building (lines_of list) ≡ Some read
   pub printed : AppendsStart old new (straight_lines building (deliveries_in read))
 
 -- nothing was printed; or a beginning of that straight list was

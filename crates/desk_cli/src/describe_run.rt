@@ -3,17 +3,17 @@
 ghost use Rattle.std.specs.Prelude.{◌≡◌, List, ℕ, IfOk, OnOk, Some, option_map, string_bytes};
 ghost use Rattle.std.specs.Io.KnownBytes.{Appends, Keeps};
 ghost use Rattle.building.specs.Building.{contents_of};
-ghost use Rattle.desk_console.specs.Input.{bytes_of};
+ghost use Rattle.cli_common.specs.Input.{bytes_of};
 ghost use Rattle.desk_cli.specs.Describe.{Describes, Tells};
 
 use building::Building;
 use building_json::{description_line, zone_text};
-use desk_console::{Input, RunFault, Status, print_whole, read_start};
+use cli_common::{Input, RunFault, Status, print_whole, read_start};
 use std::alloc::Global;
 use std::io::{Read, Write};
 
 /// Reads the building of a file, and prints it as one JSON object, a line: `desk describe`. The text of the zone is the
-/// file's own. A fault is told on `fault` as one line.
+/// file's own. A fault is printed to `fault` as one line.
 pub fn describe<B: Read + Drop, W: Write, F: Write>(
     alloc: Global,
     file: Input<'_, B>,

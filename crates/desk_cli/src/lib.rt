@@ -1,10 +1,11 @@
 //! What do the runs that use no database print, and how do they end?
 //!
-//! `describe` reads the building of a file and prints it as one JSON object (`building_json`). `replay` reads it, runs the
-//! deliveries of a list over it in memory, and prints what each line is answered (`answer_line`) and then the line of each point
-//! (`point_lines`). `answer_line` delivers to a desk what a line tells (`delivery_lines`), and gives the text of the
-//! reply. `straighten` reads the whole list first, and then prints its straight list (`desk_straighten`), a line for each
-//! delivery. `list_deliveries` is what a run that reads the whole list first calls, or `read_deliveries` with a reader of its own. What they share with the other subcommands, faults and statuses among it, is `desk_console`'s.
+//! `describe` reads the building of a file and prints it as one JSON object (`building_json`). `replay` reads it, runs
+//! the deliveries of a list over it in memory, and prints what each line is answered (`answer_line`) and then the line
+//! of each point (`points`). `answer_line` delivers to a desk what a line says (`delivery_json`), and gives the text of
+//! the reply. `straighten` reads the whole list first, and then prints its straight list (`desk_straighten`), a line
+//! for each delivery. `list_deliveries` is what a run that reads the whole list first calls, or `read_deliveries` with
+//! a reader of its own. What they share with the other subcommands, faults and statuses among it, is `cli_common`'s.
 #![tactic(auto)]
 
 pub use describe_run::describe;

@@ -3,16 +3,16 @@
 ghost use Rattle.std.specs.Prelude.{◌≡◌, List, IfErr, IfOk};
 ghost use Rattle.deliveries.specs.declared.delivery.Delivery.{Delivery as a_delivery};
 ghost use Rattle.deliveries.specs.Delivered.{Holds};
-ghost use Rattle.delivery_lines.specs.declared.line_fault.LineFault.{LineFault as a_fault};
-ghost use Rattle.delivery_lines.specs.DeliveryLine.{told_of};
-ghost use Rattle.delivery_lines.specs.ReplyText.{refusal_line};
+ghost use Rattle.delivery_json.specs.declared.line_fault.LineFault.{LineFault as a_fault};
+ghost use Rattle.delivery_json.specs.DeliveryLine.{parse_line};
+ghost use Rattle.delivery_json.specs.ReplyText.{refusal_line};
 ghost use Rattle.desk_cli.specs.LineAnswer.{AnswersDelivery, AnswersLine};
 ghost use Rattle.store.specs.declared.fault.StoreFault.TheVariants.{NoMemory};
 
+use building_holidays::ImportFault;
 use deliveries::Delivery;
-use delivery_lines::{LineFault, RefusedImportText, ReplyText, Told, told_of};
+use delivery_json::{LineFault, ParsedLine, RefusedImportText, ReplyText, parse_line};
 use desk::Desk;
-use holidays::ImportFault;
 use json::Scratch;
 use std::alloc::Global;
 use store::Store;
@@ -20,11 +20,11 @@ use store::Store;
 /// Room for the text of nearly every reply, in bytes.
 const REPLY_ROOM: usize = 96;
 
-/// Delivers what a line tells, and answers the text of the reply with its line end (LF).
+/// Delivers what a line says, and answers the text of the reply with its line end (LF).
 ///
 /// The line is one JSON object without its line end; a CR at its end is white space. A line that
-/// tells no delivery changes nothing, and so does an import whose holiday list is at fault, which is
-/// answered with its refusal. After a want of memory the desk holds its tables from before the line,
+/// is no delivery changes nothing, and so does an import whose holiday list is at fault, which is
+/// answered with its refusal. After a lack of memory the desk holds its tables from before the line,
 /// or those with the line's delivery. One `scratch` is lent to each line.
 pub fn answer_line<S: Store + Drop>(
     alloc: Global,
@@ -34,13 +34,13 @@ pub fn answer_line<S: Store + Drop>(
 ) -> Result<Vec<u8>, LineFault>
     ensures answers { (earlier : List a_delivery) → (S.standing desk.new.store).is_honest
         → Holds desk.old.building earlier (S.standing desk.old.store)
-        → AnswersLine desk.old.building earlier (told_of desk.old.building line.now) result (S.standing desk.new.store) }
+        → AnswersLine desk.old.building earlier (parse_line desk.old.building line.now) result (S.standing desk.new.store) }
     ensures honest { (S.standing desk.new.store).is_honest → (S.standing desk.old.store).is_honest }
     ensures building { desk.new.building ≡ desk.old.building }
 {
-    match told_of(alloc, scratch, desk.building(), line) {
-        Ok(Told::Delivery(delivery)) => answer_delivery(alloc, desk, &delivery),
-        Ok(Told::RefusedImport(fault)) => refusal_of(alloc, fault),
+    match parse_line(alloc, scratch, desk.building(), line) {
+        Ok(ParsedLine::Delivery(delivery)) => answer_delivery(alloc, desk, &delivery),
+        Ok(ParsedLine::RefusedImport(fault)) => refusal_of(alloc, fault),
         Err(fault) => Err(fault),
     }
 }
@@ -57,7 +57,7 @@ fn answer_delivery<S: Store + Drop>(
     ensures honest { (S.standing desk.new.store).is_honest → (S.standing desk.old.store).is_honest }
     ensures building { desk.new.building ≡ desk.old.building }
 {
-    // before the delivery, so that its reply is seldom lost for want of memory
+    // before the delivery, so that its reply is seldom lost for lack of memory
     let mut text = String::with_capacity(alloc, REPLY_ROOM)?;
     let reply = desk.deliver(delivery)?;
     writeln!(text, "{}", ReplyText(reply))?;

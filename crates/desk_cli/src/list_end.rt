@@ -1,26 +1,26 @@
 //! Where a list is read no further.
 
 ghost use Rattle.std.specs.Prelude.{◌≡◌, IfOk};
-ghost use Rattle.desk_cli.specs.Replay.{is_past_until, is_told_past};
+ghost use Rattle.desk_cli.specs.Replay.{is_past_until, is_parsed_past};
 
 use building::Building;
+use cli_common::RunFault;
 use deliveries::Delivery;
-use delivery_lines::{LineFault, Told, told_of};
-use desk_console::RunFault;
+use delivery_json::{LineFault, ParsedLine, parse_line};
 use json::Scratch;
 use std::alloc::Global;
 
-/// Whether a tick later than `until` is told.
-fn is_told_past(until: i64, told: &Told) -> bool
-    ensures { result ≡ is_told_past until told.now }
+/// Whether it is a tick later than `until`.
+fn is_parsed_past(until: i64, parsed: &ParsedLine) -> bool
+    ensures { result ≡ is_parsed_past until parsed.now }
 {
-    match told {
-        Told::Delivery(Delivery::Tick { at }) => until < *at,
+    match parsed {
+        ParsedLine::Delivery(Delivery::Tick { at }) => until < *at,
         _ => false,
     }
 }
 
-/// Whether a line tells a tick later than `until`, where there is a moment to stop at. Another line does not, whatever it
+/// Whether a line has a tick later than `until`, where there is a moment to stop at. Another line does not, whatever it
 /// is.
 pub(crate) fn is_past<'a>(
     alloc: Global,
@@ -34,8 +34,8 @@ pub(crate) fn is_past<'a>(
     let Some(until) = until else {
         return Ok(false);
     };
-    match told_of(alloc, scratch, building, line) {
-        Ok(told) => Ok(is_told_past(until, &told)),
+    match parse_line(alloc, scratch, building, line) {
+        Ok(parsed) => Ok(is_parsed_past(until, &parsed)),
         Err(LineFault::NotDelivery) => Ok(false),
         Err(LineFault::NotDone(fault)) => Err(RunFault::from(fault)),
     }

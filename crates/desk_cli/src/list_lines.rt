@@ -6,7 +6,7 @@ ghost use Rattle.std.specs.Io.Buffered.{reader_remaining};
 ghost use Rattle.desk_cli.specs.ListLines.{TakesLine};
 ghost use Rattle.desk_cli.specs.Replay.{is_empty_line};
 
-use desk_console::RunFault;
+use cli_common::RunFault;
 use std::io::{BufRead, BufReader, Read};
 
 /// Reads the next line of the file of this path into `line`, without its LF. False where there is none.

@@ -2,24 +2,24 @@
 
 ghost use Rattle.std.specs.Prelude.{◌≡◌, List, ℕ, [], ◌∷◌, ◌++◌, IfOk, OnOk, Some};
 ghost use Rattle.std.specs.Io.Buffered.{reader_remaining};
-ghost use Rattle.desk_console.specs.Input.{bytes_of};
+ghost use Rattle.cli_common.specs.Input.{bytes_of};
 ghost use Rattle.desk_cli.specs.ListLines.{Collects};
 ghost use Rattle.desk_cli.specs.Replay.{Opens, lines_of, lines_until};
 
 use crate::list_end::is_past;
 use crate::list_lines::{is_empty, read_line};
 use building::Building;
+use cli_common::{Listed, RunFault};
 use deliveries::Delivery;
-use delivery_lines::{LineFault, Told, told_of};
-use desk_console::{Listed, RunFault};
+use delivery_json::{LineFault, ParsedLine, parse_line};
 use json::Scratch;
 use std::alloc::{AllocError, Global};
 use std::io::{self, BufReader, Read};
 
-/// Opens a list, and reads its deliveries. Empty lines are passed over, also with a CR, and so is an import whose holiday
-/// list is at fault. Where `until` is a moment, in hundredths of a second since 1970-01-01T00:00:00Z, the list ends before
-/// its first line that tells a tick later than it, and that line and those after it are not looked at. A file that can't be
-/// read, a line that is no delivery, and want of memory are the faults.
+/// Opens a list, and reads its deliveries. Empty lines are passed over, also with a CR, and so is an import whose
+/// holiday list is at fault. Where `until` is a moment, in hundredths of a second since 1970-01-01T00:00:00Z, the list
+/// ends before its first line that has a tick later than it, and that line and those after it are not looked at. A file
+/// that can't be read, a line that is no delivery, and lack of memory are the faults.
 pub fn list_deliveries<'a, D: Read + Drop, O>(
     alloc: Global,
     building: &Building,
@@ -40,8 +40,8 @@ where
     }
 }
 
-/// The deliveries of each line that the reader of the file of this path has left, up to a moment, as `list_deliveries` reads
-/// them.
+/// The deliveries of each line that the reader of the file of this path has left, up to a moment, as `list_deliveries`
+/// reads them.
 pub fn read_deliveries<'a, D: Read + Drop>(
     alloc: Global,
     building: &Building,
@@ -90,12 +90,12 @@ fn collect_line<'a>(
     if is_empty(line) {
         return Ok(());
     }
-    match told_of(alloc, scratch, building, line) {
-        Ok(Told::Delivery(delivery)) => {
+    match parse_line(alloc, scratch, building, line) {
+        Ok(ParsedLine::Delivery(delivery)) => {
             push_delivery(deliveries, delivery)?;
             Ok(())
         }
-        Ok(Told::RefusedImport(_)) => Ok(()),
+        Ok(ParsedLine::RefusedImport(_)) => Ok(()),
         Err(LineFault::NotDelivery) => Err(RunFault::NotDelivery { line: number }),
         Err(LineFault::NotDone(fault)) => Err(RunFault::from(fault)),
     }

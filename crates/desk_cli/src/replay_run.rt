@@ -9,38 +9,37 @@ ghost use Rattle.building.specs.BuildingFile.{building_of};
 ghost use Rattle.desk.specs.PointState.{state_of};
 ghost use Rattle.deliveries.specs.Delivered.{Holds};
 ghost use Rattle.deliveries.specs.declared.delivery.Delivery.{Delivery as a_delivery};
-ghost use Rattle.desk_console.specs.Input.{bytes_of};
-ghost use Rattle.desk_console.specs.Printed.{AppendsStart};
+ghost use Rattle.cli_common.specs.Input.{bytes_of};
+ghost use Rattle.points.specs.Beginnings.{AppendsStart};
 ghost use Rattle.desk_cli.specs.Replay.{Opens, Prints, PrintsNoMore, PrintsStart, Replays};
 ghost use Rattle.desk_cli.specs.Replay.{lines_of, lines_until, point_lines, state_line};
 
 use crate::line_answer::answer_line;
 use crate::list_end::is_past;
 use crate::list_lines::{is_empty, read_line};
-use delivery_lines::LineFault;
+use cli_common::{Input, Listed, RunFault, Status, flush, print_text, read_building};
+use delivery_json::LineFault;
 use desk::Desk;
-use desk_console::{Input, Listed, RunFault, Status, flush, print_text, read_building};
 use json::Scratch;
-use mem_store::MemStore;
-use point_lines::point_line;
-use points::Name;
+use points::{Name, point_line};
 use std::alloc::Global;
 use std::io::{self, BufReader, Read, Write};
 use store::Store;
+use store_memory::MemStore;
 
 /// Runs the deliveries of a list over the building of a file, in memory: prints each reply as a line,
 /// and then the POINT line of each point in file order. Empty lines are passed over, also with a CR.
 ///
 /// Where `until` is a moment, in hundredths of a second since 1970-01-01T00:00:00Z, the list ends before its first line
-/// that tells a tick later than it, whatever is wrong with that tick: that line and those after it are not answered, and the
-/// points are as the lines before it leave them.
+/// that has a tick later than it, whatever is wrong with that tick: that line and those after it are not answered, and
+/// the points are as the lines before it leave them.
 ///
-/// The building is read, and refused, before the list is opened. A fault is told on `fault` as one line,
+/// The building is read, and refused, before the list is opened. A fault is printed to `fault` as one line,
 /// in one write, and ends the run: the replies before it stand, and no POINT line follows a line that
-/// tells no delivery. A line of an import whose holiday list is at fault is answered with its refusal, and
+/// is no delivery. A line of an import whose holiday list is at fault is answered with its refusal, and
 /// nothing is delivered. Whatever the end, nothing else is printed: a beginning of what the first lines are
 /// answered, or of all answers and the points. `out` is flushed where no further line is at hand, and at the
-/// end of the run, whatever it was; if that loses output, this is the fault that is told.
+/// end of the run, whatever it was; if that loses output, this is the fault that is reported.
 pub fn replay<B: Read + Drop, D: Read + Drop, O, W: Write, F: Write>(
     alloc: Global,
     file: Input<'_, B>,
@@ -96,7 +95,7 @@ where
     print_list(alloc, &mut desk, deliveries, until, out)
 }
 
-/// Answers each line of the list, and then tells the points. The desk is lent, so that no exit here drops one: at the
+/// Answers each line of the list, and then prints the points. The desk is lent, so that no exit here drops one: at the
 /// type of one store that is dear to prove.
 fn print_list<'a, S: Store + Drop, D: Read + Drop, O, W: Write>(
     alloc: Global,
@@ -241,8 +240,8 @@ fn print_points<'a, S: Store + Drop, W: Write>(
     ensures honest { (S.standing desk.new.store).is_honest → (S.standing desk.old.store).is_honest }
 {
     let count = desk.building().points().len();
-    for place in 0..count {
-        let name = desk.building().points()[place].name;
+    for index in 0..count {
+        let name = desk.building().points()[index].name;
         let text = point_text(alloc, desk, &name)?;
         print_text(out, text.as_bytes())?;
     }

@@ -4,17 +4,17 @@ ghost use Rattle.std.specs.Prelude.{◌≡◌, List, ℕ, OnOk, Some};
 ghost use Rattle.std.specs.List.{flat_map};
 ghost use Rattle.std.specs.Io.Buffered.{reader_remaining};
 ghost use Rattle.std.specs.Io.KnownBytes.{Appends, Keeps};
-ghost use Rattle.desk_console.specs.Input.{bytes_of};
-ghost use Rattle.desk_console.specs.Printed.{AppendsStart};
-ghost use Rattle.delivery_lines.specs.DeliveryText.{delivery_line};
+ghost use Rattle.cli_common.specs.Input.{bytes_of};
+ghost use Rattle.points.specs.Beginnings.{AppendsStart};
+ghost use Rattle.delivery_json.specs.DeliveryText.{delivery_line};
 ghost use Rattle.desk_cli.specs.Replay.{Opens};
 ghost use Rattle.desk_cli.specs.Straighten.{Straightens, StraightensNoMore};
 
 use crate::list_reading::list_deliveries;
 use building::Building;
+use cli_common::{Input, Listed, RunFault, Status, flush, print_text, read_building};
 use deliveries::Delivery;
-use delivery_lines::line_of_delivery;
-use desk_console::{Input, Listed, RunFault, Status, flush, print_text, read_building};
+use delivery_json::line_of_delivery;
 use std::alloc::Global;
 use std::io::{self, BufReader, Read, Write};
 
@@ -23,9 +23,9 @@ use std::io::{self, BufReader, Read, Write};
 ///
 /// The building is read, and refused, before the list is opened, and the whole list is read before anything is printed.
 /// A fault is one line on `fault`, in one write, and ends the run: a file that can't be read or is no building, a line
-/// that is no delivery, want of memory, or an output that fails. By then nothing is printed, or, where the straight list
-/// was known before want of memory or the output ended the run, a beginning of it. `out` is flushed at the end of the
-/// run, whatever it was; if that loses output, this is the fault.
+/// that is no delivery, lack of memory, or an output that fails. By then nothing is printed, or, where the straight
+/// list was known before lack of memory or the output ended the run, a beginning of it. `out` is flushed at the end of
+/// the run, whatever it was; if that loses output, this is the fault.
 pub fn straighten<B: Read + Drop, D: Read + Drop, O, W: Write, F: Write>(
     alloc: Global,
     file: Input<'_, B>,

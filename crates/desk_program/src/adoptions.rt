@@ -1,16 +1,16 @@
 //! The run that makes a database for a building that changed.
-use desk_adopt::{MakeFault, Paths, adopt_database, finish};
-use desk_console::{Input, Status};
-use desk_database::{DeskStore, close_store, find_store, open_store};
-use mem_store::MemStore;
+use cli_adopt::{MakeFault, Paths, adopt_database, finish};
+use cli_common::{Input, Status};
 use std::alloc::AllocError;
 use std::fs::{self, File};
 use std::io::{self, BufWriter, ErrorKind, Read, Write};
 use store::{OpenFault, Store, StoreFault};
+use store_file::{DeskStore, close_store, find_store, open_store};
+use store_memory::MemStore;
 
-/// What is asked of an adoption.
+/// What an adoption is to do.
 #[derive(Clone, Copy)]
-pub struct Asked<'a> {
+pub struct Adoption<'a> {
     /// The path of the building file.
     pub file: &'a str,
     /// The path of the database, which is only read.
@@ -23,8 +23,8 @@ pub struct Asked<'a> {
     pub dry_run: bool,
 }
 
-/// Where an adoption finds its earlier store, and what becomes of the one that it makes. One type for all of it, since a
-/// call that names the types of several stores and closures is dear to prove.
+/// Where an adoption finds its earlier store, and what becomes of the one that it makes. One type for all of it, since
+/// a call that names the types of several stores and closures is dear to prove.
 trait Databases {
     type Earlier: Store + Drop;
 
@@ -71,8 +71,8 @@ where
     }
 }
 
-/// The same where both stores are of one type. That `InFiles` is such a pair can be proved; that it is one of two types, of
-/// which each is that of a real store, takes more steps than the prover gives one declaration.
+/// The same where both stores are of one type. That `InFiles` is such a pair can be proved; that it is one of two
+/// types, of which each is that of a real store, takes more steps than the prover gives one declaration.
 trait Pair {
     type Held: Store + Drop;
 
@@ -225,16 +225,16 @@ fn give_up(rt: &HostRuntime, part: &str) {
     let _part = fs::remove_file(rt, part);
 }
 
-/// Makes the database that is asked for, or prints what would be made. It is an error where memory for a path or for the
-/// output's buffer is refused.
-pub fn run(rt: &HostRuntime, asked: Asked<'_>) -> io::Result<Status> {
-    if asked.dry_run {
-        return run_in_memory(rt, asked);
+/// Makes the database that is asked for, or prints what would be made. It is an error where memory for a path or for
+/// the output's buffer is refused.
+pub fn run(rt: &HostRuntime, adoption: Adoption<'_>) -> io::Result<Status> {
+    if adoption.dry_run {
+        return run_in_memory(rt, adoption);
     }
-    let part = format!(in rt.alloc(); "{}.part", asked.made)?;
+    let part = format!(in rt.alloc(); "{}.part", adoption.made)?;
     let part = part.as_str();
-    let claimed = claim(rt, asked.made, part);
-    let status = run_in_files(rt, asked, part, claimed);
+    let claimed = claim(rt, adoption.made, part);
+    let status = run_in_files(rt, adoption, part, claimed);
     if claimed.is_ok() && !is_done(&status) {
         give_up(rt, part);
     }
@@ -242,34 +242,38 @@ pub fn run(rt: &HostRuntime, asked: Asked<'_>) -> io::Result<Status> {
 }
 
 /// The run whose tables are made in memory alone.
-fn run_in_memory(rt: &HostRuntime, asked: Asked<'_>) -> io::Result<Status> {
+fn run_in_memory(rt: &HostRuntime, adoption: Adoption<'_>) -> io::Result<Status> {
     let databases = InMemory {
         rt,
-        database: asked.database,
-        claimed: find_free(rt, asked.made),
+        database: adoption.database,
+        claimed: find_free(rt, adoption.made),
     };
-    run_in(rt, asked, &databases)
+    run_in(rt, adoption, &databases)
 }
 
 /// The run that makes its database at `part`, a file of its own if that could be claimed.
 fn run_in_files(
     rt: &HostRuntime,
-    asked: Asked<'_>,
+    adoption: Adoption<'_>,
     part: &str,
     claimed: Result<(), MakeFault>,
 ) -> io::Result<Status> {
     let pair = InFiles {
         rt,
-        database: asked.database,
-        made: asked.made,
+        database: adoption.database,
+        made: adoption.made,
         part,
         claimed,
     };
-    run_in_pair(rt, asked, pair)
+    run_in_pair(rt, adoption, pair)
 }
 
-fn run_in_pair<P: Pair + Drop>(rt: &HostRuntime, asked: Asked<'_>, pair: P) -> io::Result<Status> {
-    run_in(rt, asked, &Paired { pair })
+fn run_in_pair<P: Pair + Drop>(
+    rt: &HostRuntime,
+    adoption: Adoption<'_>,
+    pair: P,
+) -> io::Result<Status> {
+    run_in(rt, adoption, &Paired { pair })
 }
 
 fn is_done(status: &io::Result<Status>) -> bool {
@@ -280,33 +284,44 @@ fn is_done(status: &io::Result<Status>) -> bool {
 }
 
 /// The run over the building's file and the standard streams.
-fn run_in<D: Databases>(rt: &HostRuntime, asked: Asked<'_>, databases: &D) -> io::Result<Status> {
+fn run_in<D: Databases>(
+    rt: &HostRuntime,
+    adoption: Adoption<'_>,
+    databases: &D,
+) -> io::Result<Status> {
     let mut out = BufWriter::new(rt.alloc(), io::writer(rt))?;
     let building = Input {
-        path: asked.file,
-        reader: fs::open(rt, asked.file),
+        path: adoption.file,
+        reader: fs::open(rt, adoption.file),
     };
-    Ok(run_over(rt, building, asked, databases, &mut out, &mut rt.stderr()))
+    Ok(run_over(
+        rt,
+        building,
+        adoption,
+        databases,
+        &mut out,
+        &mut rt.stderr(),
+    ))
 }
 
 fn run_over<'a, B: Read + Drop, D: Databases, W: Write, F: Write>(
     rt: &HostRuntime,
     building: Input<'a, B>,
-    asked: Asked<'a>,
+    adoption: Adoption<'a>,
     databases: &D,
     out: &mut W,
     fault: &mut F,
 ) -> Status {
     let paths = Paths {
-        database: asked.database,
-        made: asked.made,
+        database: adoption.database,
+        made: adoption.made,
     };
     let finder = || databases.find();
     let maker = || databases.make();
     let adopted = adopt_database(
         rt.alloc(),
         building,
-        asked.renamings,
+        adoption.renamings,
         paths,
         finder,
         maker,
@@ -315,5 +330,5 @@ fn run_over<'a, B: Read + Drop, D: Databases, W: Write, F: Write>(
     );
     let closer = |made| databases.close(made);
     let placer = || databases.place();
-    finish(rt.alloc(), adopted, asked.made, closer, placer, fault)
+    finish(rt.alloc(), adopted, adoption.made, closer, placer, fault)
 }

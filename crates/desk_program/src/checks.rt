@@ -1,11 +1,11 @@
 //! The check of a building file and a database beside it, and of a record beside both.
-use desk_check::{Detail, check_database};
-use desk_console::{Input, Listed, Status};
-use desk_database::find_store;
-use record_check::check_record;
+use cli_check::{Detail, check_database};
+use cli_common::{Input, Listed, Status};
+use cli_record::check_record;
 use std::fs;
 use std::io::{self, BufReader, BufWriter, ErrorKind, Read, Write};
 use store::{OpenFault, Store};
+use store_file::find_store;
 
 /// Whether there is no file at a path, or an empty one.
 fn is_nothing_at(rt: &HostRuntime, path: &str) -> bool {
@@ -51,8 +51,8 @@ pub fn run<'a>(
     ))
 }
 
-/// The same over the file and the store that is found. It is generic over them, since a call that names their types is dear
-/// to prove.
+/// The same over the file and the store that is found. It is generic over them, since a call that names their types is
+/// dear to prove.
 fn run_over<'a, B: Read + Drop, S: Store + Drop, O, W: Write, F: Write>(
     rt: &HostRuntime,
     building: Input<'a, B>,
@@ -79,8 +79,8 @@ where
     check_database(rt.alloc(), building, detail, database, finder, out, fault).status
 }
 
-/// Compares the tables in the database of a path with those that the record of another leaves in a building. It is an error
-/// where memory for the output's buffer is refused.
+/// Compares the tables in the database of a path with those that the record of another leaves in a building. It is an
+/// error where memory for the output's buffer is refused.
 pub fn run_record<'a>(
     rt: &HostRuntime,
     file: &'a str,

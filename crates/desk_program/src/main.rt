@@ -1,18 +1,18 @@
 //! The program `desk`: hands the words, the files and the standard streams to the libraries that do the work.
 #![tactic(auto)]
 
-use crate::runs::Asked;
-use command_line::{ArgFault, Line};
-use desk_check::{Detail, check};
+use crate::runs::DatabaseRun;
+use cli_check::{Detail, check};
+use cli_common::{Input, Listed, Status};
+use cli_store::Serving;
+use cli_why::why;
+use cli_words::{ArgFault, Line};
 use desk_cli::{describe, replay, straighten};
-use desk_console::{Input, Listed, Status};
-use desk_why::why;
 use std::env;
 use std::fs::{self, File};
 use std::io::{self, BufReader, BufWriter, Write};
 use std::os::fd::AsRawFd;
 use std::process::ExitCode;
-use store_runs::Serving;
 
 mod adoptions;
 mod checks;
@@ -93,7 +93,7 @@ fn run_record(
     match database {
         Some(database) => checks::run_record(rt, file, database, record),
         None => {
-            let _told = eprintln!(rt; "desk: --record is for a database");
+            let _printed = eprintln!(rt; "desk: --record is for a database");
             Ok(Status::Words)
         }
     }
@@ -158,9 +158,9 @@ fn run_straighten(rt: &HostRuntime, file: &str, deliveries: &str) -> io::Result<
     Ok(straighten(alloc, building, list, &mut out, &mut rt.stderr()))
 }
 
-/// The status of words that ask nothing, once their text is told.
+/// The status of words that ask nothing, once their text is printed.
 fn refuse(rt: &HostRuntime, fault: &ArgFault) -> Status {
-    let _told = write!(rt.stderr(), "{fault}");
+    let _printed = write!(rt.stderr(), "{fault}");
     match fault {
         ArgFault::Words(_) => Status::Words,
         ArgFault::NoMemory => Status::Store,
@@ -171,11 +171,11 @@ fn refuse(rt: &HostRuntime, fault: &ArgFault) -> Status {
 fn refuse_unread(rt: &HostRuntime, error: &io::Error) -> Status {
     match error.kind() {
         io::ErrorKind::OutOfMemory => {
-            let _told = eprintln!(rt; "desk: out of memory");
+            let _printed = eprintln!(rt; "desk: out of memory");
             Status::Store
         }
         _ => {
-            let _told = eprintln!(rt; "desk: a word of the command line is not UTF-8");
+            let _printed = eprintln!(rt; "desk: a word of the command line is not UTF-8");
             Status::Words
         }
     }
@@ -192,14 +192,14 @@ fn run(rt: &HostRuntime, words: &[String]) -> io::Result<Status> {
                 dry_run,
             },
         ) => {
-            let asked = adoptions::Asked {
+            let adoption = adoptions::Adoption {
                 file,
                 database,
                 made,
                 renamings: renamings.as_slice(),
                 dry_run,
             };
-            adoptions::run(rt, asked)
+            adoptions::run(rt, adoption)
         }
         Ok(
             Line::Check {
@@ -243,7 +243,13 @@ fn run(rt: &HostRuntime, words: &[String]) -> io::Result<Status> {
                 holidays,
                 record,
             },
-        ) => runs::run(rt, file, database, record, &Asked::Import { holidays }),
+        ) => runs::run(
+            rt,
+            file,
+            database,
+            record,
+            &DatabaseRun::Import { holidays },
+        ),
         Ok(
             Line::Tick {
                 file,
@@ -251,14 +257,14 @@ fn run(rt: &HostRuntime, words: &[String]) -> io::Result<Status> {
                 at,
                 record,
             },
-        ) => { runs::run(rt, file, database, record, &Asked::Tick { at }) }
+        ) => { runs::run(rt, file, database, record, &DatabaseRun::Tick { at }) }
         Ok(
             Line::Report {
                 file,
                 database,
                 date,
             },
-        ) => runs::run(rt, file, database, None, &Asked::Report { date }),
+        ) => runs::run(rt, file, database, None, &DatabaseRun::Report { date }),
         Ok(
             Line::Serve {
                 file,
@@ -274,7 +280,7 @@ fn run(rt: &HostRuntime, words: &[String]) -> io::Result<Status> {
                 requests,
                 clock,
             };
-            runs::run(rt, file, database, record, &Asked::Serve(serving))
+            runs::run(rt, file, database, record, &DatabaseRun::Serve(serving))
         }
         Err(fault) => Ok(refuse(rt, &fault)),
     }
@@ -291,7 +297,7 @@ fn status(rt: &HostRuntime) -> io::Result<Status> {
     match take_standard_descriptors(rt) {
         Ok(_held) => run_words(rt),
         Err(_) => {
-            let _told = eprintln!(rt; "desk: cannot read /dev/null");
+            let _printed = eprintln!(rt; "desk: cannot read /dev/null");
             Ok(Status::Fault)
         }
     }
@@ -301,7 +307,7 @@ fn main(rt: HostRuntime) -> ExitCode {
     let status = match status(&rt) {
         Ok(status) => status,
         Err(_) => {
-            let _told = eprintln!(rt; "desk: out of memory");
+            let _printed = eprintln!(rt; "desk: out of memory");
             Status::Store
         }
     };

@@ -1,17 +1,17 @@
 //! The runs of the subcommands that take a database.
-use desk_console::{Input, Status};
-use desk_database::{close_store, open_record, open_store};
+use cli_common::{Input, Status};
+use cli_store::{Ended, Recording, Serving, finish, import, report, serve, tick};
 use sqlite_disk::Disk;
 use std::alloc::Global;
 use std::fs;
 use std::io::{self, BufWriter, Read, Write};
 use store::{OpenFault, Store, StoreFault};
+use store_file::{close_store, open_record, open_store};
 use store_remembered::Remembered;
-use store_runs::{Ended, Recording, Serving, finish, import, report, serve, tick};
 
-/// What is asked of the desk over a database.
+/// What a run over a database does.
 #[derive(Clone, Copy)]
-pub enum Asked<'a> {
+pub enum DatabaseRun<'a> {
     /// The import of the holiday list of this path: `desk import`.
     Import { holidays: &'a str },
     /// A tick at this moment, in hundredths of a second since 1970: `desk tick`.
@@ -22,14 +22,14 @@ pub enum Asked<'a> {
     Serve(Serving<'a>),
 }
 
-/// Runs what is asked over the building and the database of these paths, and writes each delivery down in the record of a
+/// Makes a run over the building and the database of these paths, and writes each delivery down in the record of a
 /// path, if there is one. It is an error where memory for the output's buffer is refused.
 pub fn run<'a>(
     rt: &HostRuntime,
     file: &'a str,
     database: &str,
     record: Option<&'a str>,
-    asked: &Asked<'a>,
+    run: &DatabaseRun<'a>,
 ) -> io::Result<Status> {
     let mut out = BufWriter::new(rt.alloc(), io::writer(rt))?;
     let input_of = |path| Input {
@@ -38,7 +38,7 @@ pub fn run<'a>(
     };
     let opener = || open_store(rt, database);
     let fault = &mut rt.stderr();
-    let ended = run_remembered(rt, file, input_of, opener, record, asked, &mut out, fault);
+    let ended = run_remembered(rt, file, input_of, opener, record, run, &mut out, fault);
     Ok(finish(rt.alloc(), ended, close_store, fault))
 }
 
@@ -63,7 +63,7 @@ fn run_remembered<'a, B: Read + Drop, S: Store + Drop, I, O, W: Write, F: Write>
     input_of: I,
     opener: O,
     record: Option<&'a str>,
-    asked: &Asked<'a>,
+    run: &DatabaseRun<'a>,
     out: &mut W,
     fault: &mut F,
 ) -> Ended<S>
@@ -75,7 +75,7 @@ where
 {
     let alloc = rt.alloc();
     let opener = move || remembered(alloc, opener);
-    below_of(run_kept(rt, file, input_of, opener, record, asked, out, fault))
+    below_of(run_kept(rt, file, input_of, opener, record, run, out, fault))
 }
 
 /// The same end, with the store below the one that remembers.
@@ -88,15 +88,15 @@ fn below_of<S: Store + Drop>(ended: Ended<Remembered<S>>) -> Ended<S> {
     Ended { status, store }
 }
 
-/// The same over the files and the store that these calls open, and over the real file of the record. A call that names the
-/// types of both a real store and a real record takes more steps than the prover gives one declaration.
+/// The same over the files and the store that these calls open, and over the real file of the record. A call that names
+/// the types of both a real store and a real record takes more steps than the prover gives one declaration.
 fn run_kept<'a, B: Read + Drop, S: Store + Drop, I, O, W: Write, F: Write>(
     rt: &HostRuntime,
     file: &'a str,
     input_of: I,
     opener: O,
     record: Option<&'a str>,
-    asked: &Asked<'a>,
+    run: &DatabaseRun<'a>,
     out: &mut W,
     fault: &mut F,
 ) -> Ended<S>
@@ -110,10 +110,10 @@ where
         path: record,
         opener: || open_record(rt, record.unwrap_or("")),
     };
-    run_over(rt, file, input_of, opener, recording, asked, out, fault)
+    run_over(rt, file, input_of, opener, recording, run, out, fault)
 }
 
-/// Runs what is asked over the files, the store and the record that these calls open. It is generic over them, since a call
+/// Makes a run over the files, the store and the record that these calls open. It is generic over them, since a call
 /// that names their types is dear to prove.
 fn run_over<'a, B: Read + Drop, S: Store + Drop, D: Disk + Drop, I, O, Q, W: Write, F: Write>(
     rt: &HostRuntime,
@@ -121,7 +121,7 @@ fn run_over<'a, B: Read + Drop, S: Store + Drop, D: Disk + Drop, I, O, Q, W: Wri
     input_of: I,
     opener: O,
     recording: Recording<'a, Q>,
-    asked: &Asked<'a>,
+    run: &DatabaseRun<'a>,
     out: &mut W,
     fault: &mut F,
 ) -> Ended<S>
@@ -135,8 +135,8 @@ where
     requires records { Q.IsAlwaysCallable recording.opener }
 {
     let alloc = rt.alloc();
-    match asked {
-        Asked::Import { holidays } => {
+    match run {
+        DatabaseRun::Import { holidays } => {
             import(
                 alloc,
                 input_of(file),
@@ -148,10 +148,18 @@ where
             )
             .into_ended()
         }
-        Asked::Tick { at } => {
+        DatabaseRun::Tick { at } => {
             tick(alloc, input_of(file), opener, recording, *at, out, fault).into_ended()
         }
-        Asked::Report { date } => report(alloc, input_of(file), opener, date, out, fault),
-        Asked::Serve(serving) => serve(rt, input_of(file), opener, recording, serving, out, fault),
+        DatabaseRun::Report { date } => report(alloc, input_of(file), opener, date, out, fault),
+        DatabaseRun::Serve(serving) => serve(
+            rt,
+            input_of(file),
+            opener,
+            recording,
+            serving,
+            out,
+            fault,
+        ),
     }
 }

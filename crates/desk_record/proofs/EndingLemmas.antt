@@ -7,7 +7,8 @@ use Rattle.building.specs.Building.{Building}
 use Rattle.deliveries.specs.declared.delivery.Delivery.{Delivery}
 use Rattle.deliveries.specs.Tables.{tables}
 use Rattle.desk_record.specs.LastLine.{TellsLast}
-use Rattle.desk_record.specs.Lines.{IsLine, IsWhole, whole_lines}
+use Rattle.desk_record.specs.Lines.{IsWhole, whole_lines}
+use Rattle.delivery_json.specs.LineEnds.{IsLine}
 use Rattle.desk_record.specs.Recorded.{Follows, HasTables, IsBehind, IsLineOf, listed}
 use Rattle.desk_record.specs.Resuming.{IsMended, KeepsLines}
 use Rattle.desk_record.specs.Torn.{IsTorn}
@@ -107,14 +108,14 @@ module _ (b : Building) (file : List ℕ) (whole : ℕ) (d : Delivery) (old new 
       → ((earlier : List Delivery) → IsBehind b (earlier ++ d ∷ []) old → HasTables b (earlier ++ d ∷ []) new)
       → IsBehind b (listed b file) old → HasTables b (listed b file) new
   has-last delivery is tells made behind =
-      let (before, line, after, all, size, first, told, none) = subst (TellsLast b file whole) is tells in
-      let lists = listed-last b file before line after d all first told none.0 in
+      let (before, line, after, all, size, first, reported, none) = subst (TellsLast b file whole) is tells in
+      let lists = listed-last b file before line after d all first reported none.0 in
       subst (λ list. HasTables b list new) (sym lists) (made (listed b before) (subst (λ list. IsBehind b list old) lists behind))
 
   pub stays-behind : (delivery : Option Delivery) → delivery ≡ Some d → TellsLast b file whole delivery
       → ((earlier : List Delivery) → IsBehind b (earlier ++ d ∷ []) old → IsBehind b (earlier ++ d ∷ []) new)
       → IsBehind b (listed b file) old → IsBehind b (listed b file) new
   stays-behind delivery is tells kept behind =
-      let (before, line, after, all, size, first, told, none) = subst (TellsLast b file whole) is tells in
-      let lists = listed-last b file before line after d all first told none.0 in
+      let (before, line, after, all, size, first, reported, none) = subst (TellsLast b file whole) is tells in
+      let lists = listed-last b file before line after d all first reported none.0 in
       subst (λ list. IsBehind b list new) (sym lists) (kept (listed b before) (subst (λ list. IsBehind b list old) lists behind))

@@ -8,7 +8,7 @@ use Rattle.deliveries.specs.declared.delivery.Delivery.{Delivery}
 use Rattle.deliveries.specs.declared.reply.Reply.{Reply}
 use Rattle.deliveries.specs.Delivered.{Delivers, Holds}
 use Rattle.deliveries.specs.Tables.{tables}
-use Rattle.delivery_lines.specs.DeliveryLine.{told_of}
+use Rattle.delivery_json.specs.DeliveryLine.{parse_line}
 use Rattle.desk_record.specs.Lines.{IsBetween, IsWhole, whole_lines}
 use Rattle.desk_record.specs.Recorded.{AreLevel, Follows, HasTables, InStep, IsLineOf, deliveries_in, listed}
 use Rattle.desk_record.specs.declared.recorder.RecordFault.{RecordFault}
@@ -24,7 +24,7 @@ use Rattle.store.proofs.ReadLemmas.{stays_open, was_open}
 -- ---- what is listed
 
 abbrev listed_in : Building → List (List ℕ) → List Delivery
-listed_in building lines = flat_map (λ line. deliveries_in (told_of building line)) lines
+listed_in building lines = flat_map (λ line. deliveries_in (parse_line building line)) lines
 
 pub listed-same : (b : Building) (bytes more : List ℕ) → whole_lines more ≡ whole_lines bytes → listed b more ≡ listed b bytes
 unfolding listed
@@ -35,8 +35,8 @@ pub listed-more : (b : Building) (d : Delivery) (bytes line more : List ℕ) →
 unfolding listed
 listed-more b d bytes line more is same =
     ap (listed_in b) same
-    ∙ flat_map-append (λ line. deliveries_in (told_of b line)) (whole_lines bytes) (line ∷ [])
-    ∙ ap (λ told. listed_in b (whole_lines bytes) ++ (deliveries_in told ++ [])) is.tells
+    ∙ flat_map-append (λ line. deliveries_in (parse_line b line)) (whole_lines bytes) (line ∷ [])
+    ∙ ap (λ reported. listed_in b (whole_lines bytes) ++ (deliveries_in reported ++ [])) is.tells
 
 pub listed-put : (b : Building) (d : Delivery) (bytes line : List ℕ) → IsWhole bytes → IsLineOf b d line
     → listed b (bytes ++ (line ++ 10 ∷ [])) ≡ listed b bytes ++ d ∷ []

@@ -1,31 +1,17 @@
 -- The last line of bytes, and of a file that they end.
-use Rattle.std.proofs.Common.{◌≡◌, ℕ, ◌+◌, ◌==◌, false, List, [], ◌∷◌, ◌++◌, length, take, drop, ◌-◌, Option, Some, None, refl, sym, ap, ◌∙◌, subst, append_assoc, arith, inl, inr, length-append}
+use Rattle.std.proofs.Common.{◌≡◌, ℕ, ◌+◌, ◌==◌, List, [], ◌∷◌, ◌++◌, length, take, drop, ◌-◌, Some, None, refl, sym, ap, ◌∙◌, subst, append_assoc, arith, inl, inr, length-append}
 use Rattle.std.proofs.lemmas.List.{append-nil, length-drop, take_all}
-use Rattle.std.proofs.lemmas.List.Folds.{list_any-append}
 use Rattle.std.specs.Bool.{IsTrue}
 use Rattle.std.proofs.Math.Seq.{drop-append_seam, take-append_seam}
 use Rattle.building.specs.Building.{Building}
 use Rattle.deliveries.specs.declared.delivery.Delivery.{Delivery}
-use Rattle.delivery_lines.specs.declared.told.Told.TheVariants as told
-use Rattle.delivery_lines.specs.DeliveryLine.{told_of}
+use Rattle.delivery_json.specs.declared.parsed_line.ParsedLine.TheVariants as parsed
+use Rattle.delivery_json.specs.DeliveryLine.{parse_line}
 use Rattle.desk_record.specs.declared.last_line.LastLine.{LastLine}
-use Rattle.desk_record.specs.LastLine.{HasLastLine, IsLastEnd, IsWholeBehind, TellsLast}
-use Rattle.desk_record.specs.Lines.{IsLine, IsWhole}
+use Rattle.desk_record.specs.LastLine.{HasLastLine, IsWholeBehind, TellsLast}
+use Rattle.delivery_json.specs.LineEnds.{IsLastEnd, IsLine}
+use Rattle.desk_record.specs.Lines.{IsWhole}
 use Rattle.desk_record.specs.Torn.{IsTorn, may_be_torn}
-
-IsLine-push : (bytes : List ℕ) (byte : ℕ) → IsLine bytes → (byte == 10) ≡ false → IsLine (bytes ++ byte ∷ [])
-IsLine-push bytes byte none other =
-    list_any-append (λ b. b == 10) bytes (byte ∷ []) ∙ rw (none, other) refl
-
--- a byte more that is a line end, or none
-pub last-here : (bytes : List ℕ) (byte place : ℕ) → byte ≡ 10 → length bytes ≡ place → IsLastEnd (Some place) (bytes ++ byte ∷ [])
-last-here bytes byte place is size = (bytes, [], ap (λ b. bytes ++ b ∷ []) is, size, refl)
-
-pub last-stays : (last : Option ℕ) (bytes : List ℕ) (byte : ℕ) → (byte == 10) ≡ false → IsLastEnd last bytes
-    → IsLastEnd last (bytes ++ byte ∷ [])
-last-stays None bytes byte other none = IsLine-push bytes byte none other
-last-stays (Some place) bytes byte other (before, after, is, size, none) =
-    (before, after ++ byte ∷ [], ap (λ b. b ++ byte ∷ []) is ∙ append_assoc before (10 ∷ after) (byte ∷ []), size, IsLine-push after byte none other)
 
 -- what stands before the last line end
 front-of : (bytes before after : List ℕ) (end : ℕ) → bytes ≡ before ++ 10 ∷ after → length before ≡ end → take end bytes ≡ before
@@ -94,7 +80,7 @@ after-of bytes before line after end is size =
 
 pub tells-last : (b : Building) (d : Delivery) (from : ℕ) (bytes : List ℕ) (last : LastLine) → HasLastLine from bytes (Some last)
     → IsTrue (may_be_torn (take (length bytes - (last.end + 1)) (drop (last.end + 1) bytes)))
-    → told_of b (take (last.end - last.start) (drop last.start bytes)) ≡ Some (told.Delivery d)
+    → parse_line b (take (last.end - last.start) (drop last.start bytes)) ≡ Some (parsed.Delivery d)
     → (file front : List ℕ) → file ≡ front ++ bytes → length front ≡ from → TellsLast b file (from + last.end + 1) (Some d)
 tells-last b d from bytes last (before, line, after, is, start, end, whole, one, none) torn tells file front joined size =
     let same = line-of bytes before line after last.start last.end is start end in (
@@ -104,7 +90,7 @@ tells-last b d from bytes last (before, line, after, is, start, end, whole, one,
       joined ∙ ap (λ rest. front ++ rest) is ∙ sym (append_assoc front before (line ++ 10 ∷ after)),
       sized,
       IsWhole-behind from front before size whole,
-      record { one = one; tells = subst (λ text. told_of b text ≡ Some (told.Delivery d)) same tells },
+      record { one = one; tells = subst (λ text. parse_line b text ≡ Some (parsed.Delivery d)) same tells },
       (none, subst (λ rest. IsTrue (may_be_torn rest)) (after-of bytes before line after last.end is end) torn),
     )
   where

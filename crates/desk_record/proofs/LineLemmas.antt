@@ -5,7 +5,8 @@ use Rattle.std.specs.List.{list_any}
 use Rattle.std.proofs.lemmas.Bool.{cases_Bool, false≢true}
 use Rattle.std.proofs.lemmas.List.{append-nil}
 use Rattle.std.proofs.Math.Seq.{take-append-add}
-use Rattle.desk_record.specs.Lines.{IsBetween, IsLine, IsWhole, whole_lines, with_first}
+use Rattle.desk_record.specs.Lines.{IsBetween, IsWhole, whole_lines, with_first}
+use Rattle.delivery_json.specs.LineEnds.{IsLine}
 
 -- ---- bytes behind whole lines
 

@@ -8,7 +8,7 @@ use Rattle.std.proofs.lemmas.List.{take-append-drop, take-append-le}
 use Rattle.std.proofs.lemmas.Slice.Eq.{starts_is}
 use Rattle.std.proofs.Math.Seq.{take-append-add}
 use Rattle.deliveries.specs.declared.delivery.Delivery.TheVariants.{Command, Import, Skip, Tick}
-use Rattle.delivery_lines.specs.DeliveryText.{command_line, delivery_line}
+use Rattle.delivery_json.specs.DeliveryText.{command_line, delivery_line}
 use Rattle.points.specs.declared.content.Content.{Content}
 use Rattle.desk_record.specs.Torn.{EachBeginningMayBeTorn, begin_alike, may_be_torn}
 

@@ -3,15 +3,10 @@ use Rattle.std.specs.Prelude.{◌≡◌, ◌⊎◌, ℕ, List, [], ◌∷◌, �
 use Rattle.building.specs.Building.{Building}
 use Rattle.deliveries.specs.declared.delivery.Delivery.{Delivery}
 use Rattle.desk_record.specs.declared.last_line.LastLine.{LastLine}
-use Rattle.desk_record.specs.Lines.{IsLine, IsWhole}
+use Rattle.desk_record.specs.Lines.{IsWhole}
+use Rattle.delivery_json.specs.LineEnds.{IsLine}
 use Rattle.desk_record.specs.Recorded.{IsLineOf}
 use Rattle.desk_record.specs.Torn.{IsTorn}
-
--- where the last line end of bytes stands
-abbrev pub IsLastEnd : Option ℕ → List ℕ → Type 0
-IsLastEnd None bytes = IsLine bytes
-IsLastEnd (Some place) bytes =
-    (before : List ℕ) × (after : List ℕ) × (bytes ≡ before ++ 10 ∷ after) × (length before ≡ place) × IsLine after
 
 -- bytes behind so many others: whole lines, where they begin the file or end with a line end
 abbrev pub IsWholeBehind : ℕ → List ℕ → Type 0

@@ -1,6 +1,5 @@
 -- The whole lines of bytes.
-use Rattle.std.specs.Prelude.{◌≡◌, ◌⊎◌, ℕ, ◌≤◌, ◌==◌, false, if◌then◌else◌, List, [], ◌∷◌, ◌++◌, length, take}
-use Rattle.std.specs.List.{list_any}
+use Rattle.std.specs.Prelude.{◌≡◌, ◌⊎◌, ℕ, ◌≤◌, ◌==◌, if◌then◌else◌, List, [], ◌∷◌, ◌++◌, length, take}
 
 -- one byte more before the first of some lines; where there is no line, it stands in none
 abbrev pub with_first : ℕ → List (List ℕ) → List (List ℕ)
@@ -15,10 +14,6 @@ whole_lines (byte ∷ bytes) = if byte == 10 then [] ∷ whole_lines bytes else 
 -- bytes that are whole lines and nothing else
 abbrev pub IsWhole : List ℕ → Type 0
 IsWhole bytes = (bytes ≡ []) ⊎ ((before : List ℕ) × (bytes ≡ before ++ 10 ∷ []))
-
--- bytes without a line end
-abbrev pub IsLine : List ℕ → Type 0
-IsLine bytes = list_any (λ byte. byte == 10) bytes ≡ false
 
 -- one of two lists of bytes, the first of which begins the second, or some that are between
 abbrev pub IsBetween : List ℕ → List ℕ → List ℕ → Type 0

@@ -5,27 +5,28 @@ use Rattle.building.specs.Building.{Building}
 use Rattle.deliveries.specs.declared.delivery.Delivery.{Delivery}
 use Rattle.deliveries.specs.Delivered.{Holds}
 use Rattle.deliveries.specs.Tables.{tables}
-use Rattle.delivery_lines.specs.declared.told.Told.{Told}
-use Rattle.delivery_lines.specs.declared.told.Told.TheVariants as told
-use Rattle.delivery_lines.specs.DeliveryLine.{told_of}
-use Rattle.desk_record.specs.Lines.{IsLine, IsWhole, whole_lines}
+use Rattle.delivery_json.specs.declared.parsed_line.ParsedLine.{ParsedLine}
+use Rattle.delivery_json.specs.declared.parsed_line.ParsedLine.TheVariants as parsed
+use Rattle.delivery_json.specs.DeliveryLine.{parse_line}
+use Rattle.desk_record.specs.Lines.{IsWhole, whole_lines}
+use Rattle.delivery_json.specs.LineEnds.{IsLine}
 use Rattle.desk_record.specs.RecordStanding.{IsOnDisk, RecordStanding}
 use Rattle.store.specs.Standing.{Content, Standing, sound}
 
 -- the delivery that a line tells, or none
-abbrev pub deliveries_in : Option Told → List Delivery
+abbrev pub deliveries_in : Option ParsedLine → List Delivery
 deliveries_in None = []
-deliveries_in (Some (told.Delivery delivery)) = delivery ∷ []
-deliveries_in (Some (told.RefusedImport fault)) = []
+deliveries_in (Some (parsed.Delivery delivery)) = delivery ∷ []
+deliveries_in (Some (parsed.RefusedImport fault)) = []
 
 -- the deliveries that the whole lines of a record tell
 unfoldable pub listed : Building → List ℕ → List Delivery
-listed building bytes = flat_map (λ line. deliveries_in (told_of building line)) (whole_lines bytes)
+listed building bytes = flat_map (λ line. deliveries_in (parse_line building line)) (whole_lines bytes)
 
 -- a line, without its end, that tells a delivery
 pub record IsLineOf (building : Building) (delivery : Delivery) (line : List ℕ) : Type 0 where
   pub one : IsLine line
-  pub tells : told_of building line ≡ Some (told.Delivery delivery)
+  pub tells : parse_line building line ≡ Some (parsed.Delivery delivery)
 
 -- tables of the deliveries, or of all but the last, which was written down and not made
 abbrev pub Follows : Building → List Delivery → Content → Type 0

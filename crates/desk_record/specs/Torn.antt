@@ -4,8 +4,8 @@ use Rattle.std.specs.Bool.{IsTrue}
 use Rattle.std.specs.List.{list_any, starts_with}
 use Rattle.building.specs.Building.{Building}
 use Rattle.deliveries.specs.declared.delivery.Delivery.{Delivery}
-use Rattle.delivery_lines.specs.DeliveryText.{delivery_line}
-use Rattle.desk_record.specs.Lines.{IsLine}
+use Rattle.delivery_json.specs.DeliveryText.{delivery_line}
+use Rattle.delivery_json.specs.LineEnds.{IsLine}
 
 -- one of the two begins the other
 abbrev pub begin_alike : List ℕ → List ℕ → Bool

@@ -9,8 +9,8 @@ use deliveries::Delivery;
 use desk::Desk;
 use store::{Store, StoreFault};
 
-/// Makes the last delivery of a list once more, where the store has the tables of the list, or of all but the last: then it
-/// has those of the list. After a fault it is behind the list as before.
+/// Makes the last delivery of a list once more, where the store has the tables of the list, or of all but the last:
+/// then it has those of the list. After a fault it is behind the list as before.
 pub(crate) fn deliver_again<S: Store + Drop>(
     desk: &mut Desk<S>,
     delivery: &Delivery,

@@ -1,12 +1,12 @@
 //! The last whole line of a file.
 ghost use Rattle.std.specs.Prelude.{◌≡◌, ◌+◌, ◌<◌, ◌^◌, ℕ, List, ◌++◌, length, IfOk, IfErr};
-ghost use Rattle.desk_record.specs.LastLine.{HasLastLine, IsLastEnd, TellsLast};
+ghost use Rattle.desk_record.specs.LastLine.{HasLastLine, TellsLast};
 ghost use Rattle.desk_record.specs.Torn.{begin_alike, may_be_torn};
 
 use crate::resume_fault::ResumeFault;
 use building::Building;
 use deliveries::Delivery;
-use delivery_lines::{LineFault, Told, told_of};
+use delivery_json::{LineFault, ParsedLine, last_end, parse_line};
 use json::Scratch;
 use std::alloc::Global;
 
@@ -15,19 +15,6 @@ use std::alloc::Global;
 pub(crate) struct LastLine {
     pub start: usize,
     pub end: usize,
-}
-
-/// Where the last LF stands.
-fn last_end(bytes: &[u8]) -> Option<usize>
-    ensures { IsLastEnd result bytes.now }
-{
-    let mut last = None;
-    for place in 0..bytes.len() {
-        if bytes[place] == b'\n' {
-            last = Some(place);
-        }
-    }
-    last
 }
 
 /// The last whole line in the end of a file, which begins at `from`. A line that does not begin there is no delivery.
@@ -59,8 +46,8 @@ fn begin_alike(head: &[u8], bytes: &[u8]) -> bool
     head.starts_with(bytes) || bytes.starts_with(head)
 }
 
-/// Whether bytes may be the beginning of a line that was being written: they begin as one of the kinds of lines that are
-/// written, or are themselves the beginning of such a beginning.
+/// Whether bytes may be the beginning of a line that was being written: they begin as one of the kinds of lines that
+/// are written, or are themselves the beginning of such a beginning.
 fn may_be_torn(bytes: &[u8]) -> bool
     ensures { result ≡ may_be_torn bytes.now }
 {
@@ -70,15 +57,15 @@ fn may_be_torn(bytes: &[u8]) -> bool
         || begin_alike(b"{\"import\":\"", bytes)
 }
 
-/// How many bytes of a file are whole lines, and the delivery that the last of them tells, if there is one.
+/// How many bytes of a file are whole lines, and the delivery that the last of them says, if there is one.
 #[derive(Drop)]
 pub(crate) struct Ending {
     pub whole: usize,
     pub delivery: Option<Delivery>,
 }
 
-/// What the last whole line tells in the end of a file, which begins at `from`. Bytes after it that are no beginning of a
-/// line that is written are no delivery: then the file is no record, or somebody else wrote there.
+/// What the last whole line says in the end of a file, which begins at `from`. Bytes after it that are no beginning of
+/// a line that is written are no delivery: then the file is no record, or somebody else wrote there.
 pub(crate) fn read_ending(
     alloc: Global,
     scratch: &mut Scratch,
@@ -88,7 +75,7 @@ pub(crate) fn read_ending(
 ) -> Result<Ending, ResumeFault>
     requires { from + length bytes.now < 2 ^ 64 }
     ensures { (file front : List ℕ) → file ≡ front ++ bytes.now → length front ≡ from
-        → IfOk result (λ told. TellsLast building.now file told.whole told.delivery) }
+        → IfOk result (λ ending. TellsLast building.now file ending.whole ending.delivery) }
 {
     let Some(last) = last_line(from, bytes)? else {
         return if may_be_torn(bytes) {
@@ -104,12 +91,14 @@ pub(crate) fn read_ending(
         return Err(ResumeFault::NotDelivery);
     }
     let line = &bytes[last.start..last.end];
-    match told_of(alloc, scratch, building, line) {
-        Ok(Told::Delivery(delivery)) => Ok(Ending {
+    match parse_line(alloc, scratch, building, line) {
+        Ok(ParsedLine::Delivery(delivery)) => Ok(Ending {
             whole: from + last.end + 1,
             delivery: Some(delivery),
         }),
-        Ok(Told::RefusedImport(_)) | Err(LineFault::NotDelivery) => Err(ResumeFault::NotDelivery),
+        Ok(ParsedLine::RefusedImport(_)) | Err(LineFault::NotDelivery) => Err(
+            ResumeFault::NotDelivery,
+        ),
         Err(LineFault::NotDone(_)) => Err(ResumeFault::NoMemory),
     }
 }

@@ -1,10 +1,10 @@
 //! Which deliveries reached the desk, written down before they are made?
 //!
-//! A `Recorder` writes a delivery down and takes its line back; `deliver` writes each delivery down before the desk makes it
-//! (`delivering`). A `Record` is a list of deliveries in a file, which is added to at its end (`record`, `disk_lines`);
-//! `resume` takes it up again after any stop, and delivers its last line once more (`resuming`, `last_line`, `again`), which
-//! leaves what it leaves once (`laws`); a file that ends as no line that is written begins is not touched. What a record and a
-//! store are to each other is `specs/Recorded.antt`.
+//! A `Recorder` writes a delivery down and takes its line back; `deliver` writes each delivery down before the desk
+//! makes it (`delivering`). A `Record` is a list of deliveries in a file, which is added to at its end (`record`,
+//! `disk_lines`); `resume` takes it up again after any stop, and delivers its last line once more (`resuming`,
+//! `last_line`, `again`), which leaves what it leaves once (`laws`); a file that ends as no line that is written begins
+//! is not touched. What a record and a store are to each other is `specs/Recorded.antt`.
 #![tactic(auto)]
 
 pub use delivering::{Undelivered, deliver};

@@ -12,13 +12,13 @@ use crate::recorder::{RecordFault, Recorder};
 use crate::same_delivery::is_same_delivery;
 use building::Building;
 use deliveries::Delivery;
-use delivery_lines::{LineFault, Told, line_of_delivery, told_of};
+use delivery_json::{LineFault, ParsedLine, line_of_delivery, parse_line};
 use json::Scratch;
 use sqlite_disk::Disk;
 use std::alloc::Global;
 
-/// A record in a file: a list of deliveries, one a line. It is said what a stop leaves of a device that keeps a beginning of
-/// what was written since its last sync; of another one nothing is said.
+/// A record in a file: a list of deliveries, one a line. It is said what a stop leaves of a device that keeps a
+/// beginning of what was written since its last sync; of another one nothing is said.
 #[derive(Drop)]
 pub struct Record<D: Disk> {
     lines: DiskLines<D>,
@@ -57,7 +57,7 @@ fn has_end(line: &[u8]) -> bool
     line.iter().any(|byte| *byte == b'\n')
 }
 
-/// Whether a line, without its end, tells the delivery and nothing else.
+/// Whether a line, without its end, says the delivery and nothing else.
 fn tells(
     alloc: Global,
     scratch: &mut Scratch,
@@ -70,19 +70,19 @@ fn tells(
     if has_end(line) {
         return Err(RecordFault::Failed);
     }
-    match told_of(alloc, scratch, building, line) {
-        Ok(Told::Delivery(told)) => match is_same_delivery(alloc, &told, delivery) {
+    match parse_line(alloc, scratch, building, line) {
+        Ok(ParsedLine::Delivery(read)) => match is_same_delivery(alloc, &read, delivery) {
             Ok(true) => Ok(()),
             Ok(false) => Err(RecordFault::Failed),
             Err(_) => Err(RecordFault::NoMemory),
         },
-        Ok(Told::RefusedImport(_)) | Err(LineFault::NotDelivery) => Err(RecordFault::Failed),
+        Ok(ParsedLine::RefusedImport(_)) | Err(LineFault::NotDelivery) => Err(RecordFault::Failed),
         Err(LineFault::NotDone(_)) => Err(RecordFault::NoMemory),
     }
 }
 
-/// The line of a delivery with its end (LF), which is read back before it is given. One that told something else would be
-/// `Failed`: none is known.
+/// The line of a delivery with its end (LF), which is read back before it is given. One that read as something else
+/// would be `Failed`: none is known.
 fn line_of(
     alloc: Global,
     scratch: &mut Scratch,

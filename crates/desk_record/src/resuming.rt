@@ -60,7 +60,7 @@ fn mend<D: Disk>(disk: &mut D, whole: usize) -> Result<(), ResumeFault>
     ensures len { OnOk result (length (D.Disk.seen disk.new) ≡ whole) }
     ensures on_disk { OnOk result (Only (D.Disk.seen disk.new) (D.Disk.may_leave disk.new)) }
     ensures usable { OnOk result (IsTrue (D.Disk.is_usable disk.new)) }
-    ensures told { IfErr result (λ fault. fault ≡ ResumeFault.NotWritten) }
+    ensures reported { IfErr result (λ fault. fault ≡ ResumeFault.NotWritten) }
 {
     disk.set_len(whole).or(Err(ResumeFault::NotWritten))?;
     disk.sync().or(Err(ResumeFault::NotWritten))
@@ -77,7 +77,7 @@ fn catch_up_store<S: Store + Drop>(desk: &mut Desk<S>, ending: &Ending) -> Resul
         → TellsLast desk.old.building file ending.now.whole ending.now.delivery
         → IsBehind desk.old.building (listed desk.old.building file) (S.standing desk.old.store)
         → IsBehind desk.old.building (listed desk.old.building file) (S.standing desk.new.store)) }
-    ensures told { IfErr result (λ fault. fault ≡ ResumeFault.NotDelivery → ⊥) }
+    ensures reported { IfErr result (λ fault. fault ≡ ResumeFault.NotDelivery → ⊥) }
     ensures building { desk.new.building ≡ desk.old.building }
 {
     match &ending.delivery {
@@ -89,8 +89,8 @@ fn catch_up_store<S: Store + Drop>(desk: &mut Desk<S>, ending: &Ending) -> Resul
     }
 }
 
-/// Takes off what stands after the whole lines of a record, and makes the delivery of the last of them once more. Answers how
-/// many bytes there are then.
+/// Takes off what stands after the whole lines of a record, and makes the delivery of the last of them once more.
+/// Answers how many bytes there are then.
 pub(crate) fn catch_up<S: Store + Drop, D: Disk>(
     alloc: Global,
     scratch: &mut Scratch,
@@ -124,11 +124,11 @@ pub(crate) fn catch_up<S: Store + Drop, D: Disk>(
     Ok(ending.whole)
 }
 
-/// Takes a record up again, for a desk over the store that was kept beside it: takes off what stands after its last line,
-/// which was never delivered, and delivers the last line once more, since it was delivered or not; it is not written down
-/// again. What stands there has to begin as a line that is written: a file that holds something else is not changed. An
-/// empty file is an empty record. At most the last 1 MiB is read. After a fault the store is behind the record as before,
-/// and nothing is off the file but what stood after its last line.
+/// Takes a record up again, for a desk over the store that was kept beside it: takes off what stands after its last
+/// line, which was never delivered, and delivers the last line once more, since it was delivered or not; it is not
+/// written down again. What stands there has to begin as a line that is written: a file that holds something else is
+/// not changed. An empty file is an empty record. At most the last 1 MiB is read. After a fault the store is behind the
+/// record as before, and nothing is off the file but what stood after its last line.
 pub fn resume<S: Store + Drop, D: Disk + Drop>(
     alloc: Global,
     desk: &mut Desk<S>,

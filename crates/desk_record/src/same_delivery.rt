@@ -47,8 +47,8 @@ fn is_same_entry(alloc: Global, entry: &Entry, other: &Entry) -> Result<bool, Al
     ensures { IfOk result (λ same. IsTrue same → entry.now ≡ other.now) }
 {
     let text = entry.write(alloc)?;
-    let told = other.write(alloc)?;
-    Ok(text == told)
+    let other_text = other.write(alloc)?;
+    Ok(text == other_text)
 }
 
 fn is_same_row(
@@ -58,7 +58,7 @@ fn is_same_row(
 ) -> Result<bool, AllocError>
     ensures { IfOk result (λ same. IsTrue same → row.now ≡ other.now) }
 {
-    if row.calendar.place != other.calendar.place {
+    if row.calendar.index != other.calendar.index {
         return Ok(false);
     }
     is_same_entry(alloc, &row.entry, &other.entry)
@@ -74,15 +74,15 @@ fn are_same_rows(
     if rows.len() != others.len() {
         return Ok(false);
     }
-    for place in 0..rows.len() {
-        if !is_same_row(alloc, &rows[place], &others[place])? {
+    for index in 0..rows.len() {
+        if !is_same_row(alloc, &rows[index], &others[index])? {
             return Ok(false);
         }
     }
     Ok(true)
 }
 
-/// Whether two deliveries are the same. The only error is want of memory, for the entries of imports.
+/// Whether two deliveries are the same. The only error is a failed allocation, for the entries of imports.
 pub(crate) fn is_same_delivery(
     alloc: Global,
     delivery: &Delivery,
@@ -99,7 +99,7 @@ pub(crate) fn is_same_delivery(
         Delivery::Skip { panel, upto } => Ok(is_skip(delivery, panel, *upto)),
         Delivery::Tick { at } => Ok(is_tick(delivery, *at)),
         Delivery::Import { rows } => match delivery {
-            Delivery::Import { rows: told } => are_same_rows(alloc, told, rows),
+            Delivery::Import { rows: others } => are_same_rows(alloc, others, rows),
             _ => Ok(false),
         },
     }

@@ -8,14 +8,13 @@ use dates::Entry;
 use deliveries::Delivery;
 use desk::Desk;
 use json::Scratch;
-use listing::Listing;
-use mem_store::MemStore;
-use points::{Content, Name};
+use points::{Content, Listing, Name};
 use sched::{CalId, CalendarEntry};
 use sqlite_disk::{Disk, Fuse, Memory};
 use std::alloc::Global;
 use std::test::Fail;
 use store::Store;
+use store_memory::MemStore;
 
 const BUILDING: &str = r#"
 zone = "UTC0"
@@ -56,7 +55,7 @@ const CALLS_OF_RESUME: u64 = 4;
 fn holiday(alloc: Global) -> Result<Delivery, Fail> {
     let mut rows = Vec::new(alloc);
     rows.push(CalendarEntry {
-        calendar: CalId { place: 0 },
+        calendar: CalId { index: 0 },
         entry: Entry::read("2026-12-25")?,
     })?;
     Ok(Delivery::Import {

@@ -1,16 +1,15 @@
 -- The rows that one row more adds.
-use Rattle.std.proofs.Common.{◌≡◌, ℕ, ◌+◌, ◌<◌, ◌≤◌, ◌++◌, ◌∷◌, Bool, true, false, cond, List, [], drop, length, nat_lt, refl, sym, ap, ◌∙◌}
+use Rattle.std.proofs.Common.{◌≡◌, ℕ, ◌+◌, ◌<◌, ◌≤◌, ◌++◌, ◌∷◌, true, false, List, [], drop, length, nat_lt, refl, sym, ap, ◌∙◌}
 use Rattle.std.proofs.Common.{append_assoc, arith}
-use Rattle.std.proofs.Math.Path.{fun_ext}
 use Rattle.std.proofs.lemmas.Bool.Decides.{nat_tests}
-use Rattle.std.proofs.lemmas.List.{append-nil, length-append}
+use Rattle.std.proofs.lemmas.List.{length-append}
 use Rattle.building.specs.Building.{Building}
-use Rattle.clock.proofs.AddedLemmas.{with_items-append}
+use Rattle.desk_clock.proofs.AddedLemmas.{with_items-append}
 use Rattle.deliveries.specs.Machine.{added_by}
 use Rattle.sched.specs.declared.calendar.CalendarEntry.{CalendarEntry}
-use Rattle.settling.specs.Calendars.{texts_for, with_items}
+use Rattle.desk_settling.specs.Calendars.{with_items}
 use Rattle.store.specs.declared.change.ImportedEntry.{ImportedEntry}
-use Rattle.store.specs.Tables.{Text}
+use Rattle.points.specs.Texts.{Text}
 use Rattle.deliveries_straight.specs.Cut.{added_rows, row_that_adds}
 use Rattle.desk_straighten.specs.Steps.{row_if}
 

@@ -1,11 +1,11 @@
 -- What the store answers of a panel is what its asks become.
 use Rattle.std.proofs.Common.{◌≡◌, ℕ, suc, zero, ◌+◌, ◌-◌, ◌<◌, ◌≤◌, Bool, true, false, cond, not, ◌&&◌, List, [], ◌∷◌, ◌++◌, map, Option}
 use Rattle.std.proofs.Common.{Some, None, is_some, ℤ}
-use Rattle.std.proofs.Common.{refl, sym, ap, ap₂, ◌∙◌, subst, arith, inl, inr, nat_lt, Result, Ok, Err, OnOk}
+use Rattle.std.proofs.Common.{refl, sym, ap, ◌∙◌, subst, arith, inl, inr, nat_lt, Result, Ok, Err, OnOk}
 use Rattle.std.specs.List.{All, flat_map, list_all}
 use Rattle.std.specs.Str.{bytes_eq}
 use Rattle.std.proofs.lemmas.Bool.Decides.{nat_tests}
-use Rattle.std.proofs.lemmas.Bool.{cases_Bool, cases_eq, cases_lt, false≢true}
+use Rattle.std.proofs.lemmas.Bool.{cases_lt, false≢true}
 use Rattle.std.proofs.lemmas.List.{append-nil}
 use Rattle.std.proofs.lemmas.List.Elements.{All-cons, All-nil}
 use Rattle.building.specs.Building.{Building}
@@ -15,7 +15,7 @@ use Rattle.points.specs.declared.numbered_row.NumberedRow.{NumberedRow}
 use Rattle.points.specs.Run.{IsRun, Rows, row_before, rows_between, rows_from}
 use Rattle.sched.specs.declared.calendar.CalendarEntry.{CalendarEntry}
 use Rattle.store.specs.Standing.{Content as a_content, Standing}
-use Rattle.store.specs.Tables.{Text}
+use Rattle.points.specs.Texts.{Text}
 use Rattle.window.specs.declared.TheConstants.{LAST_NUMBER}
 use Rattle.window.specs.Applied.{applied, contents_from}
 use Rattle.window.specs.Drain.{contents_of}
@@ -124,7 +124,8 @@ window-remembered : window ≤ remembered
 unfolding window remembered
 window-remembered = omega arith
 
-contents-held : (b : Building) (p : Text) (E : List Delivery) (d : Delivery) → let t = taken_by b p E in
+-- what a panel's rows hold after a delivery, from the next number before it on, is what was applied
+pub contents-held : (b : Building) (p : Text) (E : List Delivery) (d : Delivery) → let t = taken_by b p E in
     let now = taken_by b p (E ++ d ∷ []) in
     contents_of (rows_between ((tables b (E ++ d ∷ [])).row p) (asks.front t) (asks.front now)) ≡ applied t now
 unfolding applied

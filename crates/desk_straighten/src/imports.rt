@@ -3,19 +3,19 @@ ghost use Rattle.std.specs.Prelude.{◌≡◌, ◌++◌, ◌∷◌, [], List, On
 ghost use Rattle.deliveries.specs.declared.delivery.Delivery.{Delivery as a_delivery};
 ghost use Rattle.deliveries.specs.declared.delivery.Delivery.TheVariants as delivery_of;
 ghost use Rattle.deliveries.specs.Delivered.{Holds};
-ghost use Rattle.mem_store.specs.Memory.{standing_of};
+ghost use Rattle.store_memory.specs.Memory.{standing_of};
 ghost use Rattle.desk_straighten.specs.Steps.{import_if, is_imported};
 ghost use Rattle.deliveries_straight.specs.StraightList.{straightened_by};
 
 use crate::new_rows::rows_that_add;
 use building::Building;
-use clock::deliver_import;
 use deliveries::{Delivery, Reply};
-use listing::Listing;
-use mem_store::MemStore;
+use desk_clock::deliver_import;
+use points::Listing;
 use sched::CalendarEntry;
 use std::alloc::{AllocError, Global};
 use store::{Store, StoreFault};
+use store_memory::MemStore;
 
 fn is_imported(reply: &Reply) -> bool
     ensures { result ≡ is_imported reply.now }

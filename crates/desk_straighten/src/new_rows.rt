@@ -1,13 +1,13 @@
 //! Which rows of an import are new.
 ghost use Rattle.std.specs.Prelude.{◌≡◌, IfOk, List};
 ghost use Rattle.std.specs.Result.{result_err};
-ghost use Rattle.settling.specs.Calendars.{Tells};
+ghost use Rattle.desk_settling.specs.Calendars.{Tells};
 ghost use Rattle.store.specs.Standing.{IsOpen, Reads};
-ghost use Rattle.store.specs.Tables.{Text};
+ghost use Rattle.points.specs.Texts.{Text};
 ghost use Rattle.deliveries_straight.specs.Cut.{added_rows};
 
 use building::Building;
-use clock::{Known, add_row};
+use desk_clock::{Known, add_row};
 use sched::CalendarEntry;
 use std::alloc::Global;
 use store::{Store, StoreFault};

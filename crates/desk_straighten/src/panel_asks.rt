@@ -3,7 +3,7 @@ ghost use Rattle.std.specs.Prelude.{◌≡◌, ◌≤◌, ◌++◌, ◌∷◌, [
 ghost use Rattle.deliveries.specs.declared.delivery.Delivery.{Delivery as a_delivery};
 ghost use Rattle.deliveries.specs.declared.delivery.Delivery.TheVariants as delivery_of;
 ghost use Rattle.deliveries.specs.Delivered.{Holds};
-ghost use Rattle.mem_store.specs.Memory.{standing_of};
+ghost use Rattle.store_memory.specs.Memory.{standing_of};
 ghost use Rattle.points.specs.Run.{rows_between};
 ghost use Rattle.window.specs.Drain.{contents_of};
 ghost use Rattle.desk_straighten.specs.Kept.{HoldsSome};
@@ -13,11 +13,11 @@ ghost use Rattle.deliveries_straight.specs.StraightList.{sent, straightened_by};
 use crate::runs::push_run;
 use building::Building;
 use deliveries::Delivery;
-use mem_store::MemStore;
-use panel_commands::{deliver_command, deliver_skip};
+use desk_commands::{deliver_command, deliver_skip};
 use points::{Content, Name};
 use std::alloc::Global;
 use store::{Store, StoreFault};
+use store_memory::MemStore;
 
 // Pushes what a panel's next number has passed since it was `before`.
 fn push_moved(

@@ -4,7 +4,7 @@ ghost use Rattle.std.specs.List.{All};
 ghost use Rattle.deliveries.specs.declared.delivery.Delivery.{Delivery as a_delivery};
 ghost use Rattle.deliveries.specs.Accepted.{taken_by};
 ghost use Rattle.deliveries.specs.Delivered.{Holds};
-ghost use Rattle.mem_store.specs.Memory.{standing_of};
+ghost use Rattle.store_memory.specs.Memory.{standing_of};
 ghost use Rattle.points.specs.declared.numbered_row.NumberedRow.{NumberedRow as a_row};
 ghost use Rattle.window.specs.declared.TheConstants.{LAST_NUMBER};
 ghost use Rattle.window.specs.Drain.{contents_of};
@@ -14,10 +14,10 @@ ghost use Rattle.window_straight.specs.Parked.{command_of, parked_asks};
 
 use building::Building;
 use deliveries::Delivery;
-use mem_store::MemStore;
 use points::{Name, NumberedRow};
 use std::alloc::AllocError;
 use store::{Store, StoreFault};
+use store_memory::MemStore;
 use window::WINDOW;
 
 // Pushes the commands of a run.

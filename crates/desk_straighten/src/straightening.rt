@@ -3,7 +3,7 @@ ghost use Rattle.std.specs.Prelude.{◌≡◌, ◌++◌, ◌∷◌, [], IfOk, Li
 ghost use Rattle.deliveries.specs.declared.delivery.Delivery.{Delivery as a_delivery};
 ghost use Rattle.deliveries.specs.Delivered.{Holds};
 ghost use Rattle.deliveries.specs.Laws.{HasDistinctSchedules};
-ghost use Rattle.mem_store.specs.Memory.{standing_of};
+ghost use Rattle.store_memory.specs.Memory.{standing_of};
 ghost use Rattle.desk_straighten.specs.Kept.{HoldsSome};
 ghost use Rattle.deliveries_straight.specs.StraightLaws.{HasDistinctPanels, IsStraightOf};
 ghost use Rattle.deliveries_straight.specs.StraightList.{straight_list, straightened_by};
@@ -14,9 +14,9 @@ use crate::parked_commands::push_parked;
 use crate::ticks::straighten_tick;
 use building::Building;
 use deliveries::Delivery;
-use mem_store::MemStore;
 use std::alloc::{AllocError, Global};
 use store::StoreFault;
+use store_memory::MemStore;
 
 // Delivers one delivery, and pushes what it becomes.
 fn straighten_one(
@@ -91,7 +91,7 @@ fn straight_list(
 /// applied tick, each import cut to the rows that it added, and last, panel by panel in file order, the commands that
 /// are still parked. It needs no tolerance, and leads to the same tables by the same events.
 ///
-/// The deliveries are run over empty tables in memory. Refused for want of memory alone.
+/// The deliveries are run over empty tables in memory. Refused only where an allocation fails.
 pub fn straighten(
     alloc: Global,
     building: &Building,

@@ -3,16 +3,16 @@ ghost use Rattle.std.specs.Prelude.{◌≡◌, ◌++◌, ◌∷◌, [], List, On
 ghost use Rattle.deliveries.specs.declared.delivery.Delivery.{Delivery as a_delivery};
 ghost use Rattle.deliveries.specs.declared.delivery.Delivery.TheVariants as delivery_of;
 ghost use Rattle.deliveries.specs.Delivered.{Holds};
-ghost use Rattle.mem_store.specs.Memory.{standing_of};
+ghost use Rattle.store_memory.specs.Memory.{standing_of};
 ghost use Rattle.desk_straighten.specs.Steps.{is_ticked};
 ghost use Rattle.deliveries_straight.specs.StraightList.{straightened_by};
 
 use building::Building;
-use clock::deliver_tick;
 use deliveries::{Delivery, Reply};
-use mem_store::MemStore;
+use desk_clock::deliver_tick;
 use std::alloc::Global;
 use store::StoreFault;
+use store_memory::MemStore;
 
 fn is_ticked(reply: &Reply) -> bool
     ensures { result ≡ is_ticked reply.now }

@@ -8,9 +8,9 @@ ghost use Rattle.local_times.specs.ZoneRule.{rule_text};
 use jiff::tz::TimeZone;
 use std::marker::Model;
 
-/// The rule of a time zone, as a POSIX rule text says it. Contracts see it as the time zone of `jiff_tz` that stands behind
-/// one of `jiff`, and that is what it holds, so that a proof of what only names a rule has no `jiff` to read. It takes no
-/// memory.
+/// The rule of a time zone, as a POSIX rule text says it. Contracts see it as the time zone of `jiff_tz` that stands
+/// behind one of `jiff`, and that is what it holds, so that a proof of what only names a rule has no `jiff` to read. It
+/// takes no memory.
 #[derive(Clone, Copy)]
 pub struct ZoneRule {
     zone: jiff_tz::TimeZone<'static>,

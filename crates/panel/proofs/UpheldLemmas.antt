@@ -3,7 +3,7 @@ use Rattle.std.proofs.Common.{◌≡◌, ◌⊎◌, ℕ, ◌+◌, ◌≤◌, Lis
 use Rattle.std.proofs.Common.{refl, sym, ap, ◌∙◌, subst, arith, inl, inr}
 use Rattle.std.proofs.lemmas.Bool.{cases_eq, cases_lt}
 use Rattle.points.specs.declared.content.Content.{Content}
-use Rattle.store.specs.Tables.{Text}
+use Rattle.points.specs.Texts.{Text}
 use Rattle.window.specs.declared.numbered_content.NumberedContent.{NumberedContent}
 use Rattle.window.specs.Taken.{content_in, front}
 use Rattle.building.specs.Building.{Building}
@@ -68,10 +68,10 @@ means-of : (b : Building) (p : Text) (ds : List Delivery) (run : Run) (command :
     → WereSent (life run) p ds → Came b p ds given → Ends run command given → Means b p ds (life run) command.number command.content given
 means-of b p ds run command given least sent came is =
     let own = is.own in
-    let told = replies-are-true b (life run) p ds command.number given sent came is.ends (omega (arith, least, own)) own in
-    let was = kept-is run command.number told.content told.pressed in
-    let same : told.content ≡ command.content = same_content told.content command.content (sym was.was_pressed ∙ is.was_pressed) in
-    subst (λ (c : Content). Means b p ds (life run) command.number c given) same told.means
+    let reported = replies-are-true b (life run) p ds command.number given sent came is.ends (omega (arith, least, own)) own in
+    let was = kept-is run command.number reported.content reported.pressed in
+    let same : reported.content ≡ command.content = same_content reported.content command.content (sym was.was_pressed ∙ is.was_pressed) in
+    subst (λ (c : Content). Means b p ds (life run) command.number c given) same reported.means
 
 pub is-true-of : (p : Text) (run : Run) (given : Reply) (command : NumberedContent) → 1 ≤ first_number run
     → entry_of (ended_by given) (in_flight run) ≡ Some command → IsTrueOf p run given command
@@ -183,9 +183,9 @@ waits (GaveUp run other) number content found = elim (waits run number content f
 
 module _ (b : Building) (p : Text) (ds : List Delivery) (run : Run) (least : 1 ≤ first_number run) (sent : WereSent (life run) p ds)
     (all : AllCame b p ds run) where
-  told : (command : NumberedContent) (given : Reply) → HasEnded run command given
+  truthful : (command : NumberedContent) (given : Reply) → HasEnded run command given
       → Means b p ds (life run) command.number command.content given
-  told command given ended =
+  truthful command given ended =
       let has = has-ended b p ds run command given ended all in
       means-of b p ds run command given least sent has.came has.facts
 
@@ -254,9 +254,9 @@ module _ (b : Building) (p : Text) (ds : List Delivery) (run : Run) (least : 1 �
       by number (Some c) e held is =
           let ended = is-ended empty number c e in
           let own = own-number run number c e in
-          let told_it = replies-are-true b (life run) p ds number ended.given sent ended.came ended.ends (omega (arith, least, own)) own in
-          let was = kept-is run number told_it.content told_it.pressed in
-          told_it.pressed ∙ sym was.was_pressed
+          let reported_it = replies-are-true b (life run) p ds number ended.given sent ended.came ended.ends (omega (arith, least, own)) own in
+          let was = kept-is run number reported_it.content reported_it.pressed in
+          reported_it.pressed ∙ sym was.was_pressed
 
   done-at_rest : in_flight run ≡ [] → given_up run ≡ [] → from_number (first_number run) (commands_done b p ds) ≡ pressed run
   done-at_rest empty none =
@@ -268,7 +268,7 @@ module _ (b : Building) (p : Text) (ds : List Delivery) (run : Run) (least : 1 �
   upheld-here : Upheld b p ds run (in_flight run)
   upheld-here = record {
     part = commands-pressed b (life run) p ds sent;
-    told = told;
+    truthful = truthful;
     missing = missing;
     at_rest = done-at_rest;
   }
@@ -291,12 +291,12 @@ still-flying b p ds run least sent all number content found past = elim (waits r
       let has = has-ended b p ds run last.command last.given last.ended all in
       let facts = has.facts in
       let own = facts.own in
-      let told_it = replies-are-true b (life run) p ds last.command.number last.given sent has.came facts.ends (omega (
+      let reported_it = replies-are-true b (life run) p ds last.command.number last.given sent has.came facts.ends (omega (
         arith,
         least,
         own,
       )) own in
-      let below = told_it.past in
+      let below = reported_it.past in
       let same = last.number_is in
       absurd (omega (arith, below, same, past))
 ]

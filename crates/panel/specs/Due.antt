@@ -1,7 +1,7 @@
 -- What is to be sent now, or again.
 use Rattle.std.specs.Prelude.{ℕ, pos, Bool, nat_lt, min, List, [], ◌∷◌, map, Option, Some, None}
 use Rattle.std.specs.List.{filter}
-use Rattle.store.specs.Tables.{Text}
+use Rattle.points.specs.Texts.{Text}
 use Rattle.window.specs.declared.numbered_content.NumberedContent.{NumberedContent}
 use Rattle.deliveries.specs.declared.delivery.Delivery.{Delivery}
 use Rattle.deliveries.specs.declared.delivery.Delivery.TheVariants.{Command, Skip}

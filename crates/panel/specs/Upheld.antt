@@ -3,7 +3,7 @@ use Rattle.std.specs.Prelude.{◌≡◌, ◌⊎◌, ℕ, ◌+◌, ◌<◌, ◌�
 use Rattle.std.specs.List.{Contains}
 use Rattle.std.specs.Str.{bytes_eq}
 use Rattle.points.specs.declared.content.Content.{Content}
-use Rattle.store.specs.Tables.{Text}
+use Rattle.points.specs.Texts.{Text}
 use Rattle.window.specs.declared.numbered_content.NumberedContent.{NumberedContent}
 use Rattle.window.specs.declared.TheConstants.{WINDOW}
 use Rattle.window.specs.Taken.{content_in, front}
@@ -40,8 +40,8 @@ pub record Upheld (building : Building) (panel : Text) (deliveries : List Delive
     : Type 0 where
   -- they are a part of what was pressed and kept, by rising number, each once
   pub part : IsPartOf (life run) (commands_done building panel deliveries)
-  -- each command that heard its last is told the truth: `done` and `refused`, that it is among them, with that answer
-  pub told : (command : NumberedContent) (given : Reply) → HasEnded run command given
+  -- each command that heard its last has heard the truth: `done` and `refused`, that it is among them, with that answer
+  pub truthful : (command : NumberedContent) (given : Reply) → HasEnded run command given
       → Means building panel deliveries (life run) command.number command.content given
   -- what was pressed and is not among them was given up, or waits
   pub missing : (number : ℕ) (content : Content) → content_in (pressed run) number ≡ Some content

@@ -6,8 +6,8 @@ pub fn sent_stays_sent()
     ensures { SentStaysSent }
 {}
 
-/// What `due` named at any time of a run was sent by it: so a list in which each of the panel's deliveries was named, or
-/// lies below the run's first number, is one of those that the contract of `in_flight` speaks of.
+/// What `due` named at any time of a run was sent by it: so a list in which each of the panel's deliveries was named,
+/// or lies below the run's first number, is one of those that the contract of `in_flight` speaks of.
 pub fn named_is_sent()
     ensures { NamedIsSent }
 {}

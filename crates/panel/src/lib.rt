@@ -4,9 +4,9 @@
 //! last. `press` gives a number, and the caller puts the press in its journal; `keep` says that it is there, and from
 //! then on `due` names it. Each reply of the desk goes to `hear`. It does no input and no output.
 //!
-//! A run of it is told by `specs/Run.antt`, and what it holds after a run by `specs/Ran.antt`: each call says what it
-//! adds to the run. That whatever the network loses, repeats and reorders, what was pressed is what is done, once, in
-//! order, is the contract of `in_flight` (`specs/Upheld.antt`); that `due` names nothing else is that of `due`.
+//! A run of it is defined by `specs/Run.antt`, and what it holds after a run by `specs/Ran.antt`: each call says what
+//! it adds to the run. That whatever the network loses, repeats and reorders, what was pressed is what is done, once,
+//! in order, is the contract of `in_flight` (`specs/Upheld.antt`); that `due` names nothing else is that of `due`.
 #![tactic(auto)]
 
 pub use laws::{named_is_sent, sent_stays_sent};

@@ -61,9 +61,9 @@ impl PanelEnd {
         }
     }
 
-    /// The end of a panel that lost its journal, where the desk tells `next`: it numbers on from `next` + 64, which no
-    /// command of an earlier life reached (`in_flight`, clause `within`), and gives up all below. `NoNumberLeft` where that lies past
-    /// the last number.
+    /// The end of a panel that lost its journal, where the desk says `next`: it numbers on from `next` + 64, which no
+    /// command of an earlier life reached (`in_flight`, clause `within`), and gives up all below. `NoNumberLeft` where
+    /// that lies past the last number.
     pub fn resume(alloc: Global, name: Name, next: u64) -> Result<Self, PressFault>
         ensures ran { IfOk result (λ panel. Ran (Began (next + WINDOW)) panel) }
         ensures name { IfOk result (λ panel. panel.name ≡ name) }
@@ -84,7 +84,7 @@ impl PanelEnd {
         })
     }
 
-    /// Presses a content, and tells the number that it got. It is sent once the journal has it (`keep`).
+    /// Presses a content, and answers the number that it got. It is sent once the journal has it (`keep`).
     pub fn press(&mut self, content: &Content) -> Result<u64, PressFault>
         ensures ran { (run : Run) → Ran run self.old
             → IfOk result (λ number. (number ≡ next_number run) × Ran (Pressed run content.now) self.new) }
@@ -128,7 +128,7 @@ impl PanelEnd {
         self.kept_below = self.kept_below.max(self.behind(number));
     }
 
-    /// Hears a reply of the desk, and tells the command that has heard its last with it: it is in flight no more. A
+    /// Hears a reply of the desk, and answers the command that has heard its last with it: it is in flight no more. A
     /// reply to a number that is not in flight ends nothing.
     pub fn hear(&mut self, reply: &Reply) -> Option<NumberedContent>
         ensures ran { (run : Run) → Ran run self.old → Ran (Heard run reply.now) self.new }
@@ -165,7 +165,7 @@ impl PanelEnd {
             .map_or(self.next, |entry| entry.number)
     }
 
-    /// The desk tells `next`, and may have been restored from a backup: what it no longer knows and this end no longer
+    /// The desk says `next`, and may have been restored from a backup: what it no longer knows and this end no longer
     /// has in flight is given up, and the rest is sent again. Nothing is to be done where `next` is not below that.
     pub fn desk_restored(&mut self, next: u64)
         ensures ran { (run : Run) → Ran run self.old → let least = least_of self.old.next self.old.in_flight.items in
@@ -254,8 +254,8 @@ impl PanelEnd {
     }
 
     /// The commands that have not heard their last, by rising number. Whatever the network loses, repeats and reorders:
-    /// what the desk acts on is a part of what was pressed, each once, in order; what is missing was given up, or is one
-    /// of these.
+    /// what the desk acts on is a part of what was pressed, each once, in order; what is missing was given up, or is
+    /// one of these.
     pub fn in_flight(&self) -> &[NumberedContent]
         ensures in_flight { result.now ≡ self.now.in_flight.items }
         ensures at_most_64 { length result.now ≤ MOST_IN_FLIGHT }
@@ -265,8 +265,8 @@ impl PanelEnd {
         self.in_flight.as_slice()
     }
 
-    /// Whether each command has heard its last and each skip is done. If nothing was given up, what the desk acted on is
-    /// then what was pressed.
+    /// Whether each command has heard its last and each skip is done. If nothing was given up, what the desk acted on
+    /// is then what was pressed.
     pub fn is_at_rest(&self) -> bool
         ensures result { result ≡ ((length self.now.in_flight.items == 0) && is_none self.now.skip) }
         ensures all_is_done { (run : Run) → Ran run self.now → result ≡ true → AllIsDone self.now.name run }

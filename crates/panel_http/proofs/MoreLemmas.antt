@@ -2,11 +2,12 @@
 use Rattle.std.proofs.Common.{◌≡◌, ◌∙◌, ◌<◌, ◌⊎◌, inl, inr, ℕ, List, [], ◌++◌, length, arith, ap, sym, subst, append-nil, length-append, Option}
 use Rattle.building.specs.Building.{Building}
 use Rattle.deliveries.specs.declared.delivery.Delivery.{Delivery}
-use Rattle.panel_http.specs.Serving.{Serves, Tells, Text}
+use Rattle.panel_http.specs.Serving.{Serves, Tells}
+use Rattle.points.specs.Texts.{Text}
 use Rattle.panel_http.specs.declared.served.Served.{Served}
 use Rattle.panel_http.specs.declared.served.Served.TheVariants.{Answered, NoReply, NoRequest, ReplyLost}
-use Rattle.request_reading.specs.Whole.{IsWhole}
-use Rattle.response_texts.specs.Response.{Status}
+use Rattle.panel_http_requests.specs.Whole.{IsWhole}
+use Rattle.panel_http_responses.specs.Response.{Status}
 use Rattle.store.specs.Standing.{Standing}
 
 more-long : (bytes more : Text) → 0 < length bytes → 0 < length (bytes ++ more)
@@ -19,16 +20,16 @@ tells-more b e bytes more code text old new whole (inl it) = inl (record {
   is_request = (whole.steady it.request more).0 it.is_request;
   said = it.said;
   is_said = it.is_said;
-  is_told = it.is_told;
+  is_given = it.is_given;
   holds = it.holds;
 })
-tells-more b e bytes more code text old new whole (inr (inl it)) = inr (inl (record { is_told = it.is_told; holds = it.holds }))
+tells-more b e bytes more code text old new whole (inr (inl it)) = inr (inl (record { is_given = it.is_given; holds = it.holds }))
 tells-more b e bytes more code text old new whole (inr (inr (inl it))) =
-    inr (inr (inl (record { is_told = it.is_told; holds = it.holds })))
+    inr (inr (inl (record { is_given = it.is_given; holds = it.holds })))
 tells-more b e bytes more code text old new whole (inr (inr (inr it))) = inr (inr (inr (record {
   request = it.request;
   is_request = (whole.steady it.request more).0 it.is_request;
-  is_told = it.is_told;
+  is_given = it.is_given;
   ends = it.ends;
 })))
 

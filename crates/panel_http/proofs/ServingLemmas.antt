@@ -5,59 +5,60 @@ use Rattle.deliveries.specs.declared.delivery.Delivery.{Delivery}
 use Rattle.panel_http.specs.Answers.{Answers}
 use Rattle.panel_http.specs.declared.unanswered.Unanswered.{Unanswered}
 use Rattle.panel_http.specs.declared.unanswered.Unanswered.TheVariants as unanswered
-use Rattle.request_reading.specs.Requests.{IsRequest}
-use Rattle.request_reading.specs.declared.request.Request.{Request}
-use Rattle.response_texts.specs.Response.{Status}
-use Rattle.response_texts.specs.declared.whole_response.Response.{Response}
+use Rattle.panel_http_requests.specs.Requests.{IsRequest}
+use Rattle.panel_http_requests.specs.declared.request.Request.{Request}
+use Rattle.panel_http_responses.specs.Response.{Status}
+use Rattle.panel_http_responses.specs.declared.whole_response.Response.{Response}
 use Rattle.store.specs.Standing.{Standing}
-use Rattle.panel_http.specs.Serving.{IsSilent, Serves, Tells, Text, Writes, written}
+use Rattle.panel_http.specs.Serving.{IsSilent, Serves, Tells, Writes, written}
+use Rattle.points.specs.Texts.{Text}
 use Rattle.panel_http.specs.declared.served.Served.{Served}
 use Rattle.panel_http.specs.declared.served.Served.TheVariants.{Answered, NoReply, NoRequest, ReplyLost}
 
 abbrev status_or : Status → Option (Status × Text) → Status
 status_or default None = default
-status_or default (Some told) = told.0
+status_or default (Some given) = given.0
 
 abbrev text_or : Text → Option (Status × Text) → Text
 text_or default None = default
-text_or default (Some told) = told.1
+text_or default (Some given) = given.1
 
 -- what an answer that is written tells
 tells : (b : Building) (earlier : List Delivery) (bytes : Text) (request : Request) (answer : Result Response Unanswered)
     (old now : Standing) (status : Status) (text : Text)
     → IsRequest b bytes request → Answers b earlier request answer old now → written answer ≡ Some (status, text)
     → Tells b earlier bytes status text old now
-tells b earlier bytes request (Ok response) old now status text is answers told =
+tells b earlier bytes request (Ok response) old now status text is answers given =
     let (said, says, is_said, holds) = answers in
     inl (record {
       request = request;
       is_request = is;
       said = said;
       is_said = is_said;
-      is_told = (sym (ap (status_or status) told) ∙ says.status, sym (ap (text_or text) told) ∙ says.text);
+      is_given = (sym (ap (status_or status) given) ∙ says.status, sym (ap (text_or text) given) ∙ says.text);
       holds = holds;
     })
-tells b earlier bytes request (Err unanswered.NoMemory) old now status text is answers told =
-    inr (inl (record { is_told = (sym (ap (status_or status) told), sym (ap (text_or text) told)); holds = answers }))
-tells b earlier bytes request (Err unanswered.NotRecorded) old now status text is answers told =
-    inr (inr (inl (record { is_told = (sym (ap (status_or status) told), sym (ap (text_or text) told)); holds = answers })))
-tells b earlier bytes request (Err unanswered.Store) old now status text is answers told =
+tells b earlier bytes request (Err unanswered.NoMemory) old now status text is answers given =
+    inr (inl (record { is_given = (sym (ap (status_or status) given), sym (ap (text_or text) given)); holds = answers }))
+tells b earlier bytes request (Err unanswered.NotRecorded) old now status text is answers given =
+    inr (inr (inl (record { is_given = (sym (ap (status_or status) given), sym (ap (text_or text) given)); holds = answers })))
+tells b earlier bytes request (Err unanswered.Store) old now status text is answers given =
     inr (inr (inr (record {
       request = request;
       is_request = is;
-      is_told = (sym (ap (status_or status) told), sym (ap (text_or text) told));
+      is_given = (sym (ap (status_or status) given), sym (ap (text_or text) given));
       ends = answers;
     })))
-tells b earlier bytes request (Err unanswered.NoReply) old now status text is answers told = absurd (cc told)
+tells b earlier bytes request (Err unanswered.NoReply) old now status text is answers given = absurd (cc given)
 
 silent : (b : Building) (earlier : List Delivery) (bytes : Text) (request : Request) (answer : Result Response Unanswered)
     (old now : Standing)
     → IsRequest b bytes request → Answers b earlier request answer old now → written answer ≡ None → IsSilent b earlier bytes now
-silent b earlier bytes request (Ok response) old now is answers told = absurd (cc told)
-silent b earlier bytes request (Err unanswered.NoMemory) old now is answers told = absurd (cc told)
-silent b earlier bytes request (Err unanswered.NotRecorded) old now is answers told = absurd (cc told)
-silent b earlier bytes request (Err unanswered.Store) old now is answers told = absurd (cc told)
-silent b earlier bytes request (Err unanswered.NoReply) old now is answers told =
+silent b earlier bytes request (Ok response) old now is answers given = absurd (cc given)
+silent b earlier bytes request (Err unanswered.NoMemory) old now is answers given = absurd (cc given)
+silent b earlier bytes request (Err unanswered.NotRecorded) old now is answers given = absurd (cc given)
+silent b earlier bytes request (Err unanswered.Store) old now is answers given = absurd (cc given)
+silent b earlier bytes request (Err unanswered.NoReply) old now is answers given =
     record { request = request; is_request = is; holds = answers }
 
 -- an answer to a request, written
@@ -66,10 +67,10 @@ pub serves-answer : (b : Building) (earlier : List Delivery) (bytes : Text) (req
     → 0 < length bytes → IsRequest b bytes request → Answers b earlier request answer old now
     → Writes (written answer) held holds before after served
     → Serves b earlier bytes read_before read_after held holds before after old now served
-serves-answer b earlier bytes request answer rb ra held holds before after old now (Answered status) some is answers (text, told, appends) =
-    (some, text, appends, tells b earlier bytes request answer old now status text is answers told)
-serves-answer b earlier bytes request answer rb ra held holds before after old now ReplyLost some is answers (status, text, told, lost) =
-    (some, status, text, lost, tells b earlier bytes request answer old now status text is answers told)
+serves-answer b earlier bytes request answer rb ra held holds before after old now (Answered status) some is answers (text, given, appends) =
+    (some, text, appends, tells b earlier bytes request answer old now status text is answers given)
+serves-answer b earlier bytes request answer rb ra held holds before after old now ReplyLost some is answers (status, text, given, lost) =
+    (some, status, text, lost, tells b earlier bytes request answer old now status text is answers given)
 serves-answer b earlier bytes request answer rb ra held holds before after old now NoRequest some is answers writes = absurd writes
-serves-answer b earlier bytes request answer rb ra held holds before after old now NoReply some is answers (told, keeps) =
-    (some, keeps, silent b earlier bytes request answer old now is answers told)
+serves-answer b earlier bytes request answer rb ra held holds before after old now NoReply some is answers (given, keeps) =
+    (some, keeps, silent b earlier bytes request answer old now is answers given)

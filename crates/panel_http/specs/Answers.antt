@@ -2,7 +2,7 @@
 use Rattle.std.specs.Prelude.{◌≡◌, ◌⊎◌, List, [], ◌∷◌, ◌++◌, Option, Some, None, Result, Ok, Err}
 use Rattle.std.specs.Bool.{IsTrue}
 use Rattle.building.specs.Building.{Building}
-use Rattle.day_reports.specs.DayReport.{report_text}
+use Rattle.desk_reports.specs.DayReport.{report_text}
 use Rattle.deliveries.specs.Delivered.{Holds, LeavesEither}
 use Rattle.deliveries.specs.Reply.{reply}
 use Rattle.deliveries.specs.Tables.{tables}
@@ -11,17 +11,16 @@ use Rattle.deliveries.specs.declared.reply.Reply.TheVariants as reply_of
 use Rattle.desk.specs.PointState.{state_of}
 use Rattle.desk.specs.declared.point_state.PointState.{PointState}
 use Rattle.points.specs.Rights.{point_named}
-use Rattle.request_reading.specs.declared.told.BodyTold.{BodyTold}
-use Rattle.request_reading.specs.declared.told.BodyTold.TheVariants as told
-use Rattle.request_reading.specs.declared.request.Request.{Request}
-use Rattle.request_reading.specs.declared.request.Request.TheVariants.{Point, Refused, Report, Told}
-use Rattle.response_texts.specs.Response.{Said, Says}
-use Rattle.response_texts.specs.Responses.{import_refused_said, no_day_said, no_point_said, point_said}
-use Rattle.response_texts.specs.Responses.{refusal_said, reply_said, report_said}
-use Rattle.response_texts.specs.declared.whole_response.Response.{Response}
-use Rattle.settling.specs.Calendars.{Tells}
+use Rattle.panel_http_requests.specs.declared.request.Request.{Request}
+use Rattle.panel_http_requests.specs.declared.request.Request.TheVariants as asked
+use Rattle.panel_http_responses.specs.Response.{Said, Says}
+use Rattle.panel_http_responses.specs.Responses.{import_refused_said, no_day_said, no_point_said, point_said}
+use Rattle.panel_http_responses.specs.Responses.{refusal_said, reply_said, report_said}
+use Rattle.panel_http_responses.specs.declared.whole_response.Response.{Response}
+use Rattle.desk_settling.specs.Calendars.{Tells}
 use Rattle.store.specs.Standing.{HasRisen, Standing}
-use Rattle.store.specs.Tables.{Tables, Text}
+use Rattle.store.specs.Tables.{Tables}
+use Rattle.points.specs.Texts.{Text}
 use Rattle.store.specs.declared.fault.StoreFault.{StoreFault}
 use Rattle.store.specs.declared.fault.StoreFault.TheVariants as fault
 use Rattle.panel_http.specs.declared.unanswered.Unanswered.{Unanswered}
@@ -30,11 +29,6 @@ use Rattle.desk_record.specs.declared.delivering.Undelivered.TheVariants as unde
 use Rattle.panel_http.specs.declared.unanswered.Unanswered.TheVariants.{NoMemory, NoReply, NotRecorded, Store}
 
 -- ---- what is said
-
-abbrev pub told_said : Building → List Delivery → BodyTold → Said
-told_said building earlier (told.Delivery delivery) = reply_said (reply building earlier delivery)
-told_said building earlier told.NoPanel = reply_said reply_of.NoPanel
-told_said building earlier (told.RefusedImport refused) = import_refused_said refused
 
 abbrev pub state_said : Text → Option PointState → Said
 state_said name None = no_point_said
@@ -46,26 +40,25 @@ IsPointSaid building now (Some name) said = said ≡ state_said name (state_of (
 
 -- to a request, over the tables of the deliveries before it
 abbrev pub IsSaid : Building → List Delivery → Request → Said → Type 0
-IsSaid building earlier (Refused refusal) said = said ≡ refusal_said refusal
-IsSaid building earlier (Told it) said = said ≡ told_said building earlier it
-IsSaid building earlier (Point name) said = IsPointSaid building (tables building earlier) name said
-IsSaid building earlier (Report None) said = said ≡ no_day_said
-IsSaid building earlier (Report (Some day)) said = (imported : Text → List Text) → Tells (tables building earlier).imported imported
+IsSaid building earlier (asked.Refused refusal) said = said ≡ refusal_said refusal
+IsSaid building earlier (asked.Delivery delivery) said = said ≡ reply_said (reply building earlier delivery)
+IsSaid building earlier asked.NoPanel said = said ≡ reply_said reply_of.NoPanel
+IsSaid building earlier (asked.RefusedImport fault) said = said ≡ import_refused_said fault
+IsSaid building earlier (asked.Point name) said = IsPointSaid building (tables building earlier) name said
+IsSaid building earlier (asked.Report None) said = said ≡ no_day_said
+IsSaid building earlier (asked.Report (Some day)) said = (imported : Text → List Text) → Tells (tables building earlier).imported imported
     → said ≡ report_said (report_text building imported (tables building earlier).places day)
 
 -- ---- what is left
 
--- the deliveries with what a request delivers, if it delivers something
-abbrev pub with_told : List Delivery → BodyTold → List Delivery
-with_told earlier (told.Delivery delivery) = earlier ++ delivery ∷ []
-with_told earlier told.NoPanel = earlier
-with_told earlier (told.RefusedImport refused) = earlier
-
+-- the deliveries with that of a request, if it brings one
 abbrev pub after : List Delivery → Request → List Delivery
-after earlier (Refused refusal) = earlier
-after earlier (Told it) = with_told earlier it
-after earlier (Point name) = earlier
-after earlier (Report day) = earlier
+after earlier (asked.Refused refusal) = earlier
+after earlier (asked.Delivery delivery) = earlier ++ delivery ∷ []
+after earlier asked.NoPanel = earlier
+after earlier (asked.RefusedImport fault) = earlier
+after earlier (asked.Point name) = earlier
+after earlier (asked.Report day) = earlier
 
 -- a store that has failed in this call is shut, and opened again it holds the one or the other; one that was shut
 -- before holds what it held

@@ -2,29 +2,27 @@
 use Rattle.std.specs.Prelude.{◌≡◌, ◌<◌, ◌⊎◌, ℕ, List, [], length, string_bytes, Option, Some, None, Result, Ok, Err}
 use Rattle.std.specs.Io.KnownBytes.{Appends, Keeps}
 use Rattle.building.specs.Building.{Building}
-use Rattle.counted.specs.Counting.{Lost, Rises}
+use Rattle.panel_http_requests.specs.Counting.{Lost}
+use Rattle.store.specs.Standing.{HasRisen, Standing}
 use Rattle.deliveries.specs.Delivered.{Holds}
 use Rattle.deliveries.specs.declared.delivery.Delivery.{Delivery}
 use Rattle.panel_http.specs.Answers.{IsSaid, StoreEnds, after}
 use Rattle.panel_http.specs.declared.unanswered.Unanswered.{Unanswered}
 use Rattle.panel_http.specs.declared.unanswered.Unanswered.TheVariants as unanswered
-use Rattle.request_reading.specs.Requests.{IsRequest}
-use Rattle.request_reading.specs.declared.request.Request.{Request}
-use Rattle.response_texts.specs.Response.{Said, Status, response_text}
-use Rattle.response_texts.specs.Responses.{no_memory_said, store_said}
-use Rattle.response_texts.specs.declared.whole_response.Response.{Response}
-use Rattle.store.specs.Standing.{Standing}
+use Rattle.panel_http_requests.specs.Requests.{IsRequest}
+use Rattle.panel_http_requests.specs.declared.request.Request.{Request}
+use Rattle.panel_http_responses.specs.Response.{Said, Status, response_text}
+use Rattle.panel_http_responses.specs.Responses.{no_memory_said, store_said}
+use Rattle.panel_http_responses.specs.declared.whole_response.Response.{Response}
 use Rattle.panel_http.specs.declared.served.Served.{Served}
 use Rattle.panel_http.specs.declared.served.Served.TheVariants.{Answered, NoReply, NoRequest, ReplyLost}
-
-abbrev pub Text : Type 0
-Text = List ℕ
+use Rattle.points.specs.Texts.{Text}
 
 -- the status and the text of what is said
 abbrev pub IsOf : Said → Status → Text → Type 0
 IsOf said code text = (code ≡ said.status) × (text ≡ response_text said)
 
--- ---- what is told, and what the store holds then
+-- ---- what is given, and what the store holds then
 
 -- the response of the definitions to what the bytes ask, and the tables with what they deliver
 pub record Responds (building : Building) (earlier : List Delivery) (bytes : Text) (code : Status) (text : Text)
@@ -33,19 +31,19 @@ pub record Responds (building : Building) (earlier : List Delivery) (bytes : Tex
   pub is_request : IsRequest building bytes request
   pub said : Said
   pub is_said : IsSaid building earlier request said
-  pub is_told : IsOf said code text
+  pub is_given : IsOf said code text
   pub holds : Holds building (after earlier request) now
 
 -- memory was refused, and nothing is delivered
 pub record LacksMemory (building : Building) (earlier : List Delivery) (code : Status) (text : Text)
     (now : Standing) : Type 0 where
-  pub is_told : IsOf no_memory_said code text
+  pub is_given : IsOf no_memory_said code text
   pub holds : Holds building earlier now
 
 -- the record can't be written, and nothing is delivered
 pub record LacksRecord (building : Building) (earlier : List Delivery) (code : Status) (text : Text)
     (now : Standing) : Type 0 where
-  pub is_told : IsOf store_said code text
+  pub is_given : IsOf store_said code text
   pub holds : Holds building earlier now
 
 -- the store failed in this call, or was shut
@@ -53,7 +51,7 @@ pub record LacksStore (building : Building) (earlier : List Delivery) (bytes : T
     (old now : Standing) : Type 0 where
   pub request : Request
   pub is_request : IsRequest building bytes request
-  pub is_told : IsOf store_said code text
+  pub is_given : IsOf store_said code text
   pub ends : StoreEnds building earlier (after earlier request) old now
 
 abbrev pub Tells : Building → List Delivery → Text → Status → Text → Standing → Standing → Type 0
@@ -62,7 +60,7 @@ Tells building earlier bytes code text old now =
     ⊎ (LacksMemory building earlier code text now
     ⊎ (LacksRecord building earlier code text now ⊎ LacksStore building earlier bytes code text old now))
 
--- nothing is told, and the tables are those with what the bytes deliver
+-- nothing is given, and the tables are those with what the bytes deliver
 pub record IsSilent (building : Building) (earlier : List Delivery) (bytes : Text) (now : Standing) : Type 0 where
   pub request : Request
   pub is_request : IsRequest building bytes request
@@ -81,7 +79,7 @@ Serves building earlier bytes read_before read_after held holds before now old n
     (0 < length bytes) × (code : Status) × (text : Text) × Lost held holds text before now
     × Tells building earlier bytes code text old new
 Serves building earlier bytes read_before read_after held holds before now old new NoRequest =
-    (Rises read_before read_after ⊎ (bytes ≡ [])) × Keeps held holds × Holds building earlier new
+    (HasRisen read_before read_after ⊎ (bytes ≡ [])) × Keeps held holds × Holds building earlier new
 Serves building earlier bytes read_before read_after held holds before now old new NoReply =
     (0 < length bytes) × Keeps held holds × IsSilent building earlier bytes new
 
@@ -96,8 +94,8 @@ written (Err unanswered.Store) = Some (store_said.status, response_text store_sa
 written (Err unanswered.NoReply) = None
 
 abbrev pub Writes : Option (Status × Text) → Option Text → Option Text → ℕ → ℕ → Served → Type 0
-Writes told held holds before now (Answered code) = (text : Text) × (told ≡ Some (code, text)) × Appends held holds text
-Writes told held holds before now ReplyLost =
-    (code : Status) × (text : Text) × (told ≡ Some (code, text)) × Lost held holds text before now
-Writes told held holds before now NoRequest = ⊥
-Writes told held holds before now NoReply = (told ≡ None) × Keeps held holds
+Writes given held holds before now (Answered code) = (text : Text) × (given ≡ Some (code, text)) × Appends held holds text
+Writes given held holds before now ReplyLost =
+    (code : Status) × (text : Text) × (given ≡ Some (code, text)) × Lost held holds text before now
+Writes given held holds before now NoRequest = ⊥
+Writes given held holds before now NoReply = (given ≡ None) × Keeps held holds

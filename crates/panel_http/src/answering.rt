@@ -5,20 +5,19 @@ ghost use Rattle.deliveries.specs.declared.delivery.Delivery.{Delivery as a_deli
 ghost use Rattle.deliveries.specs.Delivered.{Holds};
 ghost use Rattle.desk_record.specs.Recorded.{InStep};
 ghost use Rattle.panel_http.specs.Answers.{Answers};
-ghost use Rattle.request_reading.specs.declared.told.BodyTold.TheVariants as told;
-ghost use Rattle.request_reading.specs.declared.request.Request.TheVariants as asked;
+ghost use Rattle.panel_http_requests.specs.declared.request.Request.TheVariants as asked;
 
 use crate::looking::{point_answer, report_answer};
 use crate::unanswered::Unanswered;
 use deliveries::{Delivery, Reply};
 use desk::Desk;
 use desk_record::{Recorder, deliver};
-use request_reading::{BodyTold, Request};
-use response_texts::{Response, import_refused_response, reply_response};
+use panel_http_requests::Request;
+use panel_http_responses::{Response, import_refused_response, refusal_response, reply_response};
 use std::alloc::Global;
 use store::Store;
 
-/// Answers a request: delivers what it tells, or looks at what it asks for.
+/// Answers a request: makes its delivery, or looks at what it asks for.
 pub(crate) fn answer<S: Store + Drop, K: Recorder>(
     alloc: Global,
     desk: &mut Desk<S>,
@@ -36,36 +35,16 @@ pub(crate) fn answer<S: Store + Drop, K: Recorder>(
     ensures building { desk.new.building ≡ desk.old.building }
 {
     match request {
-        Request::Refused(refusal) => refusal.response(alloc).or(Err(Unanswered::NoMemory)),
-        Request::Told(told) => told_answer(alloc, desk, recorder, told),
-        Request::Point(name) => point_answer(alloc, desk, *name),
-        Request::Report(day) => report_answer(alloc, desk, *day),
-    }
-}
-
-/// Answers what a body tells.
-fn told_answer<S: Store + Drop, K: Recorder>(
-    alloc: Global,
-    desk: &mut Desk<S>,
-    recorder: &mut K,
-    told: &BodyTold,
-) -> Result<Response, Unanswered>
-    ensures answers { (earlier : List a_delivery) → (S.standing desk.new.store).is_honest
-        → Holds desk.old.building earlier (S.standing desk.old.store)
-        → Answers desk.old.building earlier (asked.Told told.now) result (S.standing desk.old.store) (S.standing desk.new.store) }
-    ensures honest { (S.standing desk.new.store).is_honest → (S.standing desk.old.store).is_honest }
-    ensures recorded { (S.standing desk.new.store).is_honest → (K.standing recorder.new).is_honest
-        → InStep desk.old.building (K.standing recorder.old) (S.standing desk.old.store)
-        → InStep desk.old.building (K.standing recorder.new) (S.standing desk.new.store) }
-    ensures honest_record { (K.standing recorder.new).is_honest → (K.standing recorder.old).is_honest }
-    ensures building { desk.new.building ≡ desk.old.building }
-{
-    match told {
-        BodyTold::Delivery(delivery) => delivery_answer(alloc, desk, recorder, delivery),
-        BodyTold::NoPanel => reply_response(alloc, Reply::NoPanel).or(Err(Unanswered::NoMemory)),
-        BodyTold::RefusedImport(fault) => {
+        Request::Refused(refusal) => {
+            refusal_response(alloc, *refusal).or(Err(Unanswered::NoMemory))
+        }
+        Request::Delivery(delivery) => delivery_answer(alloc, desk, recorder, delivery),
+        Request::NoPanel => reply_response(alloc, Reply::NoPanel).or(Err(Unanswered::NoMemory)),
+        Request::RefusedImport(fault) => {
             import_refused_response(alloc, *fault).or(Err(Unanswered::NoMemory))
         }
+        Request::Point(name) => point_answer(alloc, desk, *name),
+        Request::Report(day) => report_answer(alloc, desk, *day),
     }
 }
 
@@ -78,7 +57,7 @@ fn delivery_answer<S: Store + Drop, K: Recorder>(
 ) -> Result<Response, Unanswered>
     ensures answers { (earlier : List a_delivery) → (S.standing desk.new.store).is_honest
         → Holds desk.old.building earlier (S.standing desk.old.store)
-        → Answers desk.old.building earlier (asked.Told (told.Delivery delivery.now)) result (S.standing desk.old.store) (S.standing desk.new.store) }
+        → Answers desk.old.building earlier (asked.Delivery delivery.now) result (S.standing desk.old.store) (S.standing desk.new.store) }
     ensures honest { (S.standing desk.new.store).is_honest → (S.standing desk.old.store).is_honest }
     ensures recorded { (S.standing desk.new.store).is_honest → (K.standing recorder.new).is_honest
         → InStep desk.old.building (K.standing recorder.old) (S.standing desk.old.store)

@@ -5,9 +5,9 @@ ghost use Rattle.std.specs.Io.KnownBytes.{IsAtEnd, Keeps};
 ghost use Rattle.building.specs.Building.{Building as a_building};
 ghost use Rattle.panel_http.specs.Gathering.{Takes};
 ghost use Rattle.panel_http.specs.declared.gathering.Gathered.{Gathered};
-ghost use Rattle.request_reading.specs.Whole.{IsWhole};
+ghost use Rattle.panel_http_requests.specs.Whole.{IsWhole};
 
-use request_reading::{Routes, lacking};
+use panel_http_requests::{Routes, lacking};
 use std::alloc::Global;
 use std::io::{self, ErrorKind, Read};
 
@@ -64,7 +64,7 @@ pub fn gather<R: Read>(
     Gathered::HasMore
 }
 
-/// Reads once, and puts what was read behind what has come. Where it fails, for want of memory too, nothing was read.
+/// Reads once, and puts what was read behind what has come. Where it fails, for lack of memory too, nothing was read.
 pub fn take_some<R: Read>(reader: &mut R, come: &mut Vec<u8>) -> io::Result<usize>
     ensures taken { OnOk result (Takes (R.remaining reader.old) (R.remaining reader.new) come.old.items come.new.items) }
     ensures count { IfOk result (λ count. length come.new.items ≡ length come.old.items + count) }

@@ -5,16 +5,16 @@ ghost use Rattle.deliveries.specs.declared.delivery.Delivery.{Delivery as a_deli
 ghost use Rattle.deliveries.specs.Delivered.{Holds};
 ghost use Rattle.panel_http.specs.Answers.{Answers, state_said};
 ghost use Rattle.panel_http.specs.Looking.{OnlyReads};
-ghost use Rattle.response_texts.specs.Response.{Says};
-ghost use Rattle.request_reading.specs.declared.request.Request.TheVariants as asked;
+ghost use Rattle.panel_http_responses.specs.Response.{Says};
+ghost use Rattle.panel_http_requests.specs.declared.request.Request.TheVariants as asked;
 
 use crate::unanswered::Unanswered;
 use dates::Day;
 use desk::{Desk, PointState};
-use points::Name;
-use response_texts::{
+use panel_http_responses::{
     Response, no_day_response, no_point_response, point_response, report_response,
 };
+use points::Name;
 use std::alloc::{AllocError, Global};
 use store::Store;
 
@@ -54,7 +54,7 @@ fn named_point_answer<S: Store + Drop>(
     state_response(alloc, name, &state).or(Err(Unanswered::NoMemory))
 }
 
-/// The response that tells the state of a point, or that there is none.
+/// The response with the state of a point, or that there is none.
 fn state_response(
     alloc: Global,
     name: &Name,

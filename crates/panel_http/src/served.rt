@@ -9,8 +9,8 @@ pub enum Served {
     Answered(StatusCode),
     /// A read failed, or the input ended before its first byte: nothing was delivered or written.
     NoRequest,
-    /// A write failed or took no byte: a beginning of the response was written, and what the request told stands.
+    /// A write failed or took no byte: a beginning of the response was written, and what the request delivered stands.
     ReplyLost,
-    /// Memory for the response was refused: nothing was written, and what the request told stands.
+    /// Memory for the response was refused: nothing was written, and what the request delivered stands.
     NoReply,
 }

@@ -5,21 +5,20 @@ ghost use Rattle.deliveries.specs.declared.delivery.Delivery.{Delivery as a_deli
 ghost use Rattle.deliveries.specs.Delivered.{Holds};
 ghost use Rattle.desk_record.specs.Recorded.{InStep};
 ghost use Rattle.panel_http.specs.Serving.{Serves};
-ghost use Rattle.request_reading.specs.Whole.{IsWhole};
+ghost use Rattle.panel_http_requests.specs.Whole.{IsWhole};
 
 use crate::Served;
 use crate::answering::answer;
 use crate::unanswered::Unanswered;
 use crate::writing::write_answer;
-use counted::Counted;
 use desk::Desk;
 use desk_record::Recorder;
-use request_reading::{Routes, Unread, read_request};
+use panel_http_requests::{Counted, Routes, Unread, read_request};
 use std::alloc::Global;
 use std::io::{Read, Write};
 use store::Store;
 
-/// Reads one request, carries out what it tells, and writes one response.
+/// Reads one request, makes its delivery, and writes one response.
 pub fn serve_one<R: Read, W: Write, S: Store + Drop, K: Recorder>(
     alloc: Global,
     routes: &Routes,
@@ -42,8 +41,8 @@ pub fn serve_one<R: Read, W: Write, S: Store + Drop, K: Recorder>(
 {
     match read_request(alloc, routes, desk.building(), reader) {
         Ok(request) => {
-            let told = answer(alloc, desk, recorder, &request);
-            write_answer(writer, told)
+            let response = answer(alloc, desk, recorder, &request);
+            write_answer(writer, response)
         }
         Err(Unread::NoMemory) => write_answer(writer, Err(Unanswered::NoMemory)),
         Err(Unread::NoInput | Unread::Lost) => Served::NoRequest,

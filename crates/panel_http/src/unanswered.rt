@@ -8,7 +8,7 @@ use store::StoreFault;
 pub enum Unanswered {
     /// Memory was refused, and nothing was delivered.
     NoMemory,
-    /// Memory for the response was refused. What the request told is delivered.
+    /// Memory for the response was refused. Its delivery is made.
     NoReply,
     /// The record can't be written, and nothing was delivered.
     NotRecorded,

@@ -5,9 +5,9 @@ ghost use Rattle.panel_http.specs.Serving.{Writes, written};
 
 use crate::Served;
 use crate::unanswered::Unanswered;
-use counted::{Counted, write_text};
 use http::StatusCode;
-use response_texts::{Response, no_memory_text, store_text};
+use panel_http_requests::{Counted, write_text};
+use panel_http_responses::{Response, no_memory_text, store_text};
 use std::io::Write;
 
 /// Writes the response that an answer has.

@@ -12,7 +12,7 @@ use Rattle.points.specs.declared.rule.Rule.TheVariants.{PriorityNotGranted, Outs
 use Rattle.deliveries.specs.declared.reply.Reply.{Reply}
 use Rattle.deliveries.specs.declared.reply.Reply.TheVariants.{Answered, BadNumber, Differs, Forgotten, NoPanel, Parked, SkipDone}
 use Rattle.deliveries.specs.declared.reply.Reply.TheVariants.{Skipped, TooFar}
-use Rattle.delivery_lines.specs.Readings.{value_in}
+use Rattle.delivery_json.specs.Readings.{value_in}
 use Rattle.panel_journal.specs.declared.entry.Entry.TheVariants.{Began, GaveUp, Heard, Pressed}
 use Rattle.panel_journal.specs.Entries.{began_in, content_in, entry_in, gave_up_in, heard_in, pressed_in}
 use Rattle.panel_journal.specs.EntryData.{EntriesReadBack, IsOfPanel, IsWord, IsWordOrNone, entry_data, reply_data, value_data}
@@ -31,27 +31,27 @@ rule-back ReservedPriority = refl
 rule-back PriorityNotGranted = refl
 rule-back OutsideKind = refl
 
-done-back : (told present : ℤ) (priority : ℕ) → IsWord told → IsWord present → priority < 2 ^ 8
-    → reply_in (reply_data (Answered told (Done present priority))) ≡ Some (Answered told (Done present priority))
+done-back : (reported present : ℤ) (priority : ℕ) → IsWord reported → IsWord present → priority < 2 ^ 8
+    → reply_in (reply_data (Answered reported (Done present priority))) ≡ Some (Answered reported (Done present priority))
 unfolding reply_in done_in
-done-back told present priority is value small =
+done-back reported present priority is value small =
     let test : nat_lt priority (2 ^ 8) ≡ true = grind (arith, nat_tests) in
-    rw (word-back told is, word-back present value, test) refl
+    rw (word-back reported is, word-back present value, test) refl
 
-refused-back : (told : ℤ) (rule : Rule) → IsWord told
-    → reply_in (reply_data (Answered told (Refused rule))) ≡ Some (Answered told (Refused rule))
+refused-back : (reported : ℤ) (rule : Rule) → IsWord reported
+    → reply_in (reply_data (Answered reported (Refused rule))) ≡ Some (Answered reported (Refused rule))
 unfolding reply_in refused_in
-refused-back told rule is = rw (word-back told is, rule-back rule) refl
+refused-back reported rule is = rw (word-back reported is, rule-back rule) refl
 
 reply-back : (reply : Reply) → IsOfPanel reply → reply_in (reply_data reply) ≡ Some reply
 unfolding reply_in skipped_in forgotten_in differs_in parked_in too_far_in skip_in
-reply-back (Answered told (Done present priority)) is = done-back told present priority is.0 is.1.0 is.1.1
-reply-back (Answered told (Refused rule)) is = refused-back told rule is.0
-reply-back (Skipped told) is = rw (word-back told is) refl
-reply-back (Forgotten told) is = rw (word-back told is) refl
-reply-back (Differs told) is = rw (word-back told is) refl
-reply-back (Parked next told) is = rw (word-back told is) refl
-reply-back (TooFar next told) is = rw (word-back told is) refl
+reply-back (Answered reported (Done present priority)) is = done-back reported present priority is.0 is.1.0 is.1.1
+reply-back (Answered reported (Refused rule)) is = refused-back reported rule is.0
+reply-back (Skipped reported) is = rw (word-back reported is) refl
+reply-back (Forgotten reported) is = rw (word-back reported is) refl
+reply-back (Differs reported) is = rw (word-back reported is) refl
+reply-back (Parked next reported) is = rw (word-back reported is) refl
+reply-back (TooFar next reported) is = rw (word-back reported is) refl
 reply-back (SkipDone next) is = refl
 reply-back NoPanel is = refl
 reply-back BadNumber is = refl
@@ -68,13 +68,13 @@ heard-back reply is = rw (reply-back reply is) refl
 
 heard-entry : (reply : Reply) → IsOfPanel reply → entry_in (reply_data reply) ≡ heard_in (reply_data reply)
 unfolding entry_in
-heard-entry (Answered told (Done present priority)) is = refl
-heard-entry (Answered told (Refused rule)) is = refl
-heard-entry (Skipped told) is = refl
-heard-entry (Forgotten told) is = refl
-heard-entry (Differs told) is = refl
-heard-entry (Parked next told) is = refl
-heard-entry (TooFar next told) is = refl
+heard-entry (Answered reported (Done present priority)) is = refl
+heard-entry (Answered reported (Refused rule)) is = refl
+heard-entry (Skipped reported) is = refl
+heard-entry (Forgotten reported) is = refl
+heard-entry (Differs reported) is = refl
+heard-entry (Parked next reported) is = refl
+heard-entry (TooFar next reported) is = refl
 heard-entry (SkipDone next) is = refl
 heard-entry NoPanel is = refl
 heard-entry BadNumber is = refl
@@ -84,17 +84,17 @@ began-back : (panel : List ℕ) (first : ℕ) → is_name panel ≡ true → ent
 unfolding entry_in began_in
 began-back panel first is = rw is refl
 
-pressed-back : (told : ℕ) (content : Content) → is_name content.point ≡ true → IsWord content.priority → IsWordOrNone content.value
-    → entry_in (entry_data (Pressed told content)) ≡ Some (Pressed told content)
+pressed-back : (reported : ℕ) (content : Content) → is_name content.point ≡ true → IsWord content.priority → IsWordOrNone content.value
+    → entry_in (entry_data (Pressed reported content)) ≡ Some (Pressed reported content)
 unfolding entry_in pressed_in content_in
-pressed-back told content is priority value = rw (is, word-back content.priority priority, value-back content.value value) refl
+pressed-back reported content is priority value = rw (is, word-back content.priority priority, value-back content.value value) refl
 
-gave_up-back : (told : ℕ) → entry_in (entry_data (GaveUp told)) ≡ Some (GaveUp told)
+gave_up-back : (reported : ℕ) → entry_in (entry_data (GaveUp reported)) ≡ Some (GaveUp reported)
 unfolding entry_in gave_up_in
-gave_up-back told = refl
+gave_up-back reported = refl
 
 pub entries-read-back : EntriesReadBack
 entries-read-back (Began panel first) is = began-back panel first is
-entries-read-back (Pressed told content) is = pressed-back told content is.0 is.1 is.2
+entries-read-back (Pressed reported content) is = pressed-back reported content is.0 is.1 is.2
 entries-read-back (Heard reply) is = heard-entry reply is ∙ heard-back reply is
-entries-read-back (GaveUp told) is = gave_up-back told
+entries-read-back (GaveUp reported) is = gave_up-back reported

@@ -3,11 +3,11 @@ use Rattle.std.specs.Prelude.{Option, Some, None, codes}
 use Rattle.serde_json.specs.Data.{Data}
 use Rattle.serde_json.specs.Find.{get}
 use Rattle.points.specs.declared.content.Content.{Content}
-use Rattle.delivery_lines.specs.Readings.{name_in, priority_in, value_in}
+use Rattle.delivery_json.specs.Readings.{name_in, priority_in, value_in}
 use Rattle.panel_journal.specs.declared.entry.Entry.{Entry}
 use Rattle.panel_journal.specs.declared.entry.Entry.TheVariants.{Began, GaveUp, Heard, Pressed}
 use Rattle.panel_journal.specs.Replies.{count_in, reply_in}
-use Rattle.texts.specs.Steps.{◌>>=◌}
+use Rattle.points.specs.Steps.{◌>>=◌}
 
 -- the content of a command, whatever other keys its object has
 unfoldable pub content_in : Data → Option Content

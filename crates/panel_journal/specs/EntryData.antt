@@ -20,30 +20,30 @@ abbrev pub natural : ℕ → Data
 natural n = number (unsigned n)
 
 abbrev pub answer_data : ℤ → Answer → Data
-answer_data told (Done present priority) = object (member (codes "answer") (string (codes "done")) (member (codes "number") (integer told)
+answer_data given (Done present priority) = object (member (codes "answer") (string (codes "done")) (member (codes "number") (integer given)
     (member (codes "present") (integer present) (member (codes "priority") (natural priority) no_members))))
-answer_data told (Refused rule) = object (member (codes "answer") (string (codes "refused")) (member (codes "number") (integer told)
+answer_data given (Refused rule) = object (member (codes "answer") (string (codes "refused")) (member (codes "number") (integer given)
     (member (codes "rule") (string (code_of rule)) no_members)))
 
 -- an answer that tells a number alone
 abbrev pub numbered_data : List ℕ → ℤ → Data
-numbered_data answer told = object (member (codes "answer") (string answer) (member (codes "number") (integer told) no_members))
+numbered_data answer given = object (member (codes "answer") (string answer) (member (codes "number") (integer given) no_members))
 
 abbrev pub next_data : List ℕ → ℕ → ℤ → Data
-next_data answer next told = object (member (codes "answer") (string answer) (member (codes "next") (natural next)
-    (member (codes "number") (integer told) no_members)))
+next_data answer next given = object (member (codes "answer") (string answer) (member (codes "next") (natural next)
+    (member (codes "number") (integer given) no_members)))
 
 abbrev pub lone_data : List ℕ → Data
 lone_data answer = object (member (codes "answer") (string answer) no_members)
 
 -- a reply as the desk writes it; those to a tick or an import are none of a panel's
 abbrev pub reply_data : Reply → Data
-reply_data (Answered told answer) = answer_data told answer
-reply_data (Skipped told) = numbered_data (codes "skipped") told
-reply_data (Forgotten told) = numbered_data (codes "forgotten") told
-reply_data (Differs told) = numbered_data (codes "differs") told
-reply_data (Parked next told) = next_data (codes "parked") next told
-reply_data (TooFar next told) = next_data (codes "too_far") next told
+reply_data (Answered given answer) = answer_data given answer
+reply_data (Skipped given) = numbered_data (codes "skipped") given
+reply_data (Forgotten given) = numbered_data (codes "forgotten") given
+reply_data (Differs given) = numbered_data (codes "differs") given
+reply_data (Parked next given) = next_data (codes "parked") next given
+reply_data (TooFar next given) = next_data (codes "too_far") next given
 reply_data (SkipDone next) = object (member (codes "answer") (string (codes "skip")) (member (codes "next") (natural next) no_members))
 reply_data NoPanel = lone_data (codes "no_panel")
 reply_data BadNumber = lone_data (codes "bad_number")
@@ -55,10 +55,10 @@ value_data (Some value) = integer value
 
 abbrev pub entry_data : Entry → Data
 entry_data (Began panel first) = object (member (codes "first") (natural first) (member (codes "panel") (string panel) no_members))
-entry_data (Pressed told content) = object (member (codes "number") (natural told) (member (codes "point") (string content.point)
+entry_data (Pressed given content) = object (member (codes "number") (natural given) (member (codes "point") (string content.point)
     (member (codes "priority") (integer content.priority) (member (codes "value") (value_data content.value) no_members))))
 entry_data (Heard reply) = reply_data reply
-entry_data (GaveUp told) = object (member (codes "give_up") (natural told) no_members)
+entry_data (GaveUp given) = object (member (codes "give_up") (natural given) no_members)
 
 -- ---- what is written is read back
 
@@ -76,12 +76,12 @@ IsAnswer (Done present priority) = IsWord present × (priority < 2 ^ 8)
 IsAnswer (Refused rule) = Unit {0}
 
 abbrev pub IsOfPanel : Reply → Type 0
-IsOfPanel (Answered told answer) = IsWord told × IsAnswer answer
-IsOfPanel (Skipped told) = IsWord told
-IsOfPanel (Forgotten told) = IsWord told
-IsOfPanel (Differs told) = IsWord told
-IsOfPanel (Parked next told) = IsWord told
-IsOfPanel (TooFar next told) = IsWord told
+IsOfPanel (Answered given answer) = IsWord given × IsAnswer answer
+IsOfPanel (Skipped given) = IsWord given
+IsOfPanel (Forgotten given) = IsWord given
+IsOfPanel (Differs given) = IsWord given
+IsOfPanel (Parked next given) = IsWord given
+IsOfPanel (TooFar next given) = IsWord given
 IsOfPanel (SkipDone next) = Unit {0}
 IsOfPanel NoPanel = Unit {0}
 IsOfPanel BadNumber = Unit {0}
@@ -89,9 +89,9 @@ IsOfPanel other = ⊥
 
 abbrev pub IsEntry : Entry → Type 0
 IsEntry (Began panel first) = is_name panel ≡ true
-IsEntry (Pressed told content) = (is_name content.point ≡ true) × IsWord content.priority × IsWordOrNone content.value
+IsEntry (Pressed given content) = (is_name content.point ≡ true) × IsWord content.priority × IsWordOrNone content.value
 IsEntry (Heard reply) = IsOfPanel reply
-IsEntry (GaveUp told) = Unit {0}
+IsEntry (GaveUp given) = Unit {0}
 
 -- each entry whose names are names, and whose numbers are those of a program, is read back from its object
 abbrev pub EntriesReadBack : Type 0

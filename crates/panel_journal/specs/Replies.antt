@@ -10,8 +10,8 @@ use Rattle.points.specs.declared.rule.Rule.TheVariants.{PriorityNotGranted, Outs
 use Rattle.deliveries.specs.declared.reply.Reply.{Reply}
 use Rattle.deliveries.specs.declared.reply.Reply.TheVariants.{Answered, BadNumber, Differs, Forgotten, NoPanel, Parked, SkipDone}
 use Rattle.deliveries.specs.declared.reply.Reply.TheVariants.{Skipped, TooFar}
-use Rattle.delivery_lines.specs.Readings.{integer_in}
-use Rattle.texts.specs.Steps.{◌>>=◌, where_holds}
+use Rattle.delivery_json.specs.Readings.{integer_in}
+use Rattle.points.specs.Steps.{◌>>=◌, where_holds}
 
 -- the whole number under a key, and one that is not below 0
 abbrev pub whole_in : List ℕ → Data → Option ℤ

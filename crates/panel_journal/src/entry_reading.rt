@@ -1,43 +1,17 @@
-//! The entry of a journal that an object tells.
-ghost use Rattle.std.specs.Prelude.{◌≡◌, option_map};
+//! The entry of a journal in an object.
+ghost use Rattle.std.specs.Prelude.{◌≡◌};
 ghost use Rattle.serde_json.specs.View.{view};
-ghost use Rattle.delivery_lines.specs.Readings.{name_in, priority_in, value_in};
+ghost use Rattle.delivery_json.specs.Readings.{name_in, priority_in, value_in};
 ghost use Rattle.panel_journal.specs.Entries.{began_in, content_in, entry_in, gave_up_in, heard_in, pressed_in, entry_with_first};
 ghost use Rattle.panel_journal.specs.Entries.{entry_with_give_up};
 
 use crate::entry::Entry;
 use crate::replies::{count_in, reply_in};
-use points::{Content, LOWEST_PRIORITY, Name};
+use delivery_json::{name_in, priority_in, value_in};
+use points::Content;
 use serde_json::Value;
-use texts::name_of;
 
-fn name_in(value: &Value) -> Option<Name>
-    ensures { result ≡ name_in (view value.now) }
-{
-    name_of(value.as_str()?)
-}
-
-// A number, or null for NULL.
-fn value_in(value: &Value) -> Option<Option<i64>>
-    ensures { result ≡ value_in (view value.now) }
-{
-    match value {
-        Value::Null => Some(None),
-        _ => Some(Some(value.as_i64()?)),
-    }
-}
-
-// The priority, which is 16 where it is missing or null.
-fn priority_in(value: Option<&Value>) -> Option<i64>
-    ensures { result ≡ priority_in (option_map (λ v. view v.now) value.entry) }
-{
-    match value {
-        Some(value) => Some(value_in(value)?.unwrap_or(i64::from(LOWEST_PRIORITY))),
-        None => Some(i64::from(LOWEST_PRIORITY)),
-    }
-}
-
-/// The content of a command that an object tells, whatever other keys it has.
+/// The content of a command in an object, whatever other keys it has.
 #[tactic(auto, unfolding(crate::specs::Entries::content_in))]
 pub(crate) fn content_in(value: &Value) -> Option<Content>
     ensures { result ≡ content_in (view value.now) }
@@ -86,7 +60,7 @@ fn heard_in(value: &Value) -> Option<Entry>
     Some(Entry::Heard { reply })
 }
 
-/// The entry that an object tells.
+/// The entry in an object.
 #[tactic(auto, unfolding(crate::specs::Entries::entry_in))]
 pub(crate) fn entry_in(value: &Value) -> Option<Entry>
     ensures { result ≡ entry_in (view value.now) }

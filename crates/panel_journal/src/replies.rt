@@ -1,4 +1,4 @@
-//! The reply to a panel that an object tells.
+//! The reply to a panel that an object says.
 ghost use Rattle.std.specs.Prelude.{◌≡◌, option_map};
 ghost use Rattle.serde_json.specs.View.{view};
 ghost use Rattle.panel_journal.specs.Replies.{count_in, differs_in, done_in, forgotten_in, parked_in, refused_in, reply_in};
@@ -165,7 +165,7 @@ fn reply_of(answer: &str, value: &Value) -> Option<Reply>
     }
 }
 
-/// The reply to a panel that an object tells.
+/// The reply to a panel that an object says.
 #[tactic(auto, unfolding(crate::specs::Replies::reply_in))]
 pub(crate) fn reply_in(value: &Value) -> Option<Reply>
     ensures { result ≡ reply_in (view value.now) }

@@ -98,8 +98,8 @@ fn entry_value(alloc: Global, entry: &Entry) -> Result<Value, AllocError>
     }
 }
 
-/// The line of an entry, with its line end (LF): one JSON object, compact, which is read back as the entry's object. The
-/// only error is want of memory.
+/// The line of an entry, with its line end (LF): one JSON object, compact, which is read back as the entry's object.
+/// The only error is lack of memory.
 pub fn line_of(alloc: Global, entry: &Entry) -> Result<String, AllocError>
     ensures text { IfOk result (λ line. string_bytes line ≡ compact_text (entry_data entry.now) ++ 10 ∷ []) }
     ensures reads_back { OnOk result (read (compact_text (entry_data entry.now)) ≡ Some (entry_data entry.now)) }

@@ -6,7 +6,7 @@ use Rattle.std.specs.List.{flat_map}
 use Rattle.std.specs.Str.{bytes_eq}
 use Rattle.std.proofs.lemmas.Bool.{cases_Bool, cases_lt, false≢true}
 use Rattle.points.specs.declared.content.Content.{Content}
-use Rattle.store.specs.Tables.{Text}
+use Rattle.points.specs.Texts.{Text}
 use Rattle.window.specs.declared.TheConstants.{LAST_NUMBER}
 use Rattle.window.specs.Taken as asks
 use Rattle.window.proofs.FrontLemmas.{IsFront-front, take-accepted, take-refused}

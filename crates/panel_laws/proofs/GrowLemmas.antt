@@ -4,7 +4,7 @@ use Rattle.std.proofs.Common.{refl, sym, ap, ap₂, ◌∙◌, subst, arith}
 use Rattle.std.specs.List.{flat_map}
 use Rattle.std.proofs.lemmas.Grind.{flat_map-append}
 use Rattle.points.specs.declared.content.Content.{Content}
-use Rattle.store.specs.Tables.{Text}
+use Rattle.points.specs.Texts.{Text}
 use Rattle.window.specs.declared.numbered_content.NumberedContent.{NumberedContent}
 use Rattle.window.specs.Applied.{applied, and_at, contents_from}
 use Rattle.window.specs.Taken as asks

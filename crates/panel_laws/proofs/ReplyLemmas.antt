@@ -15,7 +15,7 @@ use Rattle.points.specs.declared.content.Content.{Content}
 use Rattle.points.specs.declared.panel.Panel.{Panel}
 use Rattle.points.proofs.ContentLemmas.{content_eq-Decides}
 use Rattle.sched.specs.declared.calendar.CalendarEntry.{CalendarEntry}
-use Rattle.store.specs.Tables.{Text}
+use Rattle.points.specs.Texts.{Text}
 use Rattle.window.specs.declared.TheConstants.{LAST_NUMBER}
 use Rattle.window.specs.declared.verdict.Verdict.{Verdict}
 use Rattle.window.specs.declared.verdict.Verdict.TheVariants as verdict
@@ -39,7 +39,7 @@ use Rattle.deliveries.specs.Tables.{row_of, tables}
 use Rattle.deliveries.proofs.EventLemmas.{machine-push, run-append}
 use Rattle.deliveries.proofs.MachineLemmas.{answers-apart, answers-elsewhere, bytes_eq-same}
 use Rattle.deliveries.proofs.StepLemmas.{Asks, reply-asked, reply-bad_number, reply-unknown, taken-here}
-use Rattle.panel_laws.specs.Laws.{IsTold, RepliesAreTrue}
+use Rattle.panel_laws.specs.Laws.{IsReported, RepliesAreTrue}
 use Rattle.panel_laws.specs.Life.{IsPressed, Life, WasSent, WereSent}
 use Rattle.panel_laws.specs.Means.{Means, WasDone, commands_done, ended_by, natural}
 use Rattle.panel_laws.proofs.CommandLemmas.{done-below, one_name}
@@ -379,23 +379,23 @@ module _ (b : Building) (life : Life) (p : Text) (E after : List Delivery) (n : 
       subst Says (sym (reply-asked b E d (asks.Command n content) stands.asking))
       (says-found stands (nat_lt n (asks.front t - remembered)) refl (asks.content_at t n) refl)
 
-  told : Stands → (given : Reply) → given ≡ reply b E d → ended_by given ≡ Some n → IsTold b life p all n given
+  reported : Stands → (given : Reply) → given ≡ reply b E d → ended_by given ≡ Some n → IsReported b life p all n given
   unfolding Says
-  told stands given is ends =
+  reported stands given is ends =
       let says = subst Says (sym is) (reply-says stands) in
       let both = says ends in
       record { content = content; pressed = stands.pressed; past = both.0; means = both.1 }
 
-told-by : (b : Building) (life : Life) (p : Text) (E after : List Delivery) (n : ℕ) (content : Content) (given : Reply)
+reported-by : (b : Building) (life : Life) (p : Text) (E after : List Delivery) (n : ℕ) (content : Content) (given : Reply)
     → let d = delivery_of.Command p (pos n) content in WereSent life p (E ++ d ∷ after) → given ≡ reply b E d
     → Asks b d (asks.Command n content)
-    → ended_by given ≡ Some n → 1 ≤ n → life.first ≤ n → IsTold b life p (E ++ d ∷ after) n given
-told-by b life p E after n content given sent is asking ends least own =
+    → ended_by given ≡ Some n → 1 ≤ n → life.first ≤ n → IsReported b life p (E ++ d ∷ after) n given
+reported-by b life p E after n content given sent is asking ends least own =
     let d = delivery_of.Command p (pos n) content in
     let joined : (E ++ d ∷ []) ++ after ≡ E ++ d ∷ after = append_assoc E (d ∷ []) after in
     let was : WasSent life p d = WereSent-at life p E after d sent in
-    subst (λ (ds : List Delivery). IsTold b life p ds n given) joined
-    (told b life p E after n content (record {
+    subst (λ (ds : List Delivery). IsReported b life p ds n given) joined
+    (reported b life p E after n content (record {
       least = least;
       own = own;
       pressed = own-content life n content own (was (bytes_eq-same p));
@@ -410,6 +410,6 @@ replies-are-true b life p ds n given sent came ends least own =
     let d = delivery_of.Command p (pos n) command.content in
     let in_list : ds ≡ came.before ++ d ∷ came.after =
     came.in_list ∙ ap (λ (x : Delivery). came.before ++ x ∷ came.after) command.is in
-    subst (λ (all : List Delivery). IsTold b life p all n given) (sym in_list)
-    (told-by b life p came.before came.after n command.content given (subst (WereSent life p) in_list sent)
+    subst (λ (all : List Delivery). IsReported b life p all n given) (sym in_list)
+    (reported-by b life p came.before came.after n command.content given (subst (WereSent life p) in_list sent)
     (came.replied ∙ ap (reply b came.before) command.is) command.asking ends least own)

@@ -5,7 +5,7 @@ use Rattle.std.specs.List.{filter}
 use Rattle.std.proofs.lemmas.Bool.Decides.{nat_tests}
 use Rattle.std.proofs.lemmas.Bool.{cases_lt}
 use Rattle.points.specs.declared.content.Content.{Content}
-use Rattle.store.specs.Tables.{Text}
+use Rattle.points.specs.Texts.{Text}
 use Rattle.window.specs.declared.numbered_content.NumberedContent.{NumberedContent}
 use Rattle.window.specs.Taken as asks
 use Rattle.building.specs.Building.{Building}
@@ -92,9 +92,9 @@ below-all b life p ds least [] sent first own rise ended = refl
 below-all b life p ds least (entry ∷ entries) sent first own rise ended =
     let high = rise.0 in
     let reply_is = ended.0 in
-    let told = replies-are-true b life p ds entry.number reply_is.given sent reply_is.came reply_is.ends
+    let reported = replies-are-true b life p ds entry.number reply_is.given sent reply_is.came reply_is.ends
     (omega (arith, first, high)) (omega (arith, own, high)) in
-    let past = told.past in
+    let past = reported.past in
     let below : nat_lt entry.number (asks.front (taken_by b p ds)) ≡ true = grind (arith, nat_tests, past) in
     let rest = below-all b life p ds (entry.number + 1) entries sent (omega (arith, first, high)) (omega (arith, own, high)) rise.1
     ended.1 in

@@ -2,7 +2,7 @@
 use Rattle.std.specs.Prelude.{◌≡◌, ℕ, ◌<◌, ◌≤◌, nat_lt, List, [], ◌∷◌, None, Some}
 use Rattle.std.specs.List.{filter}
 use Rattle.points.specs.declared.content.Content.{Content}
-use Rattle.store.specs.Tables.{Text}
+use Rattle.points.specs.Texts.{Text}
 use Rattle.building.specs.Building.{Building}
 use Rattle.window.specs.declared.numbered_content.NumberedContent.{NumberedContent}
 use Rattle.window.specs.Applied.{applied}
@@ -11,7 +11,7 @@ use Rattle.deliveries.specs.declared.delivery.Delivery.{Delivery}
 use Rattle.deliveries.specs.declared.reply.Reply.{Reply}
 use Rattle.deliveries.specs.Accepted.{taken_by}
 use Rattle.panel_laws.specs.Life.{ArePressed, IsPassed, Life, IsWithin, RiseFrom, WereSent, from_number}
-use Rattle.panel_laws.specs.Means.{Came, Means, commands_done, ended_by, next_told}
+use Rattle.panel_laws.specs.Means.{Came, Means, commands_done, ended_by, next_in_reply}
 
 -- the commands of a panel that were acted on are what its front has passed: for any list
 abbrev pub CommandsAreApplied : Type 0
@@ -41,7 +41,7 @@ CommandsAreFirst = (building : Building) (life : Life) (panel : Text) (deliverie
     ≡ filter (λ entry. nat_lt entry.number (front (taken_by building panel deliveries))) life.pressed
 
 -- the command that a reply ends was pressed, and the reply says what became of it
-pub record IsTold (building : Building) (life : Life) (panel : Text) (deliveries : List Delivery) (number : ℕ) (given : Reply) : Type 0
+pub record IsReported (building : Building) (life : Life) (panel : Text) (deliveries : List Delivery) (number : ℕ) (given : Reply) : Type 0
   where
     pub content : Content
     pub pressed : content_in life.pressed number ≡ Some content
@@ -51,12 +51,12 @@ pub record IsTold (building : Building) (life : Life) (panel : Text) (deliveries
 abbrev pub RepliesAreTrue : Type 0
 RepliesAreTrue = (building : Building) (life : Life) (panel : Text) (deliveries : List Delivery) (number : ℕ) (given : Reply)
     → WereSent life panel deliveries → Came building panel deliveries given → ended_by given ≡ Some number
-    → 1 ≤ number → life.first ≤ number → IsTold building life panel deliveries number given
+    → 1 ≤ number → life.first ≤ number → IsReported building life panel deliveries number given
 
 -- a skip that is done brought the front where the reply says, or further
 abbrev pub SkipsAreTrue : Type 0
 SkipsAreTrue = (building : Building) (panel : Text) (deliveries : List Delivery) (given : Reply) (next : ℕ)
-    → Came building panel deliveries given → next_told given ≡ Some next → next ≤ front (taken_by building panel deliveries)
+    → Came building panel deliveries given → next_in_reply given ≡ Some next → next ≤ front (taken_by building panel deliveries)
 
 -- a reply that came ended the command of a number
 pub record IsEnded (building : Building) (panel : Text) (deliveries : List Delivery) (number : ℕ) : Type 0 where
@@ -64,13 +64,13 @@ pub record IsEnded (building : Building) (panel : Text) (deliveries : List Deliv
   pub came : Came building panel deliveries given
   pub ends : ended_by given ≡ Some number
 
--- each of its presses was told its last word
+-- each of its presses has heard its last word
 abbrev pub AreEnded : Building → Text → List Delivery → List NumberedContent → Type 0
 AreEnded building panel deliveries [] = Unit {0}
 AreEnded building panel deliveries (entry ∷ entries) =
     IsEnded building panel deliveries entry.number × AreEnded building panel deliveries entries
 
--- at rest: each press was told its last word, and nothing was given up. Then what was acted on is what was pressed.
+-- at rest: each press has heard its last word, and nothing was given up. Then what was acted on is what was pressed.
 abbrev pub AtRestAllIsDone : Type 0
 AtRestAllIsDone = (building : Building) (life : Life) (panel : Text) (deliveries : List Delivery)
     → WereSent life panel deliveries → 1 ≤ life.first → RiseFrom life.first life.pressed → life.given_up ≡ []

@@ -3,7 +3,7 @@ use Rattle.std.specs.Prelude.{◌≡◌, ◌⊎◌, ℕ, ℤ, pos, negsuc, true,
 use Rattle.std.specs.Str.{bytes_eq}
 use Rattle.points.specs.declared.answer.Answer.{Answer}
 use Rattle.points.specs.declared.content.Content.{Content}
-use Rattle.store.specs.Tables.{Text}
+use Rattle.points.specs.Texts.{Text}
 use Rattle.building.specs.Building.{Building}
 use Rattle.window.specs.declared.numbered_content.NumberedContent.{NumberedContent}
 use Rattle.window.specs.Taken.{content_in}
@@ -28,9 +28,9 @@ ended_by (Differs number) = natural number
 ended_by other = None
 
 -- the next number that the reply to a skip tells
-abbrev pub next_told : Reply → Option ℕ
-next_told (SkipDone next) = Some next
-next_told other = None
+abbrev pub next_in_reply : Reply → Option ℕ
+next_in_reply (SkipDone next) = Some next
+next_in_reply other = None
 
 -- the desk gave the reply to one of the panel's deliveries, at its place in the list
 pub record Came (building : Building) (panel : Text) (deliveries : List Delivery) (given : Reply) : Type 0 where
@@ -59,9 +59,9 @@ pub record WasSkipped (building : Building) (panel : Text) (deliveries : List De
 -- What the last reply on a command means. `done` and `refused`: it was acted on, with this answer. `skipped`: its
 -- end gave it up. `forgotten`: it was acted on or given up. `differs` a life that sends nothing else never hears.
 abbrev pub Means : Building → Text → List Delivery → Life → ℕ → Content → Reply → Type 0
-Means building panel deliveries life number content (Answered told answer) = WasDone building panel deliveries number content answer
-Means building panel deliveries life number content (Skipped told) = WasSkipped building panel deliveries life number
-Means building panel deliveries life number content (Forgotten told) =
+Means building panel deliveries life number content (Answered heard answer) = WasDone building panel deliveries number content answer
+Means building panel deliveries life number content (Skipped heard) = WasSkipped building panel deliveries life number
+Means building panel deliveries life number content (Forgotten heard) =
     (content_in (commands_done building panel deliveries) number ≡ Some content) ⊎ IsPassed life.given_up number
-Means building panel deliveries life number content (Differs told) = ⊥
+Means building panel deliveries life number content (Differs heard) = ⊥
 Means building panel deliveries life number content other = Unit {0}

@@ -99,8 +99,8 @@ fn body_in(response: &[u8]) -> &[u8] {
     &[]
 }
 
-/// Sends a delivery, and tells its reply: none where the connection fails, or where what comes back is no answer of the
-/// desk to a panel.
+/// Sends a delivery, and answers its reply: none where the connection fails, or where what comes back is no answer of
+/// the desk to a panel.
 pub fn exchange(
     rt: &HostRuntime,
     address: &str,

@@ -114,8 +114,8 @@ fn keep_name(rt: &HostRuntime, path: &str) -> io::Result<()> {
     File::open(rt, folder)?.sync_all()
 }
 
-/// Opens the journal of a path for this run alone, or makes an empty one. What a stop left of a last line is cut off: nothing of it was
-/// sent.
+/// Opens the journal of a path for this run alone, or makes an empty one. What a stop left of a last line is cut off:
+/// nothing of it was sent.
 pub fn open(rt: &HostRuntime, name: Name, path: &str) -> Result<Opened, Fault> {
     let alloc = rt.alloc();
     let mut file = OpenOptions::new()

@@ -1,8 +1,8 @@
 //! The program `panel`: a panel's end over HTTP, for scripts.
 //!
-//! `panel send ADDRESS NAME JOURNAL` presses each line of the standard input, a command without a number, and prints its
-//! answer; `panel skip ADDRESS NAME JOURNAL` gives up what has no answer yet; `panel status NAME JOURNAL` tells how the
-//! panel stands. What is numbered, sent and concluded is `panel`'s; the journal's lines are `panel_journal`'s.
+//! `panel send ADDRESS NAME JOURNAL` presses each line of the standard input, a command without a number, and prints
+//! its answer; `panel skip ADDRESS NAME JOURNAL` gives up what has no answer yet; `panel status NAME JOURNAL` says how
+//! the panel stands. What is numbered, sent and concluded is `panel`'s; the journal's lines are `panel_journal`'s.
 #![tactic(auto)]
 
 use crate::fault::Fault;
@@ -103,7 +103,7 @@ fn main(rt: HostRuntime) -> ExitCode {
     match run_words(&rt) {
         Ok(()) => ExitCode::SUCCESS,
         Err(fault) => {
-            let _told = match fault {
+            let _printed = match fault {
                 Fault::Words => eprintln!(rt; "{USAGE}"),
                 _ => eprintln!(rt; "panel: {fault}"),
             };

@@ -1,4 +1,4 @@
-//! The line on a terminal that tells how a run stands.
+//! The line on a terminal that says how a run stands.
 use std::fmt::{self, Display, Formatter};
 use std::fs;
 use std::os::unix::fs::FileTypeExt;
@@ -38,7 +38,7 @@ impl Display for Standing {
 pub struct Progress<'a> {
     rt: &'a HostRuntime,
     is_terminal: bool,
-    told: Option<Standing>,
+    shown: Option<Standing>,
 }
 
 // A file, a pipe or a socket is no character device.
@@ -52,23 +52,23 @@ impl<'a> Progress<'a> {
         Progress {
             rt,
             is_terminal: is_terminal(rt),
-            told: None,
+            shown: None,
         }
     }
 
     /// Shows how the run stands.
     pub fn tell(&mut self, standing: Standing) {
-        if self.is_terminal && self.told != Some(standing) {
+        if self.is_terminal && self.shown != Some(standing) {
             let _shown = eprint!(self.rt; "\r{standing}\x1b[K");
-            self.told = Some(standing);
+            self.shown = Some(standing);
         }
     }
 
     /// Takes the line away, before anything else is written.
     pub fn clear(&mut self) {
-        if self.told.is_some() {
+        if self.shown.is_some() {
             let _cleared = eprint!(self.rt; "\r\x1b[K");
-            self.told = None;
+            self.shown = None;
         }
     }
 }

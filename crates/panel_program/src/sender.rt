@@ -4,7 +4,7 @@ use crate::fault::Fault;
 use crate::journal::{self, append, keep};
 use crate::progress::{Progress, Standing};
 use deliveries::{Delivery, Reply};
-use delivery_lines::ReplyText;
+use delivery_json::ReplyText;
 use panel::{MOST_IN_FLIGHT, PanelEnd};
 use panel_journal::{Entry, content_of};
 use points::{Content, Name};
@@ -50,7 +50,7 @@ fn pause_after(idle: u32) -> Duration {
     }
 }
 
-// The desk's next number, as its reply to a command past every window tells it.
+// The desk's next number, as its reply to a command past every window says it.
 fn ask_next(rt: &HostRuntime, address: &str, name: &Name) -> Result<u64, Fault> {
     let content = Content {
         point: *name,
@@ -90,8 +90,8 @@ fn begin_anew(
     Ok(end)
 }
 
-// The next number that a reply tells a command that waits.
-fn next_told(delivery: &Delivery, reply: &Reply) -> Option<u64> {
+// The next number in a reply to a command that waits.
+fn next_in_reply(delivery: &Delivery, reply: &Reply) -> Option<u64> {
     match (delivery, reply) {
         (Delivery::Command { .. }, Reply::Parked { next, .. }) => Some(*next),
         (Delivery::Command { .. }, Reply::TooFar { next, .. }) => Some(*next),
@@ -143,7 +143,7 @@ impl<'a> Sender<'a> {
         })
     }
 
-    /// Presses what a line tells; false where it tells no command.
+    /// Presses what a line says; false where it is no command.
     pub fn press_line(&mut self, line: &str) -> Result<bool, Fault> {
         let Some(content) = content_of(self.rt.alloc(), line.as_bytes())? else {
             return Ok(false);
@@ -244,12 +244,12 @@ impl<'a> Sender<'a> {
         self.progress.clear();
     }
 
-    // Hears the reply to a delivery, and tells whether it brought anything.
+    // Hears the reply to a delivery, and answers whether it brought anything.
     fn hear(&mut self, delivery: &Delivery, reply: &Reply) -> Result<bool, Fault> {
         if let Reply::NoPanel = reply {
             return Err(Fault::NoPanel);
         }
-        if let Some(next) = next_told(delivery, reply) {
+        if let Some(next) = next_in_reply(delivery, reply) {
             self.follow(next)?;
         }
         if is_skip(delivery) {
@@ -272,7 +272,7 @@ impl<'a> Sender<'a> {
         }
     }
 
-    // A desk that tells a next number below all that is in flight was restored from a backup.
+    // A desk that says a next number below all that is in flight was restored from a backup.
     fn follow(&mut self, next: u64) -> Result<(), Fault> {
         let least = first_waiting(&self.end);
         if next < least {

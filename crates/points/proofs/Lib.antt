@@ -2,4 +2,5 @@ pub mod PlacesLemmas
 pub mod ContentLemmas
 pub mod RunLemmas
 pub mod NameLemmas
-pub mod NamesLemmas
+pub mod NameIndexLemmas
+pub mod KeyLemmas

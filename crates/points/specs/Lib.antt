@@ -1,11 +1,16 @@
+pub mod Beginnings
 pub mod ContentEq
+pub mod FaultSteps
 pub mod Kind
 pub mod Name
 pub mod NameFaultText
 pub mod NameHeld
-pub mod Names
+pub mod NameIndex
 pub mod Numbered
+pub mod PointLine
 pub mod PriorityArray
 pub mod Rights
 pub mod RuleCode
 pub mod Run
+pub mod Steps
+pub mod Texts

@@ -25,7 +25,7 @@ is_granted_at panel priority = list_any (λ granted. int_eq (pos granted) priori
 abbrev pub names_no_place : ℤ → Bool
 names_no_place priority = int_lt priority (pos 1) || int_lt (pos 16) priority
 
--- NULL lies in every kind
+-- every kind accepts NULL
 abbrev pub is_outside : Kind → Option ℤ → Bool
 is_outside kind None = false
 is_outside kind (Some value) = not (lies_in kind value)

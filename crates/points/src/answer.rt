@@ -1,7 +1,7 @@
-//! What a panel is told of its command.
+//! The answer to a command.
 use crate::rule::Rule;
 
-/// What a panel is told of a command that was acted on.
+/// The answer to a command that was acted on.
 #[derive(Clone, Copy, Debug, PartialEq, Eq)]
 pub enum Answer {
     /// The value, or NULL, stands in its place. The present value after it, and the priority of the place

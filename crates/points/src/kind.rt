@@ -11,7 +11,7 @@ pub const LEAST_ANALOG: i64 = -1_000_000_000;
 /// The greatest `high` of an analog point, in hundredths of its unit (this profile's limit).
 pub const GREATEST_ANALOG: i64 = 1_000_000_000;
 
-/// The kind of a point, and so the values that may stand in it. NULL lies in every kind.
+/// The kind of a point, and so the values that may stand in it. Every kind accepts NULL.
 #[derive(Clone, Copy)]
 pub enum Kind {
     /// 0 inactive, 1 active.

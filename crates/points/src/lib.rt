@@ -2,8 +2,12 @@
 //!
 //! A `Panel` asks for a `Content`: a value, or NULL, in one place of the priority array of a `Point`.
 //! `permit` finds the first `Rule` against it. Without one, `PriorityArray::set` puts the value in its
-//! place, and `PriorityArray::present` tells the present value (ANSI/ASHRAE 135-2016, clause 19.2, in this
-//! desk's profile). An `Answer` is what the panel is told, and a `CommandRow` what is kept of it.
+//! place, and `PriorityArray::present` gives the present value (ANSI/ASHRAE 135-2016, clause 19.2, in this
+//! desk's profile). An `Answer` is the reply to a command that was acted on, and a `CommandRow` what is kept of it.
+//!
+//! Beside them stand what every crate above uses: the `Listing`, a `Vec` whose capacity contracts don't see; the text
+//! that bytes are and the name that a text is (`points`); and the POINT line that a replay and a report print
+//! (`points`).
 #![tactic(auto)]
 
 pub use answer::Answer;
@@ -12,23 +16,28 @@ pub use content::Content;
 pub use kind::{GREATEST_ANALOG, Kind, LEAST_ANALOG, MOST_STATES};
 pub use listing::Listing;
 pub use name::{Name, NameFault};
-pub use names::Names;
+pub use name_index::NameIndex;
 pub use numbered_row::NumberedRow;
 pub use panel::Panel;
 pub use point::Point;
+pub use point_lines::{point_line, push_right};
 pub use priority_array::{LOWEST_PRIORITY, PriorityArray};
 pub use rights::{find_point, permit, permit_for};
 pub use rule::Rule;
+pub use texts::{is_known_key, name_of, text_of};
 
 mod answer;
 mod command_row;
 mod content;
 mod kind;
+mod listing;
 mod name;
-mod names;
+mod name_index;
 mod numbered_row;
 mod panel;
 mod point;
+mod point_lines;
 mod priority_array;
 mod rights;
 mod rule;
+mod texts;

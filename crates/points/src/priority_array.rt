@@ -65,7 +65,7 @@ impl PriorityArray {
     }
 
     /// The present value, and the priority of the place that gives it: the value of the highest place that
-    /// is not NULL, else the relinquish default, told with priority 0 (this profile's choice).
+    /// is not NULL, else the relinquish default, with priority 0 (this profile's choice).
     pub fn present(&self, relinquish_default: i64) -> (i64, u8)
         ensures present { result ≡ present_of self.now relinquish_default }
         ensures at_most_16 { result.1 ≤ 16 }

@@ -11,3 +11,4 @@ pub mod RisingLemmas
 pub mod ByTimeLemmas
 pub mod AroundLemmas
 pub mod SpanLemmas
+pub mod HoldLemmas

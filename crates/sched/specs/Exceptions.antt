@@ -13,7 +13,7 @@ use Rattle.sched.specs.DayList.{list_value}
 -- the days of an exception: those of its entry, or of the calendar that it names
 abbrev pub in_period : List Calendar → Date → Period → Bool
 in_period calendars day (period.Entry entry) = holds_on entry day
-in_period calendars day (period.Calendar id) = option_map_or (λ calendar. calendar_holds calendar day) (slice_get calendars id.place) false
+in_period calendars day (period.Calendar id) = option_map_or (λ calendar. calendar_holds calendar day) (slice_get calendars id.index) false
 
 abbrev pub in_effect : List Calendar → Date → Exception → Bool
 in_effect calendars day exception = in_period calendars day exception.period

@@ -3,12 +3,12 @@ ghost use Rattle.std.specs.Prelude.{◌≡◌};
 ghost use Rattle.sched.specs.Calendar.{calendar_holds};
 
 use dates::{Day, Entry};
-use listing::Listing;
+use points::Listing;
 
-/// A calendar's place in the building's file, from 0.
+/// A calendar's index in the building's file, from 0.
 #[derive(Clone, Copy)]
 pub struct CalId {
-    pub place: usize,
+    pub index: usize,
 }
 
 /// An entry for a calendar.

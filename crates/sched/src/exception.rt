@@ -22,7 +22,7 @@ impl Period {
     {
         match self {
             Period::Entry(entry) => entry.holds(day),
-            Period::Calendar(id) => match calendars.get(id.place) {
+            Period::Calendar(id) => match calendars.get(id.index) {
                 Some(calendar) => calendar.holds(day),
                 None => false,
             },
@@ -48,15 +48,16 @@ impl Exception {
         self.period.holds(calendars, day)
     }
 
-    fn speaks(&self, calendars: &[Calendar], day: Day, time: Time) -> bool
+    /// Whether the exception is in effect on the day, and its list has a value at the time.
+    pub fn speaks(&self, calendars: &[Calendar], day: Day, time: Time) -> bool
         ensures { result ≡ speaks calendars.now day time self.now }
     {
         self.is_in_effect(calendars, day) && self.times.value_at(time).is_some()
     }
 }
 
-// Of the exceptions that speak, the one of the lowest EventPriority number, and of equal ones the first.
-fn exception_now<'a>(
+/// Of the exceptions that speak, the one of the lowest EventPriority number, and of equal ones the first.
+pub fn exception_now<'a>(
     exceptions: &'a [Exception],
     calendars: &[Calendar],
     day: Day,

@@ -11,7 +11,7 @@
 
 pub use calendar::{CalId, Calendar, CalendarEntry};
 pub use day_list::{DayList, TimeValue};
-pub use exception::{Exception, Period};
+pub use exception::{Exception, Period, exception_now};
 pub use laws::{
     last_segment_has_the_value, list_value_is_the_latest, value_is_by_three_cases,
     value_stands_between_segments,

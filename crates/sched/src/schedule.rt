@@ -7,7 +7,7 @@ use crate::day_list::DayList;
 use crate::exception::{Exception, exceptional_value};
 use crate::time::Time;
 use dates::{Day, Range, Weekday};
-use listing::Listing;
+use points::Listing;
 
 /// What a schedule says of each day (12.24), without what it writes to.
 #[derive(Drop)]

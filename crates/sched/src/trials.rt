@@ -1,7 +1,7 @@
 //! Days that are worked out by hand.
 use crate::{DayList, Exception, Period, Schedule, Time, TimeValue};
 use dates::{Day, Entry, Range};
-use listing::Listing;
+use points::Listing;
 use std::alloc::Global;
 use std::process::Abort;
 use std::test::Fail;

@@ -1,3 +1,4 @@
 pub mod ReadLemmas
 pub mod RowLemmas
 pub mod TextLemmas
+pub mod StoodLemmas

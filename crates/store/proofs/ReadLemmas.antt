@@ -18,7 +18,7 @@ is_open false none = refl
 
 -- a call that tells no fault shows that the store was open, and leaves it open
 pub was_open : (fault : Option StoreFault) (old new : Standing) → Goes fault old new → (fault ≡ Some Shut → ⊥) → old.is_shut ≡ false
-was_open fault old new goes told = is_open old.is_shut (λ shut. told (goes.shut.1 shut))
+was_open fault old new goes reported = is_open old.is_shut (λ shut. reported (goes.shut.1 shut))
 
 pub stays_open : (old new : Standing) → Goes None old new → new.is_shut ≡ false
 stays_open old new goes = goes.goes_on not_failed ∙ was_open None old new goes not_shut
@@ -32,14 +32,14 @@ Goes-after : (fault : Option StoreFault) (first second third : Standing) → Goe
 Goes-after fault first second third before after = record {
   honest = λ honest. before.honest (after.honest honest);
   shut = (
-    (λ told. absurd (is_not (sym (stays_open first second before) ∙ after.shut.0 told))),
+    (λ reported. absurd (is_not (sym (stays_open first second before) ∙ after.shut.0 reported))),
     (λ shut. absurd (not_shut (before.shut.1 shut))),
   );
   untouched = λ honest shut. absurd (not_shut (before.shut.1 shut));
-  goes_on = λ told. after.goes_on told ∙ before.goes_on not_failed;
-  steady = λ told. after.steady told ∙ before.steady not_failed;
+  goes_on = λ reported. after.goes_on reported ∙ before.goes_on not_failed;
+  steady = λ reported. after.steady reported ∙ before.steady not_failed;
   failed =
-      λ told. let rises = after.failed told in (rises.0, subst (λ count. HasRisen count third.failures) (before.steady not_failed) rises.1);
+      λ reported. let rises = after.failed reported in (rises.0, subst (λ count. HasRisen count third.failures) (before.steady not_failed) rises.1);
   settled = after.settled;
 }
 
@@ -48,13 +48,13 @@ pub Reads-then : (fault : Option StoreFault) (first second third : Standing) →
     → Reads fault first third
 Reads-then fault first second third before after = record {
   goes = Goes-after fault first second third before.goes after.goes;
-  kept = λ honest told. after.kept honest told ∙ before.kept (after.goes.honest honest) not_failed;
-  rows = λ honest told. after.rows honest told ∙ before.rows (after.goes.honest honest) not_failed;
+  kept = λ honest reported. after.kept honest reported ∙ before.kept (after.goes.honest honest) not_failed;
+  rows = λ honest reported. after.rows honest reported ∙ before.rows (after.goes.honest honest) not_failed;
   left = λ honest was content left.
       after.left honest (stays_open first second before.goes) content left ∙ before.kept (after.goes.honest honest) not_failed;
   bad_row =
-      λ honest told. sym (ap (λ (content : Content). content.is_sound) (before.kept (after.goes.honest honest) not_failed))
-      ∙ after.bad_row honest told;
+      λ honest reported. sym (ap (λ (content : Content). content.is_sound) (before.kept (after.goes.honest honest) not_failed))
+      ∙ after.bad_row honest reported;
 }
 
 -- a commit behind a read
@@ -65,7 +65,7 @@ Commits-then change fault first second third before after = record {
   made =
       λ honest none. subst (λ content. Makes change content third.content) (before.kept (after.goes.honest honest) not_failed)
       (after.made honest none);
-  unchanged = λ honest goes_on told is. after.unchanged honest goes_on told is ∙ before.kept (after.goes.honest honest) not_failed;
+  unchanged = λ honest goes_on reported is. after.unchanged honest goes_on reported is ∙ before.kept (after.goes.honest honest) not_failed;
   left = λ honest was content left.
       subst (λ old. (content ≡ old) ⊎ Makes change old content) (before.kept (after.goes.honest honest) not_failed)
       (after.left honest (stays_open first second before.goes) content left);
@@ -83,45 +83,45 @@ pub IsOpen-read : (first second : Standing) → Reads None first second → IsOp
 IsOpen-read first second reads = record {
   goes = record {
     honest = λ honest. honest;
-    shut = ((λ told. absurd (not_shut told)), (λ shut. absurd (is_not (sym (stays_open first second reads.goes) ∙ shut))));
+    shut = ((λ reported. absurd (not_shut reported)), (λ shut. absurd (is_not (sym (stays_open first second reads.goes) ∙ shut))));
     untouched = λ honest shut. record { content = refl; leaves = λ content left. left };
-    goes_on = λ told. refl;
-    steady = λ told. refl;
-    failed = λ told. absurd (not_failed told);
+    goes_on = λ reported. refl;
+    steady = λ reported. refl;
+    failed = λ reported. absurd (not_failed reported);
     settled = reads.goes.settled;
   };
-  kept = λ honest told. refl;
-  rows = λ honest told. refl;
+  kept = λ honest reported. refl;
+  rows = λ honest reported. refl;
   left = λ honest was content left. reads.goes.settled honest was content left;
-  bad_row = λ honest told. absurd (not_bad told);
+  bad_row = λ honest reported. absurd (not_bad reported);
 }
   where
     not_bad : None ≡ Some BadRow → ⊥
     not_bad e = cc
 
 -- a call that did nothing but read, and then tells a fault of its own
-pub Goes-told : (fault : StoreFault) (first second : Standing) → Goes None first second → (Some fault ≡ Some Shut → ⊥)
+pub Goes-reported : (fault : StoreFault) (first second : Standing) → Goes None first second → (Some fault ≡ Some Shut → ⊥)
     → (Some fault ≡ Some Failed → ⊥)
     → Goes (Some fault) first second
-Goes-told fault first second before no_shut no_failure = record {
+Goes-reported fault first second before no_shut no_failure = record {
   honest = before.honest;
-  shut = ((λ told. absurd (no_shut told)), (λ shut. absurd (not_shut (before.shut.1 shut))));
+  shut = ((λ reported. absurd (no_shut reported)), (λ shut. absurd (not_shut (before.shut.1 shut))));
   untouched = before.untouched;
-  goes_on = λ told. before.goes_on not_failed;
-  steady = λ told. before.steady not_failed;
-  failed = λ told. absurd (no_failure told);
+  goes_on = λ reported. before.goes_on not_failed;
+  steady = λ reported. before.steady not_failed;
+  failed = λ reported. absurd (no_failure reported);
   settled = before.settled;
 }
 
 -- a call that fails for want of memory, where nothing was done but reads
-pub Reads-told : (fault : StoreFault) (first second : Standing) → Reads None first second → (Some fault ≡ Some NoMemory)
+pub Reads-reported : (fault : StoreFault) (first second : Standing) → Reads None first second → (Some fault ≡ Some NoMemory)
     → Reads (Some fault) first second
-Reads-told fault first second before is = record {
-  goes = Goes-told fault first second before.goes (λ told. memory_not_shut (sym is ∙ told)) (λ told. memory_not_failed (sym is ∙ told));
-  kept = λ honest told. before.kept honest not_failed;
-  rows = λ honest told. before.rows honest not_failed;
+Reads-reported fault first second before is = record {
+  goes = Goes-reported fault first second before.goes (λ reported. memory_not_shut (sym is ∙ reported)) (λ reported. memory_not_failed (sym is ∙ reported));
+  kept = λ honest reported. before.kept honest not_failed;
+  rows = λ honest reported. before.rows honest not_failed;
   left = before.left;
-  bad_row = λ honest told. absurd (memory_not_bad (sym is ∙ told));
+  bad_row = λ honest reported. absurd (memory_not_bad (sym is ∙ reported));
 }
   where
     memory_not_shut : Some NoMemory ≡ Some Shut → ⊥
@@ -142,15 +142,15 @@ still_open shut going failed = is_not (sym going ∙ failed)
 pub changes_once_read : (fault : Option StoreFault) (old new : Standing) → Reads fault old new → ChangesOnce fault old new
 changes_once_read fault old new reads = record {
   made = λ honest none. inl (reads.kept honest (λ failed. not_failed (sym none ∙ failed)));
-  unchanged = λ honest going told is. reads.kept honest (λ failed. still_open new.is_shut going (reads.goes.failed failed).0);
+  unchanged = λ honest going reported is. reads.kept honest (λ failed. still_open new.is_shut going (reads.goes.failed failed).0);
   left = λ honest was content left. inl (reads.left honest was content left);
 }
 
--- reads were answered, and nothing else was asked, whatever is told then
-pub changes_once_told : (fault : Option StoreFault) (old new : Standing) → Reads None old new → ChangesOnce fault old new
-changes_once_told fault old new reads = record {
+-- reads were answered, and nothing else was asked, whatever is reported then
+pub changes_once_reported : (fault : Option StoreFault) (old new : Standing) → Reads None old new → ChangesOnce fault old new
+changes_once_reported fault old new reads = record {
   made = λ honest none. inl (reads.kept honest not_failed);
-  unchanged = λ honest going told is. reads.kept honest not_failed;
+  unchanged = λ honest going reported is. reads.kept honest not_failed;
   left = λ honest was content left. inl (reads.left honest was content left);
 }
 
@@ -176,7 +176,7 @@ changes_once_then fault first second third reads was_honest after =
     record {
       made = λ honest none. subst (λ old. (third.content ≡ old) ⊎ ((change : Change) × Makes change old third.content)) (kept honest)
           (after.made honest none);
-      unchanged = λ honest going told is. after.unchanged honest going told is ∙ kept honest;
+      unchanged = λ honest going reported is. after.unchanged honest going reported is ∙ kept honest;
       left = λ honest was content left. subst (λ old. (content ≡ old) ⊎ ((change : Change) × Makes change old content)) (kept honest)
           (after.left honest (stays_open first second reads.goes) content left);
     }

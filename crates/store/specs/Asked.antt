@@ -5,7 +5,7 @@ use Rattle.points.specs.Run.{Rows}
 use Rattle.store.specs.declared.fault.StoreFault.{StoreFault}
 use Rattle.store.specs.declared.fault.StoreFault.TheVariants.{BadRow}
 use Rattle.store.specs.Change.{IsNumber}
-use Rattle.store.specs.Tables.{Text}
+use Rattle.points.specs.Texts.{Text}
 
 -- the rows that a read asks for
 pub data Asked : Type 0 where
@@ -24,7 +24,7 @@ pub data Asked : Type 0 where
   -- the names in all tables, and that a panel's rows are numbered from 1
   AnyName : Asked
 
--- S5 is told where, and only where, a row that was asked for cannot stand
+-- S5 is reported where, and only where, a row that was asked for cannot stand
 pub record Judges (broken : Type 0) (fault : Option StoreFault) : Type 0 where
   pub bad : fault ≡ Some BadRow → broken
   pub stood : fault ≡ None → broken → ⊥

@@ -14,7 +14,8 @@ use Rattle.store.specs.declared.change.NextNumber.{NextNumber}
 use Rattle.store.specs.declared.change.PlaceValue.{PlaceValue}
 use Rattle.store.specs.declared.change.RowsBelow.{RowsBelow}
 use Rattle.store.specs.declared.change.ShownValue.{ShownValue}
-use Rattle.store.specs.Tables.{Tables, Text}
+use Rattle.store.specs.Tables.{Tables}
+use Rattle.points.specs.Texts.{Text}
 
 -- what the items of a list make, one after the other
 abbrev pub with_each : {Item Table : Type 0} → (Item → Table → Table) → List Item → Table → Table

@@ -8,7 +8,8 @@ use Rattle.std.specs.Ordering.{nat_cmp}
 use Rattle.dates.specs.declared.entry.Entry.{Entry}
 use Rattle.dates.specs.Entry.{spelling}
 use Rattle.store.specs.declared.names.Names.{Names}
-use Rattle.store.specs.Tables.{Tables, Text}
+use Rattle.store.specs.Tables.{Tables}
+use Rattle.points.specs.Texts.{Text}
 
 -- the texts of which something holds, by rising order of their bytes and none twice
 pub record AreTexts (holds : Text → Type 0) (texts : List Text) : Type 0 where

@@ -57,7 +57,7 @@ pub record Goes (fault : Option StoreFault) (old new : Standing) : Type 0 where
   pub failed : fault ≡ Some Failed → IsTrue new.is_shut × HasRisen old.failures new.failures
   pub settled : IsSettled new
 
--- a read changes nothing; a row that cannot stand is told only where there is one
+-- a read changes nothing; a row that cannot stand is reported only where there is one
 pub record Reads (fault : Option StoreFault) (old new : Standing) : Type 0 where
   pub goes : Goes fault old new
   pub kept : new.is_honest → (fault ≡ Some Failed → ⊥) → new.content ≡ old.content
@@ -78,7 +78,7 @@ pub record Makes (change : Change) (old new : Content) : Type 0 where
 pub record Commits (change : Change) (fault : Option StoreFault) (old new : Standing) : Type 0 where
   pub goes : Goes fault old new
   pub made : new.is_honest → fault ≡ None → Makes change old.content new.content
-  pub unchanged : new.is_honest → new.is_shut ≡ false → (told : StoreFault) → fault ≡ Some told → new.content ≡ old.content
+  pub unchanged : new.is_honest → new.is_shut ≡ false → (reported : StoreFault) → fault ≡ Some reported → new.content ≡ old.content
   pub left : new.is_honest → old.is_shut ≡ false → (content : Content) → new.may_leave content
       → (content ≡ old.content) ⊎ Makes change old.content content
   pub never_bad : fault ≡ Some BadRow → ⊥
@@ -89,6 +89,6 @@ pub record Commits (change : Change) (fault : Option StoreFault) (old new : Stan
 -- nothing has changed; after any exit a stop leaves what was held, or that with one change made whole.
 pub record ChangesOnce (fault : Option StoreFault) (old new : Standing) : Type 0 where
   pub made : new.is_honest → fault ≡ None → (new.content ≡ old.content) ⊎ ((change : Change) × Makes change old.content new.content)
-  pub unchanged : new.is_honest → new.is_shut ≡ false → (told : StoreFault) → fault ≡ Some told → new.content ≡ old.content
+  pub unchanged : new.is_honest → new.is_shut ≡ false → (reported : StoreFault) → fault ≡ Some reported → new.content ≡ old.content
   pub left : new.is_honest → old.is_shut ≡ false → (content : Content) → new.may_leave content
       → (content ≡ old.content) ⊎ ((change : Change) × Makes change old.content content)

@@ -1,11 +1,8 @@
-use Rattle.std.specs.Prelude.{ℕ, Bool, false, List, None, Option, ℤ}
+use Rattle.std.specs.Prelude.{ℕ, Bool, false, None, Option, ℤ}
 use Rattle.std.specs.FinMap.{empty}
 use Rattle.points.specs.PriorityArray.{Places}
 use Rattle.points.specs.Run.{Rows}
-
--- the bytes of a name
-abbrev pub Text : Type 0
-Text = List ℕ
+use Rattle.points.specs.Texts.{Text}
 
 -- what the six tables hold
 pub record Tables : Type 0 where

@@ -1,11 +1,11 @@
 -- What is known of a table, where one value or a list of changes is carried over.
-use Rattle.std.proofs.Common.{◌≡◌, ℕ, zero, suc, ◌+◌, ◌<◌, Bool, true, false, cond, List, [], ◌∷◌, ◌++◌, Option, Some, None, refl, sym, ap, ◌∙◌, subst, inl, inr, get_or, length, take, arith, add-one, ℤ}
+use Rattle.std.proofs.Common.{◌≡◌, ℕ, zero, suc, ◌+◌, ◌<◌, Bool, false, cond, List, [], ◌∷◌, Option, Some, None, refl, sym, ap, ◌∙◌, subst, inl, inr, get_or, length, take, arith, add-one, ℤ}
 use Rattle.std.specs.Option.{option_map}
 use Rattle.std.specs.Str.{bytes_eq}
 use Rattle.std.proofs.lemmas.Bool.{cases_Bool}
 use Rattle.std.proofs.lemmas.Slice.Eq.{bytes_eq-Decides}
 use Rattle.store.specs.Change.{with_each, with_last_tick}
-use Rattle.store.specs.Tables.{Text}
+use Rattle.points.specs.Texts.{Text}
 use Rattle.store_remembered.specs.Known.{Knows}
 
 module _ {V : Type 0} (Is : Text → V → Type 0) (stuck : Text → Bool) where
@@ -21,10 +21,10 @@ module _ {V : Type 0} (Is : Text → V → Type 0) (stuck : Text → Bool) where
       elim (cases_Bool (bytes_eq name q)) [
         | inl equal ↦
             let same : name ≡ q = (bytes_eq-Decides name q).0 equal in
-            let told = rw equal at (sym (puts q) ∙ is) in
+            let reported = rw equal at (sym (puts q) ∙ is) in
             let it : value ≡ other = cc in
             subst (λ n. Is n other × (stuck n ≡ false)) same (subst (Is name) it here, stands)
-        | inr apart ↦ let told = rw apart at (sym (puts q) ∙ is) in knows q other told
+        | inr apart ↦ let reported = rw apart at (sym (puts q) ∙ is) in knows q other reported
       ]
 
   -- nothing is known under a name any more
@@ -34,10 +34,10 @@ module _ {V : Type 0} (Is : Text → V → Type 0) (stuck : Text → Bool) where
       → Knows found Is stuck → Knows now After stuck
   known_without After found now name takes elsewhere knows q value is =
       elim (cases_Bool (bytes_eq name q)) [
-        | inl equal ↦ let told = rw equal at (sym (takes q) ∙ is) in absurd (let e : ⊥ = cc in e)
+        | inl equal ↦ let reported = rw equal at (sym (takes q) ∙ is) in absurd (let e : ⊥ = cc in e)
         | inr apart ↦
-            let told = rw apart at (sym (takes q) ∙ is) in
-            let both = knows q value told in
+            let reported = rw apart at (sym (takes q) ∙ is) in
+            let both = knows q value reported in
             (elsewhere q value apart both.0, both.1)
       ]
 

@@ -1,5 +1,5 @@
 -- What a store over another one remembers, after a read of that one.
-use Rattle.std.proofs.Common.{◌≡◌, Bool, true, false, None, Some, Result, Ok, Err, IfOk, Option, refl, sym, ◌∙◌, subst, true≢false}
+use Rattle.std.proofs.Common.{◌≡◌, Bool, true, false, None, Some, Result, Ok, Err, IfOk, refl, sym, ◌∙◌, subst, true≢false}
 use Rattle.std.specs.Bool.{IsTrue}
 use Rattle.std.specs.Result.{result_err}
 use Rattle.store.specs.Asked.{Asked, Judges}
@@ -15,7 +15,7 @@ use Rattle.store_remembered.specs.declared.memory.Memory.{Memory}
 use Rattle.store_remembered.specs.Recalled.{Recalls}
 use Rattle.store_remembered.specs.Remembering.{Remembers, shut_after}
 
--- a row that can stand is told by no fault
+-- a row that can stand is reported by no fault
 pub judged : (broken : Bool) → broken ≡ false → Judges (IsTrue broken) None
 judged broken stands = record { bad = λ (is : None ≡ Some BadRow). cc; stood = λ _ is. true≢false (sym is ∙ stands) }
 

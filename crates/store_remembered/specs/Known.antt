@@ -1,6 +1,6 @@
 -- What is known of a table.
-use Rattle.std.specs.Prelude.{◌≡◌, ℕ, Bool, false, List, Option, Some}
-use Rattle.store.specs.Tables.{Text}
+use Rattle.std.specs.Prelude.{◌≡◌, Bool, false, Option, Some}
+use Rattle.points.specs.Texts.{Text}
 
 -- where a value is known under a name, it is that of the table, and the rows of the name can stand
 abbrev pub Knows : {V : Type 0} → (Text → Option V) → (Text → V → Type 0) → (Text → Bool) → Type 0

@@ -9,7 +9,8 @@ use Rattle.points.specs.PriorityArray.{Places}
 use Rattle.store.specs.Asked.{Asked}
 use Rattle.store.specs.Asked.Asked.{ArrayOf, EntriesOf, LastTick, NextOf, ShownBy}
 use Rattle.store.specs.Listed.{AreTexts}
-use Rattle.store.specs.Tables.{Tables, Text}
+use Rattle.store.specs.Tables.{Tables}
+use Rattle.points.specs.Texts.{Text}
 use Rattle.store_remembered.specs.declared.memory.Memory.{Memory}
 use Rattle.store_remembered.specs.Known.{Has, Knows}
 

@@ -6,7 +6,7 @@ use Rattle.store.specs.Standing.{IsSettled, Standing}
 use Rattle.store_remembered.specs.declared.memory.Memory.{Memory}
 use Rattle.store_remembered.specs.Recalled.{Recalls}
 
--- whether a store is shut after a call that told this
+-- whether a store is shut after a call that reported this
 abbrev pub shut_after : Option StoreFault → Bool → Bool
 shut_after None was_shut = was_shut
 shut_after (Some NoMemory) was_shut = was_shut

@@ -8,13 +8,13 @@ ghost use Rattle.std.specs.HashMap.{get};
 ghost use Rattle.std.specs.List.{All};
 ghost use Rattle.std.specs.Str.{bytes_eq};
 ghost use Rattle.store.specs.Listed.{AreEntries};
-ghost use Rattle.store.specs.Tables.{Tables, Text};
+ghost use Rattle.store.specs.Tables.{Tables};
+ghost use Rattle.points.specs.Texts.{Text};
 ghost use Rattle.store_remembered.specs.Known.{Has, Knows};
 ghost use Rattle.store_remembered.specs.Recalled.{AreImported, Recalls};
 
 use dates::Entry;
-use listing::Listing;
-use points::{Name, PriorityArray};
+use points::{Listing, Name, PriorityArray};
 use std::alloc::{AllocError, Global};
 use std::collections::HashMap;
 use store::{Change, ImportedEntry, NextNumber, PlaceValue, ShownValue};

@@ -6,14 +6,14 @@ ghost use Rattle.store_remembered.specs.Remembering.{shut_after};
 
 use crate::memory::Memory;
 use dates::Entry;
-use listing::Listing;
-use points::{CommandRow, Name, NumberedRow, PriorityArray};
+use points::{CommandRow, Listing, Name, NumberedRow, PriorityArray};
 use std::alloc::Global;
 use std::marker::Model;
 use store::{Change, Names, Store, StoreFault};
 
-/// A store over another one. What the store below has answered once it answers from memory, but for the rows of commands and
-/// the names; a commit goes down, and once it has succeeded what is remembered follows it. To a caller it is the store below.
+/// A store over another one. What the store below has answered once it answers from memory, but for the rows of
+/// commands and the names; a commit goes down, and once it has succeeded what is remembered follows it. To a caller it
+/// is the store below.
 #[derive(Drop)]
 pub struct Remembered<S: Store + Drop> {
     alloc: Global,
@@ -45,11 +45,11 @@ fn is_shut_after<T>(was_shut: bool, answer: &Result<T, StoreFault>) -> bool
 }
 
 impl<S: Store + Drop> Remembered<S> {
-    /// A store over one that is open, of which nothing is remembered but the last tick. The store below is only read, and is
-    /// handed back with a fault.
+    /// A store over one that is open, of which nothing is remembered but the last tick. The store below is only read,
+    /// and is handed back with a fault.
     pub fn open(alloc: Global, below: S) -> Result<Remembered<S>, (StoreFault, S)>
         ensures opened { IfOk result (λ store. Reads None (S.standing below) (S.standing store)) }
-        ensures refused { IfErr result (λ told. Reads (Some told.0) (S.standing below) (S.standing told.1)) }
+        ensures refused { IfErr result (λ reported. Reads (Some reported.0) (S.standing below) (S.standing reported.1)) }
     {
         let mut below = below;
         match below.last_tick() {

@@ -12,9 +12,9 @@ use Rattle.sqlite.specs.Effect.{Database, Reads}
 use Rattle.sqlite.specs.Listing.{understood}
 use Rattle.sqlite.proofs.Callers.{command_of}
 use Rattle.sqlite_sql.specs.Program.{overlay}
-use Rattle.sql_create.specs.Schema.{desk_schema}
-use Rattle.sql_rows.specs.Meanings.{passes, plain_query}
-use Rattle.sql_rows.proofs.AnswerLemmas.{overlay_none}
+use Rattle.store_sql_create.specs.Schema.{desk_schema}
+use Rattle.store_sql_rows.specs.Meanings.{passes, plain_query}
+use Rattle.store_sql_rows.proofs.AnswerLemmas.{overlay_none}
 use Rattle.store_sql.specs.Asking.{FindsNone}
 use Rattle.store_sql.proofs.EmptyLemmas.{all_empty, cond_empty, each_empty, empty_cond, empty_permuted, map_empty, permuted_empty}
 use Rattle.store_sql.proofs.Questions.{has_no_number, one, pair_query, pairing, share, unnumbered}
@@ -73,8 +73,8 @@ plain_none sql tree is none db h =
     let read = read_as sql (unnumbered tree) is none db h in
     let empty = plain_empty tree (has_no_number ∷ []) (overlay db.trees []) h.rows (read.answer Null) in
     let same = overlay_none db.trees tree in (
-      λ told. subst (λ l. (row : Row) → Has l row → passes (has_no_number ∷ []) [] row ≡ false) same (empty.0 (h.told.0 told)),
-      λ each. h.told.1 (empty.1 (subst (λ l. (row : Row) → Has l row → passes (has_no_number ∷ []) [] row ≡ false) (sym same) each)),
+      λ reported. subst (λ l. (row : Row) → Has l row → passes (has_no_number ∷ []) [] row ≡ false) same (empty.0 (h.reported.0 reported)),
+      λ each. h.reported.1 (empty.1 (subst (λ l. (row : Row) → Has l row → passes (has_no_number ∷ []) [] row ≡ false) (sym same) each)),
     )
 
 pub pair_none : (sql : List ℕ) (tree : ℕ) (different : Term) → command_of (understood desk_schema sql) ≡ pairing tree different
@@ -85,4 +85,4 @@ pair_none sql tree different is none db h =
     let empty = pair_empty tree (share ∷ different ∷ []) (overlay db.trees []) h.rows (read.answer Null) in
     let same = overlay_none db.trees tree in
     let Each = λ (l : List Row). (a b : Row) → Has l a → Has l b → pair_passes (share ∷ different ∷ []) a b ≡ false in
-    (λ told. subst Each same (empty.0 (h.told.0 told)), λ each. h.told.1 (empty.1 (subst Each (sym same) each)))
+    (λ reported. subst Each same (empty.0 (h.reported.0 reported)), λ each. h.reported.1 (empty.1 (subst Each (sym same) each)))

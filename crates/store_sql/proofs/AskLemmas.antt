@@ -6,11 +6,11 @@ use Rattle.sqlite_value.specs.Order.{Row}
 use Rattle.sqlite.specs.Effect.{Database, Reads}
 use Rattle.sqlite.specs.Given.{IsPlain}
 use Rattle.sqlite.specs.Listing.{understood}
-use Rattle.sql_create.specs.Schema.{desk_schema}
+use Rattle.store_sql_create.specs.Schema.{desk_schema}
 use Rattle.sqlite.specs.State.{HasCleanDisk, IsUnchanged, Shown, State, Survives}
 use Rattle.sqlite.proofs.Callers.{command_of, reads_as}
 use Rattle.sqlite.proofs.StateLemmas.{survives_weaker}
-use Rattle.sql_rows.specs.Looking.{Rests}
+use Rattle.store_sql_rows.specs.Looking.{Rests}
 use Rattle.store_sql.specs.Asking.{Asks, IsAskable}
 use Rattle.store_sql.specs.Fitting.{IsFitting}
 
@@ -21,7 +21,7 @@ Saying = Bool → Database → Type 0
 pub asks_as : (P Q : Saying) → ((b : Bool) (db : Database) → IsFitting db → P b db → Q b db) → (old new : State) (r : Result Bool Error)
     → Asks P old new r → Asks Q old new r
 asks_as P Q f old new r h =
-    record { same = h.same; rests = h.rests; told = λ clean fit. follows r fit (h.told clean fit); survives = h.survives }
+    record { same = h.same; rests = h.rests; reported = λ clean fit. follows r fit (h.reported clean fit); survives = h.survives }
   where
     follows : (r : Result Bool Error) → IsFitting old.now → IfOk r (λ b. P b old.now) → IfOk r (λ b. Q b old.now)
     follows (Ok b) fit p = f b old.now fit p
@@ -50,7 +50,7 @@ module _ (says : Saying) (sql : List ℕ) (ask : IsAskable sql) (old new : State
   looked answer rows said shown same rests survives = record {
     same = λ clean fit. same clean (plain_here sql old ask fit);
     rests = λ clean fit. rests clean (plain_here sql old ask fit);
-    told = λ clean fit.
+    reported = λ clean fit.
         let h = shown clean in
         let known : understood desk_schema sql ≡ Ok h.0 = ap (λ s. understood s sql) (sym fit.schema_is) ∙ h.1.is in
         said h.0 known (reads_as sql [] old new desk_schema fit.schema_is h.0.command (ap command_of known) ask.plain ask.unlisted rows h);
@@ -66,6 +66,6 @@ module _ (says : Saying) (sql : List ℕ) (ask : IsAskable sql) (old new : State
       record {
         same = λ clean fit. tt;
         rests = λ clean fit. rests clean (plain_here sql old ask fit);
-        told = λ clean fit. tt;
+        reported = λ clean fit. tt;
         survives = never_here sql old new ask survives;
       }

@@ -16,7 +16,7 @@ use Rattle.sqlite_sql.specs.declared.ops.CompareOp.TheVariants.{Eq, Ne}
 use Rattle.sqlite_sql.specs.declared.ops.UnaryOp.TheVariants.{Not, TypeOf}
 use Rattle.sqlite_sql.specs.Ops.{binary, from_truth, is_true, unary}
 use Rattle.sqlite_trees.specs.View.{is_int}
-use Rattle.sql_rows.proofs.TypeLemmas.{IsFilled}
+use Rattle.store_sql_rows.proofs.TypeLemmas.{IsFilled}
 
 truth_of : (b : Bool) → is_true (from_truth (Some b)) ≡ b
 truth_of true = refl
@@ -33,9 +33,9 @@ no_number (Blob b) = truth_of _ ∙ ap is_ne (value_cmp-Text (codes "blob") (cod
 pub shares : (v w : Value) → is_int v ≡ true → is_int w ≡ true → (is_true (binary (Compare Eq Binary) v w) ≡ true) ↔ (v ≡ w)
 unfolding binary
 shares (Int m) (Int n) vi wi =
-    let told : is_true (from_truth (Some (is_eq (value_cmp (Int m) (Int n))))) ≡ is_eq (int_cmp m n) =
+    let reported : is_true (from_truth (Some (is_eq (value_cmp (Int m) (Int n))))) ≡ is_eq (int_cmp m n) =
     truth_of _ ∙ ap is_eq (value_cmp-Int m n) in
-    (λ is. ap Int ((Decides-int_eq m n).0 (sym told ∙ is)), λ same. told ∙ (Decides-int_eq m n).1 (int_same m n same))
+    (λ is. ap Int ((Decides-int_eq m n).0 (sym reported ∙ is)), λ same. reported ∙ (Decides-int_eq m n).1 (int_same m n same))
   where
     int_same : (m n : ℤ) → Int m ≡ Int n → m ≡ n
     int_same m n e = cc
@@ -52,26 +52,26 @@ shares (Blob b) w vi wi = absurd (true≢false (sym vi))
 abbrev pub ties : Value → Value → Bool
 ties v w = is_eq (value_cmp v w)
 
-not_told : (b : Bool) → is_true (unary Not (from_truth (Some b))) ≡ not b
+not_reported : (b : Bool) → is_true (unary Not (from_truth (Some b))) ≡ not b
 unfolding unary
-not_told true = refl
-not_told false = refl
+not_reported true = refl
+not_reported false = refl
 
-pub differs_told : (v w : Value) → is_true (unary Not (binary (Is Binary) v w)) ≡ not (ties v w)
+pub differs_reported : (v w : Value) → is_true (unary Not (binary (Is Binary) v w)) ≡ not (ties v w)
 unfolding binary
-differs_told v w = not_told (ties v w)
+differs_reported v w = not_reported (ties v w)
 
-either_told : (a b : Bool) → is_true (binary Or (unary Not (from_truth (Some a))) (unary Not (from_truth (Some b)))) ≡ not (a && b)
+either_reported : (a b : Bool) → is_true (binary Or (unary Not (from_truth (Some a))) (unary Not (from_truth (Some b)))) ≡ not (a && b)
 unfolding binary unary
-either_told true true = refl
-either_told true false = refl
-either_told false true = refl
-either_told false false = refl
+either_reported true true = refl
+either_reported true false = refl
+either_reported false true = refl
+either_reported false false = refl
 
-pub differ_told : (v w x y : Value)
+pub differ_reported : (v w x y : Value)
     → is_true (binary Or (unary Not (binary (Is Binary) v w)) (unary Not (binary (Is Binary) x y))) ≡ not (ties v w && ties x y)
 unfolding binary
-differ_told v w x y = either_told (ties v w) (ties x y)
+differ_reported v w x y = either_reported (ties v w) (ties x y)
 
 pub tied_same : (v w : Value) → v ≡ w → ties v w ≡ true
 tied_same v w same = ap (λ x. is_eq (value_cmp v x)) (sym same) ∙ ap is_eq (tied_itself value_cmp_total v)

@@ -1,15 +1,15 @@
 -- What a commit, and the telling of its refusal, leave of a store.
-use Rattle.std.proofs.Common.{◌≡◌, ◌⊎◌, inl, inr, ℕ, Bool, true, false, Some, None, refl, sym, ap, ◌∙◌, subst, IsTrue, true≢false}
+use Rattle.std.proofs.Common.{◌≡◌, ◌⊎◌, inl, inr, ℕ, Bool, true, false, Some, None, sym, ap, ◌∙◌, subst, IsTrue, true≢false}
 use Rattle.sqlite_trees.specs.Tree.{Trees}
 use Rattle.sqlite_trees.specs.declared.store.Store.{Ghosts}
 use Rattle.sqlite.specs.Held.{Held, state}
 use Rattle.sqlite.specs.State.{HasCleanDisk, IsUnchanged, State, Survives}
 use Rattle.sqlite.proofs.StateLemmas.{survives_then}
-use Rattle.sql_reading.proofs.ReadLemmas.{clean_before}
-use Rattle.sql_rows.specs.Broken.{cannot_stand_in}
-use Rattle.sql_rows.specs.Ours.{IsOurs, content_of, kept_in}
-use Rattle.sql_rows.specs.Ours as ours
-use Rattle.sql_writing.specs.Committed.{IsCommitted}
+use Rattle.store_sql_reads.proofs.ReadLemmas.{clean_before}
+use Rattle.store_sql_rows.specs.Broken.{cannot_stand_in}
+use Rattle.store_sql_rows.specs.Ours.{IsOurs, content_of, kept_in}
+use Rattle.store_sql_rows.specs.Ours as ours
+use Rattle.store_sql_writes.specs.Committed.{IsCommitted, ShowsCommitted}
 use Rattle.store.specs.declared.change.Change.{Change}
 use Rattle.store.specs.declared.fault.StoreFault.{StoreFault}
 use Rattle.store.specs.declared.fault.StoreFault.TheVariants.{Failed, NoMemory, Shut}
@@ -19,21 +19,13 @@ use Rattle.store_sql.specs.Opening.{Stands}
 use Rattle.store_sql.specs.Standing.{IsFit, standing_at}
 use Rattle.store_sql.specs.Judging.{IsRefusal}
 use Rattle.store_sql.specs.declared.session.Session.{Session}
-use Rattle.store_sql.proofs.StandLemmas.{Settles, settled_at}
+use Rattle.store_sql.proofs.GoesLemmas.{Settles, failed_goes, open_goes, shut_goes}
 
 -- a shut store answers S3 and is left as it is
 pub commits_shut : (change : Change) (s : State) (failures : ℕ) (is_shut : Bool) → is_shut ≡ true
     → Commits change (Some Shut) (standing_at s failures is_shut) (standing_at s failures is_shut)
 commits_shut change s failures is_shut shut = record {
-  goes = record {
-    honest = λ h. h;
-    shut = (λ _. shut, λ _. refl);
-    untouched = λ _ _. record { content = refl; leaves = λ content left. left };
-    goes_on = λ _. refl;
-    steady = λ _. refl;
-    failed = λ is. absurd (let e = is in cc);
-    settled = λ clean unshut. absurd (true≢false (sym shut ∙ unshut));
-  };
+  goes = shut_goes s failures is_shut shut;
   made = λ _ is. absurd (let e = is in cc);
   unchanged = λ _ unshut. absurd (true≢false (sym shut ∙ unshut));
   left = λ _ unshut. absurd (true≢false (sym shut ∙ unshut));
@@ -41,7 +33,7 @@ commits_shut change s failures is_shut shut = record {
   stands = λ _ _ asked could. could;
 }
 
--- Before a commit, after it, and once its refusal was told.
+-- Before a commit, after it, and once its refusal was reported.
 module _ (change : Change) (old new : State) (failures : ℕ) (was_shut : Bool) (was_open : was_shut ≡ false)
     (fit : IsFit old was_shut) (settles_old : Settles old) (settles_new : Settles new)
     (mode : new.in_transaction ≡ false)
@@ -78,15 +70,8 @@ module _ (change : Change) (old new : State) (failures : ℕ) (was_shut : Bool) 
       } in (
         now_fit,
         record {
-          goes = record {
-            honest = λ clean. clean_before old new survives.clean clean;
-            shut = (λ is. absurd (let e = is in cc), λ is. absurd (true≢false (sym is ∙ was_open)));
-            untouched = λ _ is. absurd (true≢false (sym is ∙ was_open));
-            goes_on = λ _. same_shut;
-            steady = λ _. refl;
-            failed = λ is. absurd (let e = is in cc);
-            settled = settled_at new failures now_shut settles_new now_fit;
-          };
+          goes = open_goes old new failures was_shut was_open survives.clean None now_shut same_shut
+              (λ is. absurd (let e = is in cc)) (λ is. absurd (let e = is in cc)) settles_new now_fit;
           made =
               λ clean _. subst (λ d. Makes change (content_of old.committed.trees) (content_of d.trees)) (committed clean).same
               (made_of clean new.now.trees (committed clean).makes);
@@ -115,15 +100,8 @@ module _ (change : Change) (old new : State) (failures : ℕ) (was_shut : Bool) 
       } in (
         now_fit,
         record {
-          goes = record {
-            honest = λ clean. clean_before old new survives.clean clean;
-            shut = (λ is. absurd (let e = is in cc), λ is. absurd (true≢false (sym is ∙ was_open)));
-            untouched = λ _ is. absurd (true≢false (sym is ∙ was_open));
-            goes_on = λ _. same_shut;
-            steady = λ _. refl;
-            failed = λ is. absurd (let e = is in cc);
-            settled = settled_at new failures now_shut settles_new now_fit;
-          };
+          goes = open_goes old new failures was_shut was_open survives.clean (Some NoMemory) now_shut same_shut
+              (λ is. absurd (let e = is in cc)) (λ is. absurd (let e = is in cc)) settles_new now_fit;
           made = λ _ is. absurd (let e = is in cc);
           unchanged = λ clean _ it is. ap (λ d. content_of d.trees) (undone clean).1;
           left = λ clean _. left_before clean;
@@ -139,15 +117,7 @@ module _ (change : Change) (old new : State) (failures : ℕ) (was_shut : Bool) 
   commit_failed risen now_shut shut has_risen = (
     record { mode = mode; stands = λ _ unshut. absurd (true≢false (sym shut ∙ unshut)) },
     record {
-      goes = record {
-        honest = λ clean. clean_before old new survives.clean clean;
-        shut = (λ is. absurd (let e = is in cc), λ is. absurd (true≢false (sym is ∙ was_open)));
-        untouched = λ _ is. absurd (true≢false (sym is ∙ was_open));
-        goes_on = λ unfailed. absurd (unfailed refl);
-        steady = λ unfailed. absurd (unfailed refl);
-        failed = λ _. (shut, has_risen);
-        settled = λ clean unshut. absurd (true≢false (sym shut ∙ unshut));
-      };
+      goes = failed_goes old new failures was_shut was_open survives.clean risen now_shut shut has_risen;
       made = λ _ is. absurd (let e = is in cc);
       unchanged = λ _ unshut. absurd (true≢false (sym shut ∙ unshut));
       left = λ clean _. left_before clean;
@@ -156,21 +126,20 @@ module _ (change : Change) (old new : State) (failures : ℕ) (was_shut : Bool) 
     },
   )
 
--- A commit that was refused, before it, after it, and once that was told.
-module _ {S : Type 0} (g : Ghosts S) (change : Change) (before after now : Session S) (told : StoreFault)
+-- A commit that was refused, before it, after it, and once that was reported.
+module _ {S : Type 0} (g : Ghosts S) (change : Change) (before after now : Session S) (reported : StoreFault)
     (same_failures : after.failures ≡ before.failures) (same_shut : after.is_shut ≡ before.is_shut)
     (was_open : before.is_shut ≡ false) (fit : IsFit (state g before.connection) before.is_shut)
     (settles : (h : Held S) → Settles (state g h))
     (mode : (state g after.connection).in_transaction ≡ false)
     (undone : HasCleanDisk (state g after.connection) → IsTrue (state g after.connection).is_open
-    → ((state g after.connection).now ≡ (state g before.connection).committed)
-    × ((state g after.connection).committed ≡ (state g before.connection).committed))
+    → ShowsCommitted (state g before.connection) (state g after.connection))
     (survives : Survives (state g before.connection) (state g after.connection)
     (λ trees. IsOurs (state g before.connection).now
     → ours.Makes (with_change change) (kept_in (state g before.connection).now.trees) (kept_in trees)))
-    (told_mode : (state g after.connection).in_transaction ≡ false → (state g now.connection).in_transaction ≡ false)
-    (told_survives : Survives (state g after.connection) (state g now.connection) (λ _. ⊥))
-    (refusal : IsRefusal g after now told) where
+    (reported_mode : (state g after.connection).in_transaction ≡ false → (state g now.connection).in_transaction ≡ false)
+    (reported_survives : Survives (state g after.connection) (state g now.connection) (λ _. ⊥))
+    (refusal : IsRefusal g after now reported) where
   abbrev old : State
   old = state g before.connection
 
@@ -184,7 +153,7 @@ module _ {S : Type 0} (g : Ghosts S) (change : Change) (before after now : Sessi
   CouldMake trees = IsOurs old.now → ours.Makes (with_change change) (kept_in old.now.trees) (kept_in trees)
 
   both : Survives old new CouldMake
-  both = survives_then old mid new CouldMake (λ _. ⊥) CouldMake (λ _ db makes. makes) (λ _ db none. absurd none) survives told_survives
+  both = survives_then old mid new CouldMake (λ _. ⊥) CouldMake (λ _ db makes. makes) (λ _ db none. absurd none) survives reported_survives
 
   abbrev Left : StoreFault → ℕ → Bool → Type 0
   Left it failures is_shut =
@@ -192,20 +161,20 @@ module _ {S : Type 0} (g : Ghosts S) (change : Change) (before after now : Sessi
 
   went_back : HasCleanDisk new → IsUnchanged mid new → (new.now ≡ old.committed) × (new.committed ≡ old.committed) × IsTrue new.is_open
   went_back clean same =
-      let back = undone (clean_before mid new told_survives.clean clean) same.0.was_open in
-      (same.0.now_is ∙ back.0, same.0.committed_is ∙ back.1, same.0.is_open)
+      let back = undone (clean_before mid new reported_survives.clean clean) same.0.was_open in
+      (same.0.now_is ∙ back.now, same.0.committed_is ∙ back.committed, same.0.is_open)
 
-  pub commit_left : Left told now.failures now.is_shut
+  pub commit_left : Left reported now.failures now.is_shut
   commit_left = elim refusal [
     | inl h ↦
         subst (λ t. Left t now.failures now.is_shut) (sym h.0)
         (subst (λ n. Left NoMemory n now.is_shut) (sym (h.1.failures_are ∙ same_failures))
         (commit_refused change old new before.failures before.is_shut was_open fit (settles before.connection)
-        (settles now.connection) (told_mode mode) both
+        (settles now.connection) (reported_mode mode) both
         (λ clean. went_back clean (h.1.unchanged clean)) now.is_shut (h.1.shut_is ∙ same_shut)))
     | inr h ↦
         subst (λ t. Left t now.failures now.is_shut) (sym h.0)
         (commit_failed change old new before.failures before.is_shut was_open fit (settles before.connection)
-        (settles now.connection) (told_mode mode) both now.failures now.is_shut h.1.shut
+        (settles now.connection) (reported_mode mode) both now.failures now.is_shut h.1.shut
         (subst (λ n. HasRisen n now.failures) same_failures h.1.risen))
   ]

@@ -12,11 +12,11 @@ use Rattle.sqlite_trees.specs.View.{is_int}
 use Rattle.sqlite.specs.Effect.{Database, Reads}
 use Rattle.sqlite.specs.Listing.{understood}
 use Rattle.sqlite.proofs.Callers.{command_of}
-use Rattle.sql_create.specs.Schema.{desk_schema, desk_tree}
-use Rattle.sql_rows.specs.Meanings.{shows}
-use Rattle.sql_rows.specs.Ours.{IsOne}
-use Rattle.sql_rows.proofs.AnswerLemmas.{plain_program}
-use Rattle.sql_rows.proofs.DeskTexts.{find_is, find_plain, find_text, find_unlisted}
+use Rattle.store_sql_create.specs.Schema.{desk_schema, desk_tree}
+use Rattle.store_sql_rows.specs.Meanings.{shows}
+use Rattle.store_sql_rows.specs.Ours.{IsOne}
+use Rattle.store_sql_rows.proofs.AnswerLemmas.{plain_program}
+use Rattle.store_sql_rows.proofs.DeskTexts.{find_is, find_plain, find_text, find_unlisted}
 use Rattle.store_sql.specs.Asking.{IsAskable, Joins}
 use Rattle.store_sql.specs.Fitting.{AreNumbered, IsAlone, IsFitting}
 use Rattle.store_sql.specs.Own.{TellsOf}
@@ -34,28 +34,28 @@ one_from_length (r ∷ []) is = (r, refl)
 one_from_length (r ∷ s ∷ rows) is = absurd cc
 
 -- the answer has as many rows as the table
-pub alone_told : (rows : List Row) (n : ℕ) → n ≡ length rows → (db : Database) → (compiled : Compiled)
+pub alone_reported : (rows : List Row) (n : ℕ) → n ≡ length rows → (db : Database) → (compiled : Compiled)
     → understood desk_schema find_text ≡ Ok compiled → Reads compiled.command db [] rows → TellsOf desk_tree IsAlone (n == 1) db
-alone_told rows n counted db compiled is h =
+alone_reported rows n counted db compiled is h =
     let read = subst (λ k. Reads k db [] rows) (sym (ap command_of is) ∙ find_is) h in
     let shown = plain_program desk_tree [] (col 1 2 ∷ col 1 3 ∷ []) db.trees [] rows read.answer in
     let many : n ≡ length (db.trees desk_tree) =
     counted ∙ length_permutation _ rows shown ∙ length-map _ (shows (col 1 2 ∷ col 1 3 ∷ []) [])
     ∙ ap length (filter_all (db.trees desk_tree)) in (
-      λ told. one_from_length (db.trees desk_tree) (sym many ∙ (Decides-eqb n 1).0 told),
+      λ reported. one_from_length (db.trees desk_tree) (sym many ∙ (Decides-eqb n 1).0 reported),
       λ one. (Decides-eqb n 1).1 (many ∙ ap length one.1),
     )
 
-pub desk_told : (own : Bool) (db : Database) → IsFitting db → Joins (TellsOf desk_tree IsAlone) (TellsOf desk_tree AreNumbered) own db
+pub desk_reported : (own : Bool) (db : Database) → IsFitting db → Joins (TellsOf desk_tree IsAlone) (TellsOf desk_tree AreNumbered) own db
     → TellsOf desk_tree IsOne own db
-desk_told own db fit h = elim h.is [
+desk_reported own db fit h = elim h.is [
   | inl both ↦
       let one = both.0.0 refl in (
-        λ told. record { row = one.0; is = one.1; numbered = both.1.0 told one.0 (subst (λ l. Has l one.0) (sym one.1) (inl refl)) },
+        λ reported. record { row = one.0; is = one.1; numbered = both.1.0 reported one.0 (subst (λ l. Has l one.0) (sym one.1) (inl refl)) },
         λ numbered. both.1.1 (λ row has. only numbered.row row numbered.numbered (subst (λ l. Has l row) numbered.is has)),
       )
   | inr stopped ↦ (
-    λ told. absurd (true≢false (sym told ∙ stopped.1)),
+    λ reported. absurd (true≢false (sym reported ∙ stopped.1)),
     λ numbered. absurd (true≢false (sym (stopped.0.1 (numbered.row, numbered.is)))),
   )
 ]

@@ -11,7 +11,8 @@ use Rattle.store.specs.declared.change.Change.{Change}
 use Rattle.store.specs.declared.change.RowsBelow.{RowsBelow}
 use Rattle.store.specs.Change.{with_change, with_each, with_imported, with_last_tick, with_next, with_place, with_row, with_shown, without_rows}
 use Rattle.store.specs.Listed.{AreTexts, HasPanel}
-use Rattle.store.specs.Tables.{Tables, Text}
+use Rattle.store.specs.Tables.{Tables}
+use Rattle.points.specs.Texts.{Text}
 use Rattle.store_sql.specs.Opening.{DropsEarly, early_rows, without_early_rows}
 
 both_same : {A : Type 0} (b : Bool) (x : A) → cond b x x ≡ x

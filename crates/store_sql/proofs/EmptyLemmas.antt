@@ -37,8 +37,8 @@ pub empty_cond : {X : Type 0} (b : Bool) (x : X) → b ≡ false → cond b (x �
 empty_cond true x is = absurd (true≢false is)
 empty_cond false x is = refl
 
-pub empty_told : {X : Type 0} (xs : List X) (n : ℕ) (b : Bool) → n ≡ length xs → b ≡ (n == 0) → IsTrue b ↔ (xs ≡ [])
-empty_told xs n b counted is = (
-  λ told. nil_from_length xs (sym counted ∙ (Decides-eqb n 0).0 (sym is ∙ told)),
+pub empty_reported : {X : Type 0} (xs : List X) (n : ℕ) (b : Bool) → n ≡ length xs → b ≡ (n == 0) → IsTrue b ↔ (xs ≡ [])
+empty_reported xs n b counted is = (
+  λ reported. nil_from_length xs (sym counted ∙ (Decides-eqb n 0).0 (sym is ∙ reported)),
   λ none. is ∙ (Decides-eqb n 0).1 (counted ∙ ap length none),
 )

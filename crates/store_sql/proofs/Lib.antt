@@ -13,3 +13,4 @@ pub mod StandLemmas
 pub mod TableLemmas
 pub mod Texts
 pub mod VersionLemmas
+pub mod GoesLemmas

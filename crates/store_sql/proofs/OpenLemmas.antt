@@ -5,14 +5,14 @@ use Rattle.sqlite_value.specs.Order.{Row, column}
 use Rattle.sqlite.specs.declared.error.Error.{Error}
 use Rattle.sqlite.specs.State.{IsNotRun, IsUnchanged, State}
 use Rattle.sqlite.proofs.Callers.{one_permutation}
-use Rattle.sql_reading.specs.Asking.{Asks, Sees}
-use Rattle.sql_rows.specs.Looking.{Finds, Rests}
-use Rattle.sql_rows.specs.Ours.{IsOne}
-use Rattle.sql_rows.proofs.RestLemmas.{rests_unchanged}
-use Rattle.sql_rows.specs.Cells.{number_in}
-use Rattle.sql_rows.specs.declared.read_fault.ReadFault.{ReadFault}
-use Rattle.sql_rows.specs.Ours.{IsOurs}
-use Rattle.sql_rows.specs.declared.read_fault.ReadFault.TheVariants as read
+use Rattle.store_sql_reads.specs.Asking.{Asks, Sees}
+use Rattle.store_sql_rows.specs.Looking.{Finds, Rests}
+use Rattle.store_sql_rows.specs.Ours.{IsOne}
+use Rattle.store_sql_rows.proofs.RestLemmas.{rests_unchanged}
+use Rattle.store_sql_rows.specs.Cells.{number_in}
+use Rattle.store_sql_rows.specs.declared.read_fault.ReadFault.{ReadFault}
+use Rattle.store_sql_rows.specs.Ours.{IsOurs}
+use Rattle.store_sql_rows.specs.declared.read_fault.ReadFault.TheVariants as read
 use Rattle.store_sql.specs.declared.refusal.Refusal.TheVariants.{NotOurs}
 use Rattle.store_sql.specs.Opening.{IsFound, IsJudged, IsKnown, IsSettled, as_version, is_sql, version_in, version_of}
 
@@ -43,17 +43,17 @@ first_cell kept answer row one found first =
     ap version_in one.is ∙ ap (λ r. number_in (column r 0)) (sym row_is)
 
 -- the first row of the answer on `desk` tells what the one row of `desk` tells
-pub version_told : (kept answer : List Row) (row : Row) → IsOne kept
+pub version_reported : (kept answer : List Row) (row : Row) → IsOne kept
     → Finds (λ row. true) (λ row. column row 2 ∷ column row 3 ∷ []) kept answer → Some row ≡ slice_get answer 0
     → (r : Result ℤ ReadFault) → IfOk r (λ n. number_in (column row 0) ≡ Some n) → IfOk r (λ n. version_in kept ≡ Some n)
-version_told kept answer row one found first (Err e) told = tt
-version_told kept answer row one found first (Ok n) told = first_cell kept answer row one found first ∙ told
+version_reported kept answer row one found first (Err e) reported = tt
+version_reported kept answer row one found first (Ok n) reported = first_cell kept answer row one found first ∙ reported
 
-pub version_untold : (kept answer : List Row) (row : Row) → IsOne kept
+pub version_unreported : (kept answer : List Row) (row : Row) → IsOne kept
     → Finds (λ row. true) (λ row. column row 2 ∷ column row 3 ∷ []) kept answer → Some row ≡ slice_get answer 0
     → (r : Result ℤ ReadFault) → IfErr r (λ _. number_in (column row 0) ≡ None) → IfErr r (λ _. version_in kept ≡ None)
-version_untold kept answer row one found first (Ok n) untold = tt
-version_untold kept answer row one found first (Err e) untold = first_cell kept answer row one found first ∙ untold
+version_unreported kept answer row one found first (Ok n) unreported = tt
+version_unreported kept answer row one found first (Err e) unreported = first_cell kept answer row one found first ∙ unreported
 
 -- the answer on `desk` has a row
 pub never_empty : (kept answer : List Row) → IsOne kept → Finds (λ row. true) (λ row. column row 2 ∷ column row 3 ∷ []) kept answer
@@ -66,12 +66,12 @@ never_empty kept answer one found none =
 pub judged_ours : (old mid : State) → IsSettled old → IsJudged true old mid → IsOurs mid.now
 judged_ours old mid settled judged =
     let fit = settled.fitting judged.was_open in
-    subst IsOurs (sym judged.now) (record { schema_is = fit.schema_is; sound = fit.sound; rows = judged.told.0 refl })
+    subst IsOurs (sym judged.now) (record { schema_is = fit.schema_is; sound = fit.sound; rows = judged.reported.0 refl })
 
 -- the version was found in what was looked at
-pub version_found : (told : ℤ) (old mid new : State) → IsSettled old → IsJudged true old mid → Sees mid new
-    → version_of mid.now.trees ≡ Some told → IsFound told old new
-version_found told old mid new settled judged sees version =
+pub version_found : (reported : ℤ) (old mid new : State) → IsSettled old → IsJudged true old mid → Sees mid new
+    → version_of mid.now.trees ≡ Some reported → IsFound reported old new
+version_found reported old mid new settled judged sees version =
     let now = sees.now ∙ judged.now in
     let committed = sees.committed ∙ judged.committed in
     let same = now ∙ settled.same judged.was_open ∙ sym committed in
@@ -92,27 +92,27 @@ pub answered_sees : (old new : State) → Asks None old new → Sees old new
 answered_sees old new asks = elim asks.same [ inl refused ↦ absurd (true≢false (sym refused)) | inr sees ↦ sees ]
 
 -- the version was read in what was looked at
-pub version_read : (told : ℤ) (own : Bool) (old mid new : State) → own ≡ true → IsSettled old → IsJudged own old mid
+pub version_read : (reported : ℤ) (own : Bool) (old mid new : State) → own ≡ true → IsSettled old → IsJudged own old mid
     → (IsOurs mid.now → Asks None mid new)
-    → (IsOurs mid.now → version_of mid.now.trees ≡ Some told) → IsFound told old new
-version_read told own old mid new is settled judged asks version =
+    → (IsOurs mid.now → version_of mid.now.trees ≡ Some reported) → IsFound reported old new
+version_read reported own old mid new is settled judged asks version =
     let judged' : IsJudged true old mid = subst (λ b. IsJudged b old mid) is judged in
     let ours = judged_ours old mid settled judged' in
-    version_found told old mid new settled judged' (answered_sees mid new (asks ours)) (version ours)
+    version_found reported old mid new settled judged' (answered_sees mid new (asks ours)) (version ours)
 
--- ---- how the answer of the query on the version is told
+-- ---- how the answer of the query on the version is reported
 
-pub found_told : (r : Result ℤ ReadFault) (own : Bool) (old mid new : State) → own ≡ true → IsSettled old → IsJudged own old mid
+pub found_reported : (r : Result ℤ ReadFault) (own : Bool) (old mid new : State) → own ≡ true → IsSettled old → IsJudged own old mid
     → (IsOurs mid.now → Asks (result_err r) mid new) → (IsOurs mid.now → IfOk r (λ version. version_of mid.now.trees ≡ Some version))
     → IfOk (as_version r) (λ version. IsFound version old new)
-found_told (Ok told) own old mid new is settled judged asks version = version_read told own old mid new is settled judged asks version
-found_told (Err (read.Sql e)) own old mid new is settled judged asks version = tt
-found_told (Err read.BadRow) own old mid new is settled judged asks version = tt
+found_reported (Ok reported) own old mid new is settled judged asks version = version_read reported own old mid new is settled judged asks version
+found_reported (Err (read.Sql e)) own old mid new is settled judged asks version = tt
+found_reported (Err read.BadRow) own old mid new is settled judged asks version = tt
 
-pub faults_told : (r : Result ℤ ReadFault) → IfErr (as_version r) (λ fault. IsTrue (is_sql fault) ⊎ (fault ≡ NotOurs))
-faults_told (Ok told) = tt
-faults_told (Err (read.Sql e)) = inl refl
-faults_told (Err read.BadRow) = inr refl
+pub faults_reported : (r : Result ℤ ReadFault) → IfErr (as_version r) (λ fault. IsTrue (is_sql fault) ⊎ (fault ≡ NotOurs))
+faults_reported (Ok reported) = tt
+faults_reported (Err (read.Sql e)) = inl refl
+faults_reported (Err read.BadRow) = inr refl
 
 known_version : (s : State) → IsKnown s → version_of s.committed.trees ≡ None → ⊥
 known_version s known none = elim known.version [
@@ -121,19 +121,19 @@ known_version s known none = elim known.version [
 ]
 
 -- a version that is known is a number
-pub known_told : (r : Result ℤ ReadFault) (own : Bool) (old mid : State) → own ≡ true → IsSettled old → IsJudged own old mid → IsKnown old
+pub known_reported : (r : Result ℤ ReadFault) (own : Bool) (old mid : State) → own ≡ true → IsSettled old → IsJudged own old mid → IsKnown old
     → (IsOurs mid.now → r ≡ Err read.BadRow → version_of mid.now.trees ≡ None) → IfErr (as_version r) (λ fault. IsTrue (is_sql fault))
-known_told (Ok told) own old mid is settled judged known bad = tt
-known_told (Err (read.Sql e)) own old mid is settled judged known bad = refl
-known_told (Err read.BadRow) own old mid is settled judged known bad =
+known_reported (Ok reported) own old mid is settled judged known bad = tt
+known_reported (Err (read.Sql e)) own old mid is settled judged known bad = refl
+known_reported (Err read.BadRow) own old mid is settled judged known bad =
     let judged' : IsJudged true old mid = subst (λ b. IsJudged b old mid) is judged in
     let none = bad (judged_ours old mid settled judged') refl in
     absurd (known_version old known (ap (λ d. version_of d.trees) (sym (judged.now ∙ known.stands.same)) ∙ none))
 
 -- what was found, of a version that is known, was known
-pub found_known : (told : ℤ) (old new : State) → IsFound told old new → old.in_transaction ≡ false → (told ≡ pos 1) ⊎ (told ≡ pos 2)
+pub found_known : (reported : ℤ) (old new : State) → IsFound reported old new → old.in_transaction ≡ false → (reported ≡ pos 1) ⊎ (reported ≡ pos 2)
     → IsKnown old
-found_known told old new found mode is = record {
+found_known reported old new found mode is = record {
   mode = mode;
   stands = record {
     is_open = found.was_open;

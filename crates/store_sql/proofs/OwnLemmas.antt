@@ -11,15 +11,15 @@ use Rattle.sqlite_trees.specs.View.{is_int}
 use Rattle.sqlite.specs.Effect.{Database}
 use Rattle.sqlite.specs.Listing.{understood}
 use Rattle.sqlite.proofs.Callers.{command_of}
-use Rattle.sql_create.specs.Schema.{desk_schema}
-use Rattle.sql_rows.specs.Meanings.{passes}
-use Rattle.sql_rows.specs.Ours.{AreOwn}
-use Rattle.sql_rows.proofs.CellLemmas.{and_true}
-use Rattle.sql_rows.proofs.TypeLemmas.{IsFilled}
+use Rattle.store_sql_create.specs.Schema.{desk_schema}
+use Rattle.store_sql_rows.specs.Meanings.{passes}
+use Rattle.store_sql_rows.specs.Ours.{AreOwn}
+use Rattle.store_sql_rows.proofs.CellLemmas.{and_true}
+use Rattle.store_sql_rows.proofs.TypeLemmas.{IsFilled}
 use Rattle.store_sql.specs.Asking.{FindsNone, Joins}
 use Rattle.store_sql.specs.Fitting.{AreNumbered}
 use Rattle.store_sql.proofs.AnswerLemmas.{pair_none, pair_passes, plain_none}
-use Rattle.store_sql.proofs.CellLemmas.{differ_told, differs_told, no_number, number_tied, shares, text_tied, tied_same, ties}
+use Rattle.store_sql.proofs.CellLemmas.{differ_reported, differs_reported, no_number, number_tied, shares, text_tied, tied_same, ties}
 use Rattle.store_sql.proofs.Questions.{differ, differs, has_no_number, pairing, share, unnumbered}
 
 not_false : (b : Bool) → not b ≡ false → b ≡ true
@@ -29,12 +29,12 @@ not_false false is = absurd (true≢false is)
 numbered_row : (row : Row) → passes (has_no_number ∷ []) [] row ≡ not (is_int (rowid row))
 numbered_row row = and_true _ ∙ no_number (rowid row)
 
-pub numbered_told : (sql : List ℕ) (tree : ℕ) → command_of (understood desk_schema sql) ≡ unnumbered tree → (none : Bool) (db : Database)
+pub numbered_reported : (sql : List ℕ) (tree : ℕ) → command_of (understood desk_schema sql) ≡ unnumbered tree → (none : Bool) (db : Database)
     → FindsNone sql none db → IsTrue none ↔ AreNumbered (db.trees tree)
-numbered_told sql tree is none db h =
-    let told = plain_none sql tree is none db h in (
-      λ t row has. not_false (is_int (rowid row)) (sym (numbered_row row) ∙ told.0 t row has),
-      λ numbered. told.1 (λ row has. numbered_row row ∙ ap not (numbered row has)),
+numbered_reported sql tree is none db h =
+    let reported = plain_none sql tree is none db h in (
+      λ t row has. not_false (is_int (rowid row)) (sym (numbered_row row) ∙ reported.0 t row has),
+      λ numbered. reported.1 (λ row has. numbered_row row ∙ ap not (numbered row has)),
     )
 
 -- ---- two rows that share a number
@@ -61,32 +61,32 @@ row_pair different tie is a b ia ib tied = elim (cases_Bool (pair_passes (share 
   | inr none ↦ none
 ]
 
-pub own_told : (first second : List ℕ) (tree : ℕ) (different : Term) (tie : Row → Row → Bool) (key : List ℕ)
+pub own_reported : (first second : List ℕ) (tree : ℕ) (different : Term) (tie : Row → Row → Bool) (key : List ℕ)
     → command_of (understood desk_schema first) ≡ unnumbered tree
     → command_of (understood desk_schema second) ≡ pairing tree different → ((a b : Row) → pair_passes (different ∷ []) a b ≡ not (tie a b))
     → (own : Bool) (db : Database) → IsTie tie key (db.trees tree) → Joins (FindsNone first) (FindsNone second) own db
     → IsTrue own ↔ AreOwn key (db.trees tree)
-own_told first second tree different tie key first_is second_is differing own db ties_key h = (there h.is, back h.is)
+own_reported first second tree different tie key first_is second_is differing own db ties_key h = (there h.is, back h.is)
   where
     there : (FindsNone first true db × FindsNone second own db) ⊎ (FindsNone first false db × (own ≡ false)) → IsTrue own
         → AreOwn key (db.trees tree)
-    there (inl both) told =
-        let numbered = (numbered_told first tree first_is true db both.0).0 refl in
-        let apart = (pair_none second tree different second_is own db both.1).0 told in
+    there (inl both) reported =
+        let numbered = (numbered_reported first tree first_is true db both.0).0 refl in
+        let apart = (pair_none second tree different second_is own db both.1).0 reported in
         record {
           numbered = numbered;
           apart =
               λ a b ha hb same. (ties_key a b ha hb).0 (pair_row different tie differing a b (apart a b ha hb) (numbered a ha)
               (numbered b hb) same);
         }
-    there (inr stopped) told = absurd (true≢false (sym told ∙ stopped.1))
+    there (inr stopped) reported = absurd (true≢false (sym reported ∙ stopped.1))
 
     back : (FindsNone first true db × FindsNone second own db) ⊎ (FindsNone first false db × (own ≡ false))
         → AreOwn key (db.trees tree) → IsTrue own
     back (inl both) ours = (pair_none second tree different second_is own db both.1).1
         (λ a b ha hb. row_pair different tie differing a b (ours.numbered a ha) (ours.numbered b hb)
         (λ same. (ties_key a b ha hb).1 (ours.apart a b ha hb same)))
-    back (inr stopped) ours = absurd (true≢false (sym ((numbered_told first tree first_is false db stopped.0).1 ours.numbered)))
+    back (inr stopped) ours = absurd (true≢false (sym ((numbered_reported first tree first_is false db stopped.0).1 ours.numbered)))
 
 -- ---- keys of one column and of two
 
@@ -97,10 +97,10 @@ abbrev pub tie_two : Row → Row → Bool
 tie_two a b = ties (column a 1) (column b 1) && ties (column a 2) (column b 2)
 
 pub one_differs : (a b : Row) → pair_passes (differs 1 ∷ []) a b ≡ not (tie_one a b)
-one_differs a b = and_true _ ∙ differs_told (column a 1) (column b 1)
+one_differs a b = and_true _ ∙ differs_reported (column a 1) (column b 1)
 
 pub two_differ : (a b : Row) → pair_passes (differ 1 2 ∷ []) a b ≡ not (tie_two a b)
-two_differ a b = and_true _ ∙ differ_told (column a 1) (column b 1) (column a 2) (column b 2)
+two_differ a b = and_true _ ∙ differ_reported (column a 1) (column b 1) (column a 2) (column b 2)
 
 -- cells of these rows that tie are the same
 abbrev pub AreTied : ℕ → List Row → Type 0

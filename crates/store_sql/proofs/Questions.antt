@@ -9,7 +9,7 @@ use Rattle.sqlite_sql.specs.Query.{Query, inner, end}
 use Rattle.sqlite_sql.specs.Term.{Term, lit, col, op1, op2}
 use Rattle.sqlite_schema.specs.declared.command.Command.{Command}
 use Rattle.sqlite_schema.specs.declared.command.Command.TheVariants.{Select}
-use Rattle.sql_rows.specs.Meanings.{plain_query, selection}
+use Rattle.store_sql_rows.specs.Meanings.{plain_query, selection}
 
 abbrev pub one : List Term
 one = lit (Int (pos 1)) ∷ []

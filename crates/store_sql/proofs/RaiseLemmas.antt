@@ -1,21 +1,19 @@
 -- The end of a transaction that raises the version.
-use Rattle.std.proofs.Common.{◌≡◌, true, None, inl, inr, Ok, Err, Result, IsTrue, OnErr, IfErr, refl, sym, subst, ◌∙◌}
+use Rattle.std.proofs.Common.{◌≡◌, true, Ok, refl, sym, subst, ◌∙◌}
 use Rattle.sqlite_trees.specs.declared.store.Store.{Ghosts}
 use Rattle.sqlite_trees.specs.Tree.{Trees}
-use Rattle.sqlite.specs.declared.error.Error.{Error}
-use Rattle.sqlite.specs.State.{HasCleanDisk, KeepsCommit, State, Survives}
-use Rattle.sqlite.specs.Steps.{FailsToCommit}
+use Rattle.sqlite.specs.State.{State, Survives}
 use Rattle.sqlite.specs.Held.{Held, state}
 use Rattle.sqlite.proofs.Callers.{survives_begin}
 use Rattle.sqlite.proofs.StateLemmas.{survives_then}
 use Rattle.store.specs.declared.change.Change.{Change}
 use Rattle.store.specs.Change.{with_change}
-use Rattle.sql_rows.specs.Ours.{IsOurs, kept_in}
-use Rattle.sql_rows.specs.Steps.{Steps, Turns}
-use Rattle.sql_rows.proofs.StepLemmas.{clean_before, then}
-use Rattle.sql_reading.specs.Asking.{Asks}
-use Rattle.sql_rows.specs.Stored.{tables_in}
-use Rattle.store_sql.specs.Opening.{DropsEarly, IsChangedBy, IsFirst, IsRaised, Raises, SetsVersion, ShowsCommitted}
+use Rattle.store_sql_rows.specs.Ours.{IsOurs, kept_in}
+use Rattle.store_sql_rows.specs.Steps.{Steps, Turns}
+use Rattle.store_sql_rows.proofs.StepLemmas.{clean_before, then}
+use Rattle.store_sql_reads.specs.Asking.{Answers}
+use Rattle.store_sql_rows.specs.Stored.{Kept, tables_in}
+use Rattle.store_sql.specs.Opening.{DropsEarly, IsChangedBy, IsFirst, IsRaised, Raises, SetsVersion}
 use Rattle.store_sql.proofs.OpenLemmas.{answered_sees}
 
 -- the change and then the version
@@ -42,27 +40,6 @@ raised {A} {B} {C} change a b c x y z one two =
 module _ {S : Type 0} (g : Ghosts S) (old mid new : Held S) where
   abbrev begun : State
   begun = state g (record old { in_transaction = true })
-
-  failed : (e : Error) → KeepsCommit begun (state g mid) → FailsToCommit (state g mid) (state g new) e
-      → (IsTrue (state g new).is_open → (state g new).now ≡ (state g new).committed) → IsTrue (state g new).is_open
-      → ShowsCommitted (state g old) (state g new)
-  failed e kept (inl fails) settled is_open =
-      let back = fails.3 in
-      let was = back.was_open is_open in
-      let same = kept.committed was in
-      record { was_open = kept.was_open was; now = (back.undone is_open).0 ∙ same; committed = (back.undone is_open).1 ∙ same }
-  failed e kept (inr late) settled is_open =
-      let was = late.2.0.was_open in
-      let same : (state g new).committed ≡ (state g old).committed = late.2.0.committed_is ∙ kept.committed was in
-      record { was_open = kept.was_open was; now = settled is_open ∙ same; committed = same }
-
-  -- a commit that failed
-  pub not_committed : {A : Type 0} (told : Result A Error) → KeepsCommit begun (state g mid)
-      → IfErr told (FailsToCommit (state g mid) (state g new))
-      → (IsTrue (state g new).is_open → (state g new).now ≡ (state g new).committed) → IsTrue (state g new).is_open
-      → OnErr told (ShowsCommitted (state g old) (state g new))
-  not_committed (Ok x) kept fails settled is_open = tt
-  not_committed (Err e) kept fails settled is_open = failed e kept fails settled is_open
 
   -- a stop leaves what was there before, or the whole change with its version
   pub survives_raised : {A : Type 0} (change : Change) (x : A) → Steps {A = A} (Raises change) begun (state g mid) (Ok x)
@@ -93,18 +70,17 @@ raised_by change a b db first now drops changed =
     }
 
 -- a stop leaves what was there before, or the raised tables
-pub survives_migration : (change : Change) (a b c : State) → Survives a b (λ _. IsOurs a.now → ⊥)
-    → (HasCleanDisk b → IsOurs a.now → Asks None a b)
-    → (HasCleanDisk b → IsOurs a.now → DropsEarly (tables_in (kept_in a.now.trees)) change)
+pub survives_migration : {Broken : Kept → Type 0} (change : Change) (a b c : State)
+    → Answers (λ kept. DropsEarly (tables_in kept)) Broken a b (Ok change)
     → Survives b c (λ trees. IsOurs b.now → IsChangedBy change b.now.trees trees)
     → Survives a c (λ trees. IsFirst a → IsRaised a.committed.trees trees)
-survives_migration change a b c one asks value two =
+survives_migration change a b c one two =
     survives_then a b c (λ _. IsOurs a.now → ⊥) (λ trees. IsOurs b.now → IsChangedBy change b.now.trees trees)
     (λ trees. IsFirst a → IsRaised a.committed.trees trees)
     (λ _ db never first. absurd (never first.stands.ours))
     (λ clean db changed first.
     let was = clean_before b c _ two clean in
     let ours = first.stands.ours in
-    let now = (answered_sees a b (asks was ours)).now in
-    raised_by change a b db first now (value was ours) (changed (subst IsOurs (sym now) ours)))
-    one two
+    let now = (answered_sees a b (one.asks was ours)).now in
+    raised_by change a b db first now (one.value was ours) (changed (subst IsOurs (sym now) ours)))
+    one.survives two

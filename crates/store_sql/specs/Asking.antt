@@ -7,15 +7,15 @@ use Rattle.sqlite.specs.Effect.{Database, Reads}
 use Rattle.sqlite.specs.Given.{IsPlain}
 use Rattle.sqlite.specs.Listing.{reads_listing, understood}
 use Rattle.sqlite.specs.State.{HasCleanDisk, IsUnchanged, State, Survives}
-use Rattle.sql_create.specs.Schema.{desk_schema}
-use Rattle.sql_rows.specs.Looking.{Rests}
+use Rattle.store_sql_create.specs.Schema.{desk_schema}
+use Rattle.store_sql_rows.specs.Looking.{Rests}
 use Rattle.store_sql.specs.Fitting.{IsFitting}
 
 -- Nothing changes, and an answer says so much of the database.
 pub record Asks (says : Bool → Database → Type 0) (old new : State) (result : Result Bool Error) : Type 0 where
   pub same : HasCleanDisk new → IsFitting old.now → OnOk result (IsUnchanged old new)
   pub rests : HasCleanDisk new → IsFitting old.now → Rests old new
-  pub told : HasCleanDisk new → IsFitting old.now → IfOk result (λ answer. says answer old.now)
+  pub reported : HasCleanDisk new → IsFitting old.now → IfOk result (λ answer. says answer old.now)
   pub survives : Survives old new (λ _. IsFitting old.now → ⊥)
 
 -- a query on the six tables that does nothing else
@@ -29,7 +29,7 @@ pub record FindsNone (sql : List ℕ) (none : Bool) (db : Database) : Type 0 whe
   pub is : understood desk_schema sql ≡ Ok compiled
   pub rows : List Row
   pub read : Reads compiled.command db [] rows
-  pub told : IsTrue none ↔ (rows ≡ [])
+  pub reported : IsTrue none ↔ (rows ≡ [])
 
 -- the second is asked where the first is true
 pub record Joins (one other : Bool → Database → Type 0) (both : Bool) (db : Database) : Type 0 where

@@ -1,12 +1,12 @@
--- What an opening finds, and how one that is refused is told.
+-- What an opening finds, and how one that is refused is reported.
 use Rattle.std.specs.Prelude.{◌≡◌, ◌⊎◌, false, Result, Ok, Err}
 use Rattle.sqlite.specs.Held.{Held}
 use Rattle.sqlite.specs.State.{State, Survives}
 use Rattle.sqlite.specs.declared.error.Error.TheVariants as sql
 use Rattle.sqlite.specs.declared.error.ErrorCode.TheVariants as code
-use Rattle.sql_create.specs.Creating.{AreFirst}
+use Rattle.store_sql_create.specs.Creating.{AreFirst}
 use Rattle.store_sql.specs.Opening.{IsMigrated, IsRaised, IsTaken}
-use Rattle.sql_rows.specs.Ours.{content_of}
+use Rattle.store_sql_rows.specs.Ours.{content_of}
 use Rattle.store_sql.specs.declared.refusal.Refusal.{Refusal}
 use Rattle.store_sql.specs.declared.refusal.Refusal.TheVariants as refused
 use Rattle.store.specs.declared.open_fault.OpenFault.{OpenFault}
@@ -39,8 +39,8 @@ abbrev pub IsFaultOfNone : OpenFault → Type 0
 IsFaultOfNone fault = ((fault ≡ NoMemory) ⊎ (fault ≡ Failed)) ⊎ (fault ≡ UnknownTables)
 
 -- S1 where memory was refused, S2 where the database failed for another cause
-abbrev pub told_of : Refusal → OpenFault
-told_of (refused.Sql (sql.SqliteFailure code.OutOfMemory)) = NoMemory
-told_of (refused.Sql _) = Failed
-told_of refused.NotOurs = UnknownTables
-told_of refused.BadRow = BadRow
+abbrev pub reported_as : Refusal → OpenFault
+reported_as (refused.Sql (sql.SqliteFailure code.OutOfMemory)) = NoMemory
+reported_as (refused.Sql _) = Failed
+reported_as refused.NotOurs = UnknownTables
+reported_as refused.BadRow = BadRow

@@ -7,13 +7,14 @@ use Rattle.store.specs.declared.change.Change.{Change}
 use Rattle.store.specs.declared.change.RowsBelow.{RowsBelow}
 use Rattle.store.specs.Change.{with_change}
 use Rattle.store.specs.Standing.{sound}
-use Rattle.store.specs.Tables.{Tables, Text, no_tables}
-use Rattle.sql_rows.specs.Cells.{number_in}
-use Rattle.sql_rows.specs.declared.read_fault.ReadFault.{ReadFault}
-use Rattle.sql_rows.specs.declared.read_fault.ReadFault.TheVariants as read
-use Rattle.sql_create.specs.Schema.{desk_schema, desk_tree, schema_0}
-use Rattle.sql_rows.specs.Ours.{AreOurs, IsOurs, Makes, content_of, kept_in}
-use Rattle.sql_rows.specs.Steps.{Turns}
+use Rattle.store.specs.Tables.{Tables, no_tables}
+use Rattle.points.specs.Texts.{Text}
+use Rattle.store_sql_rows.specs.Cells.{number_in}
+use Rattle.store_sql_rows.specs.declared.read_fault.ReadFault.{ReadFault}
+use Rattle.store_sql_rows.specs.declared.read_fault.ReadFault.TheVariants as read
+use Rattle.store_sql_create.specs.Schema.{desk_schema, desk_tree, schema_0}
+use Rattle.store_sql_rows.specs.Ours.{AreOurs, IsOurs, Makes, content_of, kept_in}
+use Rattle.store_sql_rows.specs.Steps.{Turns}
 use Rattle.store_sql.specs.Fitting.{IsFitting}
 use Rattle.store_sql.specs.declared.refusal.Refusal.{Refusal}
 use Rattle.store_sql.specs.declared.refusal.Refusal.TheVariants.{BadRow, NotOurs, Sql}
@@ -77,15 +78,15 @@ pub record IsJudged (own : Bool) (old new : State) : Type 0 where
   pub is_open : IsTrue new.is_open
   pub now : new.now ≡ old.now
   pub committed : new.committed ≡ old.committed
-  pub told : IsTrue own ↔ AreOurs (kept_in old.now.trees)
+  pub reported : IsTrue own ↔ AreOurs (kept_in old.now.trees)
 
 -- what is committed is a database of the six tables, whose row of `desk` tells this version
-pub record IsFound (told : ℤ) (old new : State) : Type 0 where
+pub record IsFound (reported : ℤ) (old new : State) : Type 0 where
   pub stands : Stands new
   pub was_open : IsTrue old.is_open
   pub now : new.now ≡ old.now
   pub committed : new.committed ≡ old.committed
-  pub version : version_of new.committed.trees ≡ Some told
+  pub version : version_of new.committed.trees ≡ Some reported
 
 -- ---- the first version
 
@@ -153,12 +154,6 @@ pub record IsChangedBy (change : Change) (old new : Trees) : Type 0 where
 pub record IsWritten (change : Change) (old new : State) : Type 0 where
   pub stands : Stands new
   pub changed : IsChangedBy change old.now.trees new.now.trees
-
--- the connection shows what was committed
-pub record ShowsCommitted (old new : State) : Type 0 where
-  pub was_open : IsTrue old.is_open
-  pub now : new.now ≡ old.committed
-  pub committed : new.committed ≡ old.committed
 
 -- the change drops the early rows, and changes nothing else
 pub record DropsEarly (tables : Tables) (change : Change) : Type 0 where

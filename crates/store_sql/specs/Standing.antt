@@ -6,8 +6,8 @@ use Rattle.sqlite_trees.specs.Tree.{Trees}
 use Rattle.sqlite.specs.Held.{Held, held_code, state}
 use Rattle.sqlite.specs.State.{HasCleanDisk, State}
 use Rattle.store_sql.specs.Opening.{Stands}
-use Rattle.sql_rows.specs.Broken.{cannot_stand_in}
-use Rattle.sql_rows.specs.Ours.{content_of, kept_in}
+use Rattle.store_sql_rows.specs.Broken.{cannot_stand_in}
+use Rattle.store_sql_rows.specs.Ours.{content_of, kept_in}
 use Rattle.store.specs.Standing.{Standing}
 use Rattle.store_sql.specs.declared.session.Session.{Session}
 

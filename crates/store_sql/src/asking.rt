@@ -3,8 +3,8 @@ ghost use Rattle.std.specs.Prelude.{◌≡◌, false};
 ghost use Rattle.sqlite.specs.Held.{state};
 ghost use Rattle.store_sql.specs.Asking.{Asks, FindsNone, IsAskable, Joins};
 
-use sql_rows::look;
 use sqlite::{Alter, Connection, Error};
+use store_sql_rows::look;
 
 /// Whether the answer of a query is empty.
 pub fn finds_none<S: Alter>(connection: &mut Connection<S>, sql: &str) -> Result<bool, Error>

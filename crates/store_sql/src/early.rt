@@ -3,19 +3,19 @@ ghost use Rattle.std.specs.Prelude.{◌≡◌, ◌++◌, false, Err, IfErr, IfOk
 ghost use Rattle.std.specs.Result.{result_err};
 ghost use Rattle.sqlite.specs.Held.{state};
 ghost use Rattle.sqlite.specs.State.{HasCleanDisk, Survives};
-ghost use Rattle.sql_rows.specs.Ours.{IsOurs, kept_in};
-ghost use Rattle.sql_reading.specs.Asking.{Asks, is_sql};
+ghost use Rattle.store_sql_rows.specs.Ours.{IsOurs, kept_in};
+ghost use Rattle.store_sql_reads.specs.Asking.{Answers, is_sql};
 ghost use Rattle.store.specs.Change.{CanStand};
-ghost use Rattle.sql_rows.specs.Stored.{is_sound_in, tables_in};
-ghost use Rattle.sql_rows.specs.declared.read_fault.ReadFault.TheVariants.{BadRow};
+ghost use Rattle.store_sql_rows.specs.Stored.{is_sound_in, tables_in};
+ghost use Rattle.store_sql_rows.specs.declared.read_fault.ReadFault.TheVariants.{BadRow};
 ghost use Rattle.store_sql.specs.Opening.{DropsEarly, early_rows};
 
 use points::Name;
-use sql_reading::{names_of, next_of};
-use sql_rows::ReadFault;
 use sqlite::{Alter, Connection, Error, ErrorCode};
 use std::alloc::Global;
 use store::{Change, RowsBelow};
+use store_sql_reads::{names_of, next_of};
+use store_sql_rows::ReadFault;
 
 // How many numbers below a panel's next one keep their rows.
 const KEPT: u64 = 1_000;
@@ -37,16 +37,8 @@ fn early_of<S: Alter>(
     connection: &mut Connection<S>,
     panels: &[Name],
 ) -> Result<Vec<RowsBelow>, ReadFault>
-    ensures mode { connection.old.in_transaction ≡ false → connection.new.in_transaction ≡ false }
-    ensures asks { HasCleanDisk (state S.Store connection.new) → IsOurs (state S.Store connection.old).now
-        → Asks (result_err result) (state S.Store connection.old) (state S.Store connection.new) }
-    ensures value { HasCleanDisk (state S.Store connection.new) → IsOurs (state S.Store connection.old).now
-        → IfOk result
-        (λ it. it.items ≡ map (early_rows (tables_in (kept_in (state S.Store connection.old).now.trees)).next) panels.now) }
-    ensures bad { HasCleanDisk (state S.Store connection.new) → IsOurs (state S.Store connection.old).now → result ≡ Err BadRow
-        → is_sound_in (kept_in (state S.Store connection.old).now.trees) ≡ false }
-    ensures survives { Survives (state S.Store connection.old) (state S.Store connection.new)
-        (λ _. IsOurs (state S.Store connection.old).now → ⊥) }
+    ensures answers { Answers (λ kept it. it.items ≡ map (early_rows (tables_in kept).next) panels.now)
+        (λ kept. is_sound_in kept ≡ false) (state S.Store connection.old) (state S.Store connection.new) result }
 {
     let mut dropped = Vec::new(alloc);
     for panel in panels {
@@ -67,16 +59,9 @@ pub fn dropping<S: Alter>(
     alloc: Global,
     connection: &mut Connection<S>,
 ) -> Result<Change, ReadFault>
-    ensures mode { connection.old.in_transaction ≡ false → connection.new.in_transaction ≡ false }
-    ensures asks { HasCleanDisk (state S.Store connection.new) → IsOurs (state S.Store connection.old).now
-        → Asks (result_err result) (state S.Store connection.old) (state S.Store connection.new) }
     ensures stands { IfOk result (λ it. CanStand it) }
-    ensures value { HasCleanDisk (state S.Store connection.new) → IsOurs (state S.Store connection.old).now
-        → IfOk result (DropsEarly (tables_in (kept_in (state S.Store connection.old).now.trees))) }
-    ensures bad { HasCleanDisk (state S.Store connection.new) → IsOurs (state S.Store connection.old).now → result ≡ Err BadRow
-        → is_sound_in (kept_in (state S.Store connection.old).now.trees) ≡ false }
-    ensures survives { Survives (state S.Store connection.old) (state S.Store connection.new)
-        (λ _. IsOurs (state S.Store connection.old).now → ⊥) }
+    ensures answers { Answers (λ kept. DropsEarly (tables_in kept))
+        (λ kept. is_sound_in kept ≡ false) (state S.Store connection.old) (state S.Store connection.new) result }
 {
     let names = names_of(alloc, connection)?;
     let mut change = Change::new(alloc);

@@ -3,14 +3,15 @@ ghost use Rattle.std.specs.Prelude.{◌≡◌, IfErr, IsTrue, OnErr, OnOk, false
 ghost use Rattle.sqlite.specs.Held.{state};
 ghost use Rattle.sqlite.specs.State.{HasCleanDisk, Survives};
 ghost use Rattle.store.specs.Change.{CanStand, with_change};
-ghost use Rattle.sql_rows.specs.Ours.{IsOurs};
-ghost use Rattle.sql_rows.specs.Steps.{Steps};
-ghost use Rattle.store_sql.specs.Opening.{IsChangedBy, IsWritten, Raises, SetsVersion, ShowsCommitted};
+ghost use Rattle.store_sql_rows.specs.Ours.{IsOurs};
+ghost use Rattle.store_sql_rows.specs.Steps.{Steps};
+ghost use Rattle.store_sql.specs.Opening.{IsChangedBy, IsWritten, Raises, SetsVersion};
+ghost use Rattle.store_sql_writes.specs.Committed.{ShowsCommitted};
 
-use sql_writing::write;
 use sqlite::{Alter, Connection, Error, Transaction};
 use std::alloc::Global;
 use store::Change;
+use store_sql_writes::write;
 
 // Sets the version to 2.
 fn set_version<S: Alter>(transaction: &mut Transaction<'_, S>) -> Result<usize, Error>
@@ -54,8 +55,8 @@ pub fn commit_raised<S: Alter>(
 {
     let mut transaction = connection.transaction();
     raise(alloc, &mut transaction, change)?;
-    let told = transaction.commit();
+    let committed = transaction.commit();
     // Outside a transaction the connection shows what is committed.
     let _settled = connection.is_autocommit();
-    told
+    committed
 }

@@ -1,12 +1,12 @@
 //! Why a database was not taken.
 ghost use Rattle.std.specs.Prelude.{◌≡◌, ◌⊎◌, IsTrue};
 ghost use Rattle.store.specs.declared.open_fault.OpenFault.TheVariants.{Failed, NoMemory};
-ghost use Rattle.store_sql.specs.Opened.{told_of};
+ghost use Rattle.store_sql.specs.Opened.{reported_as};
 ghost use Rattle.store_sql.specs.Opening.{is_sql};
 
-use sql_rows::ReadFault;
 use sqlite::{Error, ErrorCode};
 use store::OpenFault;
+use store_sql_rows::ReadFault;
 
 /// Why a database was not taken.
 #[derive(Clone, Copy, PartialEq, Eq)]
@@ -21,9 +21,9 @@ pub enum Refusal {
 }
 
 impl Refusal {
-    /// How it is told.
+    /// The fault that the store reports.
     pub(crate) fn fault(self) -> OpenFault
-        ensures told { result ≡ told_of self }
+        ensures reported { result ≡ reported_as self }
         ensures sql { IsTrue (is_sql self) → (result ≡ NoMemory) ⊎ (result ≡ Failed) }
     {
         match self {
@@ -50,7 +50,7 @@ impl From<ReadFault> for Refusal {
     ghost use Rattle.std.specs.Prelude.{◌≡◌};
     ghost use Rattle.store_sql.specs.Opening.{refusal_of};
 
-    ghost from_gives = { λ fault told. told ≡ refusal_of fault };
+    ghost from_gives = { λ fault reported. reported ≡ refusal_of fault };
 
     fn from(fault: ReadFault) -> Refusal {
         match fault {

@@ -5,11 +5,11 @@ ghost use Rattle.sqlite.specs.State.{HasCleanDisk, IsUnchanged, Survives};
 ghost use Rattle.sqlite.specs.declared.error.Error.TheVariants.{SqliteFailure};
 ghost use Rattle.sqlite.specs.declared.error.ErrorCode.TheVariants.{OutOfMemory};
 ghost use Rattle.store.specs.declared.fault.StoreFault.TheVariants.{NoMemory};
-ghost use Rattle.store_sql.specs.Judging.{IsRefusal, IsTold};
+ghost use Rattle.store_sql.specs.Judging.{IsRefusal, IsReported};
 
-use sql_rows::ReadFault;
 use sqlite::{Alter, Connection, Error, ErrorCode};
 use store::StoreFault;
+use store_sql_rows::ReadFault;
 
 /// A connection, whether a failure has shut it, and how often the device or the database has failed.
 #[derive(Drop)]
@@ -19,7 +19,7 @@ pub struct Session<S: Alter + Drop> {
     pub is_shut: bool,
 }
 
-// Whether a connection answers, so that a want of memory has left it open.
+// Whether a connection answers, so that a lack of memory has left it open.
 fn answers<S: Alter>(connection: &mut Connection<S>) -> bool
     ensures mode { connection.old.in_transaction ≡ false → connection.new.in_transaction ≡ false }
     ensures unchanged { HasCleanDisk (state S.Store connection.new) → IsTrue result
@@ -30,11 +30,11 @@ fn answers<S: Alter>(connection: &mut Connection<S>) -> bool
 }
 
 impl<S: Alter + Drop> Session<S> {
-    /// How an error of the database is told: S1 where memory was refused and the connection goes on, else S2, which
+    /// How an error of the database is reported: S1 where memory was refused and the connection goes on, else S2, which
     /// is counted and shuts the store.
     pub fn refuse(&mut self, error: Error) -> StoreFault
         ensures mode { self.old.connection.in_transaction ≡ false → self.new.connection.in_transaction ≡ false }
-        ensures told { IsRefusal S.Store self.old self.new result }
+        ensures reported { IsRefusal S.Store self.old self.new result }
         ensures cause { result ≡ NoMemory → error ≡ SqliteFailure OutOfMemory }
         ensures survives { Survives (state S.Store self.old.connection) (state S.Store self.new.connection) (λ _. ⊥) }
     {
@@ -47,10 +47,10 @@ impl<S: Alter + Drop> Session<S> {
         StoreFault::Failed
     }
 
-    /// How the answer of a read is told.
+    /// How the answer of a read is reported.
     pub fn tell<T: Drop>(&mut self, asked: Result<T, ReadFault>) -> Result<T, StoreFault>
         ensures mode { self.old.connection.in_transaction ≡ false → self.new.connection.in_transaction ≡ false }
-        ensures told { IsTold S.Store self.old self.new asked result }
+        ensures reported { IsReported S.Store self.old self.new asked result }
         ensures survives { Survives (state S.Store self.old.connection) (state S.Store self.new.connection) (λ _. ⊥) }
     {
         match asked {

@@ -2,7 +2,7 @@
 ghost use Rattle.std.specs.Prelude.{◌≡◌, ◌↔◌, ◌⊎◌, IfErr, IfOk, IsTrue, false};
 ghost use Rattle.sqlite.specs.Held.{state};
 ghost use Rattle.sqlite.specs.State.{HasCleanDisk};
-ghost use Rattle.sql_create.specs.Creating.{IsAsBefore};
+ghost use Rattle.store_sql_create.specs.Creating.{IsAsBefore};
 ghost use Rattle.store_sql.specs.Opening.{IsBare, IsKnown};
 ghost use Rattle.store.specs.Tables.{no_tables};
 ghost use Rattle.store.specs.Standing.{sound};
@@ -15,16 +15,16 @@ use crate::session::Session;
 use crate::taking::take;
 use dates::Entry;
 use points::{CommandRow, Name, NumberedRow, PriorityArray};
-use sql_reading::{
-    array_of, command_of, commands_run, entries_of, last_tick, names_of, next_of, shown_by,
-};
-use sql_writing::commit_change;
 use sqlite::{Alter, Connection};
 use std::alloc::Global;
 use std::marker::Model;
 use store::{Change, Names, OpenFault, Store, StoreFault};
+use store_sql_reads::{
+    array_of, command_of, commands_run, entries_of, last_tick, names_of, next_of, shown_by,
+};
+use store_sql_writes::commit_change;
 
-/// A store that keeps its tables in a database of SQLite. It fails for want of memory, and where the device or the
+/// A store that keeps its tables in a database of SQLite. It fails for lack of memory, and where the device or the
 /// database fails, which shuts it: it is opened again.
 #[derive(Drop)]
 pub struct SqlStore<S: Alter + Drop> {
@@ -85,10 +85,10 @@ impl<S: Alter + Drop> SqlStore<S> {
         }
     }
 
-    /// Opens the six tables that a connection holds. Tables of version 1 are of version 2 from then on, without the rows
-    /// of each panel more than 1,000 below its next number: in one transaction, so that a stop leaves the one or the
-    /// other. S4 where the connection is in a transaction, or the tables are others, or of another version; S5 where a
-    /// row that has to be read cannot stand. A refusal hands the connection back.
+    /// Opens the six tables that a connection holds. Tables of version 1 are of version 2 from then on, without the
+    /// rows of each panel more than 1,000 below its next number: in one transaction, so that a stop leaves the one or
+    /// the other. S4 where the connection is in a transaction, or the tables are others, or of another version; S5
+    /// where a row that has to be read cannot stand. A refusal hands the connection back.
     pub fn open(
         alloc: Global,
         connection: Connection<S>,

@@ -1,15 +1,15 @@
 //! Whether the rows of each table are a store's own.
 ghost use Rattle.std.specs.Prelude.{◌≡◌, false, IsTrue, [], ◌∷◌};
 ghost use Rattle.sqlite.specs.Held.{state};
-ghost use Rattle.sql_create.specs.Schema.{command_tree, desk_tree, imported_tree, panel_tree, place_tree, shown_tree};
-ghost use Rattle.sql_rows.specs.Ours.{AreOwn, IsOne};
+ghost use Rattle.store_sql_create.specs.Schema.{command_tree, desk_tree, imported_tree, panel_tree, place_tree, shown_tree};
+ghost use Rattle.store_sql_rows.specs.Ours.{AreOwn, IsOne};
 ghost use Rattle.store_sql.specs.Asking.{Asks, Joins};
 ghost use Rattle.store_sql.specs.Fitting.{AreNumbered, IsAlone};
 ghost use Rattle.store_sql.specs.Own.{TellsOf};
 
 use crate::asking::{finds_none, neither_finds};
-use sql_rows::look;
 use sqlite::{Alter, Connection, Error};
+use store_sql_rows::look;
 
 fn desk_is_alone<S: Alter>(connection: &mut Connection<S>) -> Result<bool, Error>
     ensures mode { connection.old.in_transaction ≡ false → connection.new.in_transaction ≡ false }

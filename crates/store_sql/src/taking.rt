@@ -2,8 +2,8 @@
 ghost use Rattle.std.specs.Prelude.{◌≡◌, ◌↔◌, ◌⊎◌, IfErr, IfOk, IsTrue, OnErr, OnOk, false};
 ghost use Rattle.sqlite.specs.Held.{state};
 ghost use Rattle.sqlite.specs.State.{HasCleanDisk, IsUnchanged, Survives};
-ghost use Rattle.sql_create.specs.Creating.{IsAsBefore};
-ghost use Rattle.sql_rows.specs.Looking.{Rests};
+ghost use Rattle.store_sql_create.specs.Creating.{IsAsBefore};
+ghost use Rattle.store_sql_rows.specs.Looking.{Rests};
 ghost use Rattle.store_sql.specs.Opening.{IsFaultOf, IsFirst, IsFound, IsJudged, IsKnown, IsMigrated, IsRaised, IsSettled, IsShaped, IsTaken, as_version, is_sql};
 ghost use Rattle.store_sql.specs.declared.refusal.Refusal.TheVariants.{NotOurs};
 
@@ -12,10 +12,10 @@ use crate::own_rows::are_own;
 use crate::raising::commit_raised;
 use crate::refusal::Refusal;
 use crate::version::version_of;
-use sql_create::{VERSION, has_desk_schema};
-use sql_rows::ReadFault;
 use sqlite::{Alter, Connection, Error};
 use std::alloc::Global;
+use store_sql_create::{VERSION, has_desk_schema};
+use store_sql_rows::ReadFault;
 
 // The version before this one, with rows that this one drops.
 const FIRST_VERSION: i64 = 1;
@@ -57,7 +57,7 @@ fn rows_are_own<S: Alter>(connection: &mut Connection<S>) -> Result<bool, Error>
     are_own(connection)
 }
 
-// The answer of the query on the version as an opening tells it.
+// The answer of the query on the version as an opening says it.
 fn as_version(asked: Result<i64, ReadFault>) -> Result<i64, Refusal>
     ensures { result ≡ as_version asked }
 {

@@ -1,20 +1,20 @@
-//! The version that the row of `desk` tells.
+//! The version that the row of `desk` says.
 ghost use Rattle.std.specs.Prelude.{◌≡◌, false, true, Err, IfErr, IfOk, None, Some, List, [], ◌∷◌};
 ghost use Rattle.std.specs.Result.{result_err};
 ghost use Rattle.sqlite.specs.Held.{state};
 ghost use Rattle.sqlite.specs.State.{HasCleanDisk, Survives};
 ghost use Rattle.sqlite_value.specs.Order.{Row as Cells, column};
-ghost use Rattle.sql_rows.specs.Looking.{Finds};
-ghost use Rattle.sql_rows.specs.Ours.{IsOne, IsOurs};
-ghost use Rattle.sql_reading.specs.Asking.{Asks};
+ghost use Rattle.store_sql_rows.specs.Looking.{Finds};
+ghost use Rattle.store_sql_rows.specs.Ours.{IsOne, IsOurs};
+ghost use Rattle.store_sql_reads.specs.Asking.{Asks};
 ghost use Rattle.store_sql.specs.Opening.{version_in, version_of};
-ghost use Rattle.sql_rows.specs.declared.read_fault.ReadFault.TheVariants.{BadRow};
+ghost use Rattle.store_sql_rows.specs.declared.read_fault.ReadFault.TheVariants.{BadRow};
 
-use sql_rows::{ReadFault, desk_row, number_at};
 use sqlite::{Alter, Connection, Row};
+use store_sql_rows::{ReadFault, desk_row, number_at};
 
-// What the answer of the query on `desk` tells.
-fn told_version(rows: &[Row]) -> Result<i64, ReadFault>
+// What the answer of the query on `desk` says.
+fn parsed_version(rows: &[Row]) -> Result<i64, ReadFault>
     ensures value { (kept : List Cells) → IsOne kept → Finds (λ row. true) (λ row. column row 2 ∷ column row 3 ∷ []) kept rows.now
         → IfOk result (λ version. version_in kept ≡ Some version) }
     ensures bad { (kept : List Cells) → IsOne kept → Finds (λ row. true) (λ row. column row 2 ∷ column row 3 ∷ []) kept rows.now
@@ -41,5 +41,5 @@ pub fn version_of<S: Alter>(connection: &mut Connection<S>) -> Result<i64, ReadF
         (λ _. IsOurs (state S.Store connection.old).now → ⊥) }
 {
     let rows = desk_row::find(connection)?;
-    told_version(&rows)
+    parsed_version(&rows)
 }

@@ -283,10 +283,10 @@ pub Plans-too_far : (t : Taken) (u : ℕ) (asked : Option CommandRow) → front 
     → Plans t (Skip u) asked (record { next = front t; apply = []; park = None; verdict = TooFar })
 Plans-too_far t u asked past = Plans-same t u asked TooFar (accepts_skip-past t u past) (too_far t u asked past)
 
--- a plan that is told by its parts
-pub Plans-told : (t : Taken) (ask : Ask) (asked : Option CommandRow) (plan told : Plan) → plan ≡ told
-    → Plans t ask asked told → Plans t ask asked plan
-Plans-told t ask asked plan told same plans = subst (λ p. Plans t ask asked p) (sym same) plans
+-- a plan that is reported by its parts
+pub Plans-reported : (t : Taken) (ask : Ask) (asked : Option CommandRow) (plan reported : Plan) → plan ≡ reported
+    → Plans t ask asked reported → Plans t ask asked plan
+Plans-reported t ask asked plan reported same plans = subst (λ p. Plans t ask asked p) (sym same) plans
 
 -- a plan whose next number is the front
 pub Plans-from_front : (t : Taken) (ask : Ask) (asked : Option CommandRow) (next : ℕ) (apply : List NumberedContent)
@@ -296,7 +296,7 @@ pub Plans-from_front : (t : Taken) (ask : Ask) (asked : Option CommandRow) (next
 Plans-from_front t ask asked next apply park verdict same plans =
     subst (λ (n : ℕ). Plans t ask asked (record { next = n; apply = apply; park = park; verdict = verdict })) (sym same) plans
 
--- a plan that is told by what was drained: the contents before a run, and the run
+-- a plan that is reported by what was drained: the contents before a run, and the run
 pub Plans-drained : (t : Taken) (ask : Ask) (asked : Option CommandRow) (plan : Plan) (upto : ℕ) (contents before : List NumberedContent)
     (drained run : List NumberedRow) (verdict : Verdict)
     → plan ≡ record { next = end_of upto drained; apply = contents ++ contents_of drained; park = None; verdict = verdict }
@@ -304,7 +304,7 @@ pub Plans-drained : (t : Taken) (ask : Ask) (asked : Option CommandRow) (plan : 
     → Plans t ask asked (record { next = end_of upto run; apply = before ++ contents_of run; park = None; verdict = verdict })
     → Plans t ask asked plan
 Plans-drained t ask asked plan upto contents before drained run verdict is began read plans =
-    Plans-told t ask asked plan _ (is ∙ λ i. record {
+    Plans-reported t ask asked plan _ (is ∙ λ i. record {
       next = end_of upto (read i);
       apply = began i ++ contents_of (read i);
       park = None;
@@ -312,7 +312,7 @@ Plans-drained t ask asked plan upto contents before drained run verdict is began
     }) plans
 
 -- one content pushed behind none
-pub first_pushed : (before contents : List NumberedContent) (entry told : NumberedContent) → contents ≡ before ++ entry ∷ [] → before ≡ []
-    → entry ≡ told → contents ≡ told ∷ []
-first_pushed before contents entry told pushed none same =
+pub first_pushed : (before contents : List NumberedContent) (entry reported : NumberedContent) → contents ≡ before ++ entry ∷ [] → before ≡ []
+    → entry ≡ reported → contents ≡ reported ∷ []
+first_pushed before contents entry reported pushed none same =
     pushed ∙ (ap (λ first. first ++ entry ∷ []) none ∙ ap (λ (e : NumberedContent). e ∷ []) same)

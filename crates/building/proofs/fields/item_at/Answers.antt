@@ -15,4 +15,4 @@ seen None = refl
 seen (Some v) = refl
 
 pub returns : goal.returns
-returns c = seen c.nth.result ∙ ap (option_map view) c.nth.ensures ∙ same_item c.args.items.now c.args.place
+returns c = seen c.nth.result ∙ ap (option_map view) c.nth.ensures ∙ same_item c.args.items.now c.args.index

@@ -1,6 +1,6 @@
 use Rattle.std.proofs.Common.{◌≡◌, ◌++◌, IsTrue, drop}
 use Rattle.std.specs.List.{list_all}
-use Rattle.building.specs.Steps.{result_map}
+use Rattle.points.specs.FaultSteps.{result_map}
 use Rattle.toml.specs.View.{items_view}
 use Rattle.building.specs.Items.{each_item}
 use Rattle.building.proofs.item_list.read_items.Given as goal

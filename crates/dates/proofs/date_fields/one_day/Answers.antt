@@ -16,5 +16,5 @@ returns c =
     let value = rw c.from.ensures at (simp to_z-of_z at c.new.ensures.value) in
     let is =
     rw c.number-year.ensures.value at (day_of-new c.number-year.result c.in_ok-month.month c.in_ok-day.day c.new.result exists value) in
-    let told = c.ok_or-4.ensures.value ∙ ap (λ day. ok_or day Day) is in
+    let reported = c.ok_or-4.ensures.value ∙ ap (λ day. ok_or day Day) is in
     search rules

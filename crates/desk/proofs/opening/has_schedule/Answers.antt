@@ -3,4 +3,4 @@ use Rattle.desk.proofs.OpeningLemmas.{placed-any}
 use Rattle.desk.proofs.opening.has_schedule.Goals as goal
 
 pub returns : goal.returns
-returns c = c.is_some.ensures ∙ (ap is_some c.schedule_place.ensures ∙ placed-any _ c.args.building.now.schedules)
+returns c = c.is_some.ensures ∙ (ap is_some c.schedule_index.ensures ∙ placed-any _ c.args.building.now.schedules)

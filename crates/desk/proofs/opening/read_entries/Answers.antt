@@ -1,9 +1,9 @@
-use Rattle.std.proofs.Common.{◌≡◌, ◌<◌, ◌∙◌, Bool, None, ap, arith, false, length, refl, subst, sym, take, take_all}
+use Rattle.std.proofs.Common.{◌≡◌, ◌<◌, ◌∙◌, Bool, None, ap, arith, false, length, refl, subst, sym, take_all}
 use Rattle.std.specs.List.{list_any}
 use Rattle.store.specs.Asked.{Asked}
 use Rattle.store.specs.Asked.Asked.{EntriesOf}
 use Rattle.store.proofs.ReadLemmas.{Reads-then}
-use Rattle.desk.proofs.OpeningLemmas.{more_stood, not_true}
+use Rattle.store.proofs.StoodLemmas.{more_stood, not_true}
 use Rattle.desk.proofs.opening.read_entries.Goals as goal
 
 pub loop-calendar-init : goal.loop-calendar-init

@@ -1,6 +1,4 @@
-use Rattle.std.proofs.Common.{◌≡◌, OnOk, false, subst}
-use Rattle.std.specs.List.{list_any}
-use Rattle.store.specs.Asked.Asked.{NextOf}
+use Rattle.std.proofs.Common.{◌≡◌}
 use Rattle.desk.proofs.OpeningLemmas.{nexts-stood}
 use Rattle.desk.proofs.opening.read_rows.Goals as goal
 

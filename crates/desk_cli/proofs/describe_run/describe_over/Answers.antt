@@ -2,16 +2,16 @@ use Rattle.std.proofs.Common.{◌≡◌, ◌∙◌, ℕ, List, Result, Ok, Err, 
 use Rattle.std.specs.Prelude.{OnOk}
 use Rattle.std.specs.Io.KnownBytes.{Appends}
 use Rattle.desk_cli.specs.Describe.{Tells}
-use Rattle.desk_console.proofs.ReadingLemmas.{whole_taken}
+use Rattle.cli_common.proofs.ReadingLemmas.{whole_taken}
 use Rattle.desk_cli.proofs.describe_run.describe_over.Goals as goal
 
 on_ok : {T E : Type 0} (r : Result T E) (P Q : Type 0) → (P → Q) → OnOk r P → OnOk r Q
 on_ok {T} {E} (Ok x) P Q f p = f p
 on_ok {T} {E} (Err e) P Q f p = tt
 
--- what is told of the bytes that were read is told of the file
+-- what holds of the bytes that were read holds of the file
 of_whole : (bytes line : List ℕ) → Tells (take 1_048_577 bytes) line → Tells bytes line
-of_whole bytes line told = subst (λ b. Tells b line) (whole_taken bytes told.contents told.contents_are) told
+of_whole bytes line parsed = subst (λ b. Tells b line) (whole_taken bytes parsed.contents parsed.contents_are) parsed
 
 pub returns : goal.returns
 returns g c = on_ok c.print_whole.result _ _ (λ printed bytes known.
@@ -19,7 +19,7 @@ returns g c = on_ok c.print_whole.result _ _ (λ printed bytes known.
     let start : c.as_slice.result.now ≡ take 1_048_577 bytes = c.as_slice.ensures.value ∙ c.in_ok-bytes.ensures bytes known in
     record {
       line = line;
-      is_told = of_whole bytes line (subst (λ b. Tells b line) start c.in_ok-line.ensures);
+      is_reported = of_whole bytes line (subst (λ b. Tells b line) start c.in_ok-line.ensures);
       printed =
           subst (Appends (g.W.Write.contents c.args.out.now) (g.W.Write.contents c.print_whole.new.out)) c.as_str.ensures.value printed;
     }) c.print_whole.ensures

@@ -1,6 +1,6 @@
 use Rattle.std.proofs.Common.{◌≡◌, [], Err, Ok, OnOk, Result, Some, refl}
 use Rattle.std.specs.Io.Buffered.{reader_remaining}
-use Rattle.desk_console.proofs.PrintedLemmas.{Keeps-same}
+use Rattle.cli_common.proofs.PrintedLemmas.{Keeps-same}
 use Rattle.desk_cli.proofs.ReplayLemmas.{Replays-Keeps, Replays-done}
 use Rattle.desk_cli.proofs.StopLemmas.{no_more-lines, no_more-points}
 use Rattle.desk_cli.proofs.replay_run.print_list.Goals as goal

@@ -4,8 +4,8 @@ use Rattle.std.specs.Io.KnownBytes.{Appends}
 use Rattle.desk_cli.specs.Replay.{line_of_point}
 use Rattle.desk_cli.proofs.replay_run.print_points.Given as goal
 
-abbrev pub invariant-loop-place : goal.invariant-loop-place
-invariant-loop-place g l =
+abbrev pub invariant-loop-index : goal.invariant-loop-index
+invariant-loop-index g l =
     let was = g.S.Store.standing l.initial.desk.store in
     let now = g.S.Store.standing l.desk.store in
     record {
@@ -14,5 +14,5 @@ invariant-loop-place g l =
       building : l.desk.building ≡ l.initial.desk.building;
       count : l.count ≡ length l.initial.desk.building.points;
       printed : now.is_honest → Appends (g.W.Write.contents l.initial.out) (g.W.Write.contents l.out)
-          (flat_map (line_of_point l.initial.desk.building was.content.tables) (take l.place l.initial.desk.building.points));
+          (flat_map (line_of_point l.initial.desk.building was.content.tables) (take l.index l.initial.desk.building.points));
     }

@@ -1,4 +1,4 @@
-use Rattle.desk_console.proofs.PrintedLemmas.{Keeps-same}
+use Rattle.cli_common.proofs.PrintedLemmas.{Keeps-same}
 use Rattle.desk_cli.proofs.StopLemmas.{no_more-Keeps}
 use Rattle.desk_cli.proofs.replay_run.replay.Goals as goal
 

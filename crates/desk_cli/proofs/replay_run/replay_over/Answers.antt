@@ -2,7 +2,7 @@ use Rattle.std.proofs.Common.{◌≡◌, ◌∙◌, [], Err, Ok, OnOk, Result, a
 use Rattle.building.specs.Building.{Building, contents_of}
 use Rattle.deliveries.specs.Tables.{tables}
 use Rattle.store.specs.Standing.{sound}
-use Rattle.mem_store.specs.Memory.{standing_of}
+use Rattle.store_memory.specs.Memory.{standing_of}
 use Rattle.deliveries.proofs.EmptyLemmas.{tables-none}
 use Rattle.desk_cli.proofs.replay_run.replay_over.Goals as goal
 

@@ -1,8 +1,8 @@
 use Rattle.std.proofs.Common.{◌+◌, ◌∙◌, arith, subst, sym}
 use Rattle.std.specs.Io.KnownBytes.{Appends}
-use Rattle.delivery_lines.specs.DeliveryText.{delivery_line}
-use Rattle.desk_console.specs.Printed.{AppendsStart}
-use Rattle.desk_console.proofs.PrintedLemmas.{Appends-Appends, start-after, start-taken, start-whole}
+use Rattle.delivery_json.specs.DeliveryText.{delivery_line}
+use Rattle.points.specs.Beginnings.{AppendsStart}
+use Rattle.cli_common.proofs.PrintedLemmas.{Appends-Appends, start-after, start-taken, start-whole}
 use Rattle.desk_cli.proofs.StraightenLemmas.{lines-then}
 use Rattle.desk_cli.proofs.straighten_run.print_deliveries.Goals as goal
 

@@ -1,7 +1,7 @@
 use Rattle.std.proofs.Common.{take}
 use Rattle.std.specs.List.{flat_map}
 use Rattle.std.specs.Io.KnownBytes.{Appends}
-use Rattle.delivery_lines.specs.DeliveryText.{delivery_line}
+use Rattle.delivery_json.specs.DeliveryText.{delivery_line}
 use Rattle.desk_cli.proofs.straighten_run.print_deliveries.Given as goal
 
 -- what was printed, with the deliveries so far

@@ -1,4 +1,4 @@
-use Rattle.desk_console.proofs.PrintedLemmas.{Keeps-same}
+use Rattle.cli_common.proofs.PrintedLemmas.{Keeps-same}
 use Rattle.desk_cli.proofs.StraightenLemmas.{straightens-Keeps}
 use Rattle.desk_cli.proofs.straighten_run.straighten.Goals as goal
 

@@ -1,6 +1,6 @@
 use Rattle.std.proofs.Common.{◌≡◌, ◌∙◌, Err, Ok, OnOk, Result, ap, inl}
 use Rattle.deliveries_straight.specs.StraightList.{straight_list}
-use Rattle.desk_console.proofs.PrintedLemmas.{Keeps-same}
+use Rattle.cli_common.proofs.PrintedLemmas.{Keeps-same}
 use Rattle.desk_cli.proofs.StraightenLemmas.{straightens_start, straightens_whole}
 use Rattle.desk_cli.proofs.straighten_run.straighten_over.Goals as goal
 

@@ -1,10 +1,10 @@
 use Rattle.std.proofs.Common.{◌≡◌, ◌∙◌, ◌++◌, Bool, List, sym, ap}
-use Rattle.clock.proofs.ClockedLemmas.{Tells-held}
+use Rattle.desk_clock.proofs.ClockedLemmas.{Tells-held}
 use Rattle.deliveries.specs.declared.delivery.Delivery.{Delivery}
 use Rattle.deliveries.specs.declared.delivery.Delivery.TheVariants.{Import}
 use Rattle.deliveries.specs.Events.{machine}
 use Rattle.deliveries.specs.Reply.{reply}
-use Rattle.mem_store.specs.Memory.{standing_of}
+use Rattle.store_memory.specs.Memory.{standing_of}
 use Rattle.sched.specs.declared.calendar.CalendarEntry.{CalendarEntry}
 use Rattle.desk_straighten.specs.Steps.{import_if, is_imported}
 use Rattle.desk_straighten.proofs.StoreLemmas.{straightened_by-import}

@@ -2,10 +2,10 @@ use Rattle.std.proofs.Common.{◌≡◌, ◌∙◌, ◌+◌, ◌<◌, ◌≤◌,
 use Rattle.std.proofs.lemmas.List.{append-nil, drop_more}
 use Rattle.std.proofs.lemmas.Bool.Decides.{nat_tests}
 use Rattle.sched.specs.declared.calendar.CalendarEntry.{CalendarEntry}
-use Rattle.settling.specs.Calendars.{Tells}
+use Rattle.desk_settling.specs.Calendars.{Tells}
 use Rattle.store.specs.Standing.{Content}
 use Rattle.store.proofs.ReadLemmas.{Reads-then, kept-read}
-use Rattle.clock.specs.Knowing.{Knows}
+use Rattle.desk_clock.specs.Knowing.{Knows}
 use Rattle.desk_straighten.specs.Steps.{row_if}
 use Rattle.desk_straighten.proofs.NewRowLemmas.{row_if-no, row_if-yes, rows-more}
 use Rattle.desk_straighten.proofs.new_rows.rows_that_add.Goals as goal

@@ -1,9 +1,9 @@
 use Rattle.std.proofs.Common.{◌≡◌, ◌++◌, None, List, drop}
-use Rattle.settling.specs.Calendars.{Tells, with_items}
+use Rattle.desk_settling.specs.Calendars.{Tells, with_items}
 use Rattle.store.specs.Standing.{Reads}
-use Rattle.store.specs.Tables.{Text}
+use Rattle.points.specs.Texts.{Text}
 use Rattle.deliveries_straight.specs.Cut.{added_rows}
-use Rattle.clock.specs.Knowing.{Knows}
+use Rattle.desk_clock.specs.Knowing.{Knows}
 use Rattle.desk_straighten.proofs.new_rows.rows_that_add.Given as goal
 
 -- the rows so far, and those of the rest beside the items so far

@@ -1,6 +1,6 @@
 use Rattle.std.proofs.Common.{◌≡◌, ◌∙◌, ◌+◌, ◌++◌, ◌≤◌, ℕ, List, map, sym, ap, subst, arith}
 use Rattle.std.specs.List.{All}
-use Rattle.mem_store.specs.Memory.{standing_of}
+use Rattle.store_memory.specs.Memory.{standing_of}
 use Rattle.points.specs.declared.numbered_row.NumberedRow.{NumberedRow}
 use Rattle.points.specs.Run.{IsRun}
 use Rattle.window.specs.declared.TheConstants.{LAST_NUMBER}

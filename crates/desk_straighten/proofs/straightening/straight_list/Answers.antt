@@ -3,7 +3,7 @@ use Rattle.std.specs.List.{flat_map}
 use Rattle.std.proofs.lemmas.List.{take_more, take_all}
 use Rattle.deliveries.specs.declared.delivery.Delivery.{Delivery}
 use Rattle.deliveries.specs.Delivered.{Holds}
-use Rattle.mem_store.specs.Memory.{standing_of}
+use Rattle.store_memory.specs.Memory.{standing_of}
 use Rattle.points.specs.declared.panel.Panel.{Panel}
 use Rattle.store.specs.Standing.{sound}
 use Rattle.deliveries_straight.specs.StraightList.{parked_of, straight_list, straightened_after}

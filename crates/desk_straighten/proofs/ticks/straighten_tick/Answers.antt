@@ -3,7 +3,7 @@ use Rattle.std.proofs.lemmas.List.{append-nil}
 use Rattle.deliveries.specs.declared.delivery.Delivery.{Delivery}
 use Rattle.deliveries.specs.declared.delivery.Delivery.TheVariants.{Tick}
 use Rattle.deliveries.specs.Reply.{reply}
-use Rattle.mem_store.specs.Memory.{standing_of}
+use Rattle.store_memory.specs.Memory.{standing_of}
 use Rattle.desk_straighten.specs.Steps.{is_ticked}
 use Rattle.desk_straighten.proofs.StoreLemmas.{straightened_by-tick}
 use Rattle.desk_straighten.proofs.ticks.straighten_tick.Goals as goal

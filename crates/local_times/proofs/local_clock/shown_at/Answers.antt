@@ -40,8 +40,8 @@ returns-clause-value c =
     let value = simp to_z-of_z at c.new.ensures.value in
     let time = time_nanos c.args.time / 10_000_000 in
     let with_time : Date → LocalTime = λ date. record { day = date; time = time } in
-    let told = c.in_ok-time.ensures.value ∙ c.hundredths_of.ensures.value in
-    ap (λ shown. Some (with_shown c.in_ok-day.day shown)) told
+    let reported = c.in_ok-time.ensures.value ∙ c.hundredths_of.ensures.value in
+    ap (λ shown. Some (with_shown c.in_ok-day.day shown)) reported
     ∙ sym (local_on-new c.args.date time c.new.result from exists value ∙ ap (option_map with_time) c.in_ok-day.was)
   where
     with_shown : Date → ℕ → LocalTime

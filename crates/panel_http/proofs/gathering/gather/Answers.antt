@@ -1,5 +1,5 @@
 use Rattle.std.proofs.Common.{subst}
-use Rattle.request_reading.specs.Whole.{IsWhole}
+use Rattle.panel_http_requests.specs.Whole.{IsWhole}
 use Rattle.panel_http.proofs.gathering.gather.Goals as goal
 
 pub returns-then-lacks-eq0-2-clause-whole : goal.returns-then-lacks-eq0-2-clause-whole

@@ -1,4 +1,4 @@
-use Rattle.std.proofs.Common.{◌≡◌, Bool, false, ◌&&◌, ◌||◌, map, sym, subst}
+use Rattle.std.proofs.Common.{◌&&◌, ◌||◌, map, sym, subst}
 use Rattle.std.specs.Bool.{IsTrue}
 use Rattle.std.specs.HashMap.{get}
 use Rattle.std.specs.Str.{bytes_eq}

@@ -1,8 +1,8 @@
-use Rattle.std.proofs.Common.{◌≡◌, ℕ, Bool, Option, ℤ, take}
+use Rattle.std.proofs.Common.{Bool, Option, ℤ, take}
 use Rattle.std.specs.HashMap.{get}
 use Rattle.std.specs.Str.{bytes_eq}
 use Rattle.store.specs.Change.{with_each, with_shown}
-use Rattle.store.specs.Tables.{Text}
+use Rattle.points.specs.Texts.{Text}
 use Rattle.store_remembered.specs.Known.{Has, Knows}
 use Rattle.store_remembered.proofs.memory.put_all_shown.Given as goal
 

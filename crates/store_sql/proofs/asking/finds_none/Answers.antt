@@ -1,7 +1,7 @@
 use Rattle.sqlite.specs.Held.{state}
 use Rattle.store_sql.specs.Asking.{FindsNone}
 use Rattle.store_sql.proofs.AskLemmas.{looked}
-use Rattle.store_sql.proofs.EmptyLemmas.{empty_told}
+use Rattle.store_sql.proofs.EmptyLemmas.{empty_reported}
 use Rattle.store_sql.proofs.asking.finds_none.Goals as goal
 
 pub returns-clause-asks : goal.returns-clause-asks
@@ -13,6 +13,6 @@ returns-clause-asks g c =
       is = is;
       rows = c.in_ok-look.field-0.items;
       read = read;
-      told = empty_told c.in_ok-look.field-0.items _ c.is_empty.result c.in_ok-look.field-0.ok.0 c.is_empty.ensures;
+      reported = empty_reported c.in_ok-look.field-0.items _ c.is_empty.result c.in_ok-look.field-0.ok.0 c.is_empty.ensures;
     })
     c.in_ok-look.ensures.shown c.in_ok-look.ensures.same c.in_ok-look.ensures.rests c.in_ok-look.ensures.survives

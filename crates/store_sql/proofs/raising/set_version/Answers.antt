@@ -1,6 +1,6 @@
 use Rattle.sqlite.specs.Held.{state}
-use Rattle.sql_create.proofs.CreateLemmas.{execution_keeps}
-use Rattle.sql_rows.proofs.DeskTexts.{set_version_text}
+use Rattle.store_sql_create.proofs.CreateLemmas.{execution_keeps}
+use Rattle.store_sql_rows.proofs.DeskTexts.{set_version_text}
 use Rattle.store_sql.proofs.VersionLemmas.{sets_version}
 use Rattle.store_sql.proofs.raising.set_version.Goals as goal
 

@@ -1,11 +1,11 @@
 use Rattle.std.proofs.Common.{◌∙◌}
 use Rattle.sqlite.specs.Held.{state}
-use Rattle.sql_create.specs.Schema.{desk_tree}
-use Rattle.sql_rows.proofs.DeskTexts.{find_text}
+use Rattle.store_sql_create.specs.Schema.{desk_tree}
+use Rattle.store_sql_rows.proofs.DeskTexts.{find_text}
 use Rattle.store_sql.specs.Fitting.{IsAlone}
 use Rattle.store_sql.specs.Own.{TellsOf}
 use Rattle.store_sql.proofs.AskLemmas.{look_failed, looked}
-use Rattle.store_sql.proofs.DeskLemmas.{find_askable, alone_told}
+use Rattle.store_sql.proofs.DeskLemmas.{find_askable, alone_reported}
 use Rattle.store_sql.proofs.tables.desk_is_alone.Goals as goal
 
 pub returns-in_err-look-clause-asks : goal.returns-in_err-look-clause-asks
@@ -18,6 +18,6 @@ pub returns-clause-asks : goal.returns-clause-asks
 returns-clause-asks g c =
     looked (TellsOf desk_tree IsAlone) find_text find_askable (state g.S.Store c.args.connection.now)
     (state g.S.Store c.look.new.connection) _ c.in_ok-look.field-0.items
-    (alone_told c.in_ok-look.field-0.items c.len.result (c.len.ensures ∙ c.in_ok-look.field-0.ok.0)
+    (alone_reported c.in_ok-look.field-0.items c.len.result (c.len.ensures ∙ c.in_ok-look.field-0.ok.0)
     (state g.S.Store c.args.connection.now).now)
     c.in_ok-look.ensures.shown c.in_ok-look.ensures.same c.in_ok-look.ensures.rests c.in_ok-look.ensures.survives

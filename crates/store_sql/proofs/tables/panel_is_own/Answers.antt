@@ -1,11 +1,11 @@
 use Rattle.std.specs.Prelude.{[], ◌∷◌}
 use Rattle.sqlite.specs.Held.{state}
-use Rattle.sql_create.specs.Schema.{panel_tree}
-use Rattle.sql_rows.specs.Ours.{AreOwn}
+use Rattle.store_sql_create.specs.Schema.{panel_tree}
+use Rattle.store_sql_rows.specs.Ours.{AreOwn}
 use Rattle.store_sql.specs.Asking.{FindsNone, Joins}
 use Rattle.store_sql.specs.Own.{TellsOf}
 use Rattle.store_sql.proofs.AskLemmas.{asks_as}
-use Rattle.store_sql.proofs.TableLemmas.{panel_told}
+use Rattle.store_sql.proofs.TableLemmas.{panel_reported}
 use Rattle.store_sql.proofs.Texts.{panel_apart_askable, panel_apart_text, panel_numbered_askable, panel_numbered_text}
 use Rattle.store_sql.proofs.tables.panel_is_own.Goals as goal
 
@@ -17,6 +17,6 @@ neither_finds-requires-clause-second g c = panel_apart_askable
 
 pub returns-clause-asks : goal.returns-clause-asks
 returns-clause-asks g c =
-    asks_as (Joins (FindsNone panel_numbered_text) (FindsNone panel_apart_text)) (TellsOf panel_tree (AreOwn (1 ∷ []))) panel_told
+    asks_as (Joins (FindsNone panel_numbered_text) (FindsNone panel_apart_text)) (TellsOf panel_tree (AreOwn (1 ∷ []))) panel_reported
     (state g.S.Store c.args.connection.now) (state g.S.Store c.neither_finds.new.connection) c.neither_finds.result
     c.neither_finds.ensures.asks

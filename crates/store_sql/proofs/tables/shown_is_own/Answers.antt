@@ -1,11 +1,11 @@
 use Rattle.std.specs.Prelude.{[], ◌∷◌}
 use Rattle.sqlite.specs.Held.{state}
-use Rattle.sql_create.specs.Schema.{shown_tree}
-use Rattle.sql_rows.specs.Ours.{AreOwn}
+use Rattle.store_sql_create.specs.Schema.{shown_tree}
+use Rattle.store_sql_rows.specs.Ours.{AreOwn}
 use Rattle.store_sql.specs.Asking.{FindsNone, Joins}
 use Rattle.store_sql.specs.Own.{TellsOf}
 use Rattle.store_sql.proofs.AskLemmas.{asks_as}
-use Rattle.store_sql.proofs.TableLemmas.{shown_told}
+use Rattle.store_sql.proofs.TableLemmas.{shown_reported}
 use Rattle.store_sql.proofs.Texts.{shown_apart_askable, shown_apart_text, shown_numbered_askable, shown_numbered_text}
 use Rattle.store_sql.proofs.tables.shown_is_own.Goals as goal
 
@@ -17,6 +17,6 @@ neither_finds-requires-clause-second g c = shown_apart_askable
 
 pub returns-clause-asks : goal.returns-clause-asks
 returns-clause-asks g c =
-    asks_as (Joins (FindsNone shown_numbered_text) (FindsNone shown_apart_text)) (TellsOf shown_tree (AreOwn (1 ∷ []))) shown_told
+    asks_as (Joins (FindsNone shown_numbered_text) (FindsNone shown_apart_text)) (TellsOf shown_tree (AreOwn (1 ∷ []))) shown_reported
     (state g.S.Store c.args.connection.now) (state g.S.Store c.neither_finds.new.connection) c.neither_finds.result
     c.neither_finds.ensures.asks

@@ -2,8 +2,8 @@ use Rattle.std.proofs.Common.{◌≡◌, ◌⊎◌, subst, sym, true, IfErr, IfO
 use Rattle.sqlite.specs.Held.{state}
 use Rattle.store_sql.specs.declared.refusal.Refusal.TheVariants.{NotOurs}
 use Rattle.store_sql.specs.Opening.{IsFound, is_sql}
-use Rattle.sql_reading.proofs.ReadLemmas.{clean_before}
-use Rattle.store_sql.proofs.OpenLemmas.{faults_told, found_told, known_told}
+use Rattle.store_sql_reads.proofs.ReadLemmas.{clean_before}
+use Rattle.store_sql.proofs.OpenLemmas.{faults_reported, found_reported, known_reported}
 use Rattle.store_sql.proofs.taking.find_version.Goals as goal
 
 pub returns-clause-found : goal.returns-clause-found
@@ -13,7 +13,7 @@ returns-clause-found g c clean =
     let new = state g.S.Store c.version_of.new.connection in
     let own : c.in_ok-rows_are_own.field-0 ≡ true = search in
     subst (λ r. IfOk r (λ version. IsFound version old new)) (sym c.as_version.ensures)
-    (found_told c.version_of.result c.in_ok-rows_are_own.field-0 old mid new own (c.has_shape.ensures.settled search)
+    (found_reported c.version_of.result c.in_ok-rows_are_own.field-0 old mid new own (c.has_shape.ensures.settled search)
     (c.in_ok-rows_are_own.ensures.judged (clean_before mid new c.version_of.ensures.survives.clean clean))
     (c.version_of.ensures.asks clean) (c.version_of.ensures.value clean))
 
@@ -24,10 +24,10 @@ returns-clause-known g c clean known =
     let new = state g.S.Store c.version_of.new.connection in
     let own : c.in_ok-rows_are_own.field-0 ≡ true = search in
     subst (λ r. IfErr r (λ fault. IsTrue (is_sql fault))) (sym c.as_version.ensures)
-    (known_told c.version_of.result c.in_ok-rows_are_own.field-0 old mid own (c.has_shape.ensures.settled search)
+    (known_reported c.version_of.result c.in_ok-rows_are_own.field-0 old mid own (c.has_shape.ensures.settled search)
     (c.in_ok-rows_are_own.ensures.judged (clean_before mid new c.version_of.ensures.survives.clean clean)) known
     (c.version_of.ensures.bad clean))
 
 pub returns-clause-faults : goal.returns-clause-faults
 returns-clause-faults g c =
-    subst (λ r. IfErr r (λ fault. IsTrue (is_sql fault) ⊎ (fault ≡ NotOurs))) (sym c.as_version.ensures) (faults_told c.version_of.result)
+    subst (λ r. IfErr r (λ fault. IsTrue (is_sql fault) ⊎ (fault ≡ NotOurs))) (sym c.as_version.ensures) (faults_reported c.version_of.result)

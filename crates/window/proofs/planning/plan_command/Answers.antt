@@ -1,7 +1,7 @@
 use Rattle.std.proofs.Common.{◌∙◌, ◌+◌, [], ◌∷◌, sym, Some}
 use Rattle.std.proofs.lemmas.Result.{IfOk-weaker}
 use Rattle.window.specs.Taken.{Command, opening, taken}
-use Rattle.window.proofs.PlanLemmas.{first_pushed, Plans-drained, Plans-told, Plans-from_front, Plans-applies, Plans-parked, Plans-refused}
+use Rattle.window.proofs.PlanLemmas.{first_pushed, Plans-drained, Plans-reported, Plans-from_front, Plans-applies, Plans-parked, Plans-refused}
 use Rattle.window.proofs.VerdictLemmas.{IsRun-command, at_front-applies, waits-parked, refused-otherwise}
 use Rattle.window.proofs.planning.plan_command.Goals as goal
 
@@ -31,7 +31,7 @@ returns-in-Parked c = λ asks shows.
     let content = c.args.content.now in
     let said = c.verdict_on-verdict.ensures t shows in
     let waits = waits-parked t number content shows.rows view.asked shows.keeps shows.asked (sym said ∙ c.in-Parked.is) in
-    Plans-told t (Command number content) view.asked _ _
+    Plans-reported t (Command number content) view.asked _ _
     (λ i. record {
       next = shows.next i;
       apply = (c.from_vec.ensures ∙ c.new.ensures.items) i;
@@ -49,6 +49,6 @@ returns-in_default c = λ asks shows.
     let said = c.verdict_on-verdict.ensures t shows in
     let refused = refused-otherwise t number content shows.rows view.asked shows.keeps shows.asked
     (λ e. c.in_default.not-Applies (said ∙ e)) (λ e. c.in_default.not-Parked (said ∙ e)) in
-    Plans-told t (Command number content) view.asked c.unchanged.result _ c.unchanged.ensures
+    Plans-reported t (Command number content) view.asked c.unchanged.result _ c.unchanged.ensures
     (Plans-from_front t (Command number content) view.asked view.next _ _ _ shows.next
     (Plans-refused t number content view.asked c.verdict_on-verdict.result refused said))

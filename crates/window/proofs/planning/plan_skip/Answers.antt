@@ -3,7 +3,7 @@ use Rattle.std.proofs.lemmas.Result.{IfOk-weaker}
 use Rattle.window.specs.declared.verdict.Verdict.TheVariants.{SkipDone}
 use Rattle.window.specs.Taken.{Skip, opening, taken}
 use Rattle.window.specs.Window.{window}
-use Rattle.window.proofs.PlanLemmas.{Plans-drained, Plans-told, Plans-from_front, Plans-skips, Plans-not_above, Plans-too_far, accepts_skip-within}
+use Rattle.window.proofs.PlanLemmas.{Plans-drained, Plans-reported, Plans-from_front, Plans-skips, Plans-not_above, Plans-too_far, accepts_skip-within}
 use Rattle.window.proofs.VerdictLemmas.{IsRun-skip}
 use Rattle.window.proofs.planning.plan_skip.Goals as goal
 
@@ -11,7 +11,7 @@ pub returns-then-upto-view : goal.returns-then-upto-view
 returns-then-upto-view c = λ asks shows.
     let t = taken opening asks in
     let front = shows.next in
-    Plans-told t (Skip c.args.upto) c.args.view.now.asked c.unchanged.result _ c.unchanged.ensures
+    Plans-reported t (Skip c.args.upto) c.args.view.now.asked c.unchanged.result _ c.unchanged.ensures
     (Plans-from_front t (Skip c.args.upto) c.args.view.now.asked c.args.view.now.next _ _ _ shows.next
     (Plans-not_above t c.args.upto c.args.view.now.asked (omega arith)))
 
@@ -32,7 +32,7 @@ unfolding window
 returns-else-upto-view-le-WINDOW c = λ asks shows.
     let t = taken opening asks in
     let front = shows.next in
-    Plans-told t (Skip c.args.upto) c.args.view.now.asked c.unchanged-else-upto-view-le-WINDOW.result _
+    Plans-reported t (Skip c.args.upto) c.args.view.now.asked c.unchanged-else-upto-view-le-WINDOW.result _
     c.unchanged-else-upto-view-le-WINDOW.ensures
     (Plans-from_front t (Skip c.args.upto) c.args.view.now.asked c.args.view.now.next _ _ _ shows.next
     (Plans-too_far t c.args.upto c.args.view.now.asked (omega arith)))

@@ -1,5 +1,5 @@
 use Rattle.std.proofs.Common.{◌∙◌, ap}
-use Rattle.points.specs.Names.{is_among}
+use Rattle.points.specs.NameIndex.{is_among}
 use Rattle.building.specs.Roster.{has_name}
 use Rattle.building.proofs.RosterLemmas.{among-map}
 use Rattle.building.proofs.roster.Roster.has.Goals as goal

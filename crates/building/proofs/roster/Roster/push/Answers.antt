@@ -1,5 +1,5 @@
 use Rattle.std.proofs.Common.{◌∙◌, ℕ, List, [], ◌∷◌, ◌++◌, map, sym, ap}
-use Rattle.points.specs.Names.{is_among}
+use Rattle.points.specs.NameIndex.{is_among}
 use Rattle.building.specs.Roster.{are_distinct, has_name}
 use Rattle.building.proofs.RosterLemmas.{among-map, distinct_pushed, names_pushed}
 use Rattle.building.proofs.roster.Roster.push.Goals as goal

@@ -1,60 +1,30 @@
-use Rattle.std.proofs.Common.{IsTrue, refl, subst}
 use Rattle.std.specs.Result.{result_err}
 use Rattle.store.specs.Standing.{Reads}
 use Rattle.store_sql.specs.Standing.{standing_of}
-use Rattle.store_sql.proofs.StandLemmas.{judged_left, read_left}
+use Rattle.store_sql_rows.proofs.UnsoundLemmas.{unsound}
+use Rattle.std.proofs.Common.{subst}
 use Rattle.store.specs.Asked.Asked.{RowOf}
-use Rattle.sql_rows.proofs.UnsoundLemmas.{unsound}
-use Rattle.sql_rows.specs.Broken.{cannot_stand_in}
-use Rattle.sql_rows.specs.Stored.{tables_in}
 use Rattle.store.specs.Asked.{IsBrokenRun, Judges}
-use Rattle.sql_rows.specs.Ours.{kept_in}
-use Rattle.sqlite.specs.Held.{state}
+use Rattle.store_sql.proofs.StandLemmas.{judges_left, reported_left}
 use Rattle.store_sql.proofs.sql_store.SqlStoreStore.commands_run.Goals as goal
 
 pub invariant_of-self : goal.invariant_of-self
 invariant_of-self g c =
-    (read_left g.S.Store c.self.inside.session (record {
-      connection = c.commands_run-asked.new.connection;
-      failures =
-          c.self.inside.session.failures;
-      is_shut = c.self.inside.session.is_shut;
-    })
-    c.tell.new.self c.commands_run-asked.result c.tell.result refl refl c.if-self.false c.self.invariant
-    (λ h db. g.met.S.Store.settled h.store db)
-    c.commands_run-asked.ensures.mode c.commands_run-asked.ensures.asks (λ clean ours is. let row = c.commands_run-asked.ensures.bad clean ours is in
-    unsound (kept_in (state g.S.Store c.self.inside.session.connection).now.trees) (RowOf c.args.panel.now row.0) row.2.1)
-    c.commands_run-asked.ensures.survives c.tell.ensures.mode c.tell.ensures.survives c.tell.ensures.told).0
+    (reported_left g.S.Store c.self.inside.session c.commands_run-asked.new.connection c.tell.new.self c.commands_run-asked.result c.tell.result
+    (λ kept broken. unsound kept (RowOf c.args.panel.now broken.0) broken.2.1) c.if-self.false c.self.invariant (λ h db. g.met.S.Store.settled h.store db)
+    c.commands_run-asked.ensures.answers c.tell.ensures.mode c.tell.ensures.survives c.tell.ensures.reported).fit
 
 pub returns-clause-reads : goal.returns-clause-reads
 returns-clause-reads g c =
     subst (λ s. Reads (result_err c.tell.result) (standing_of g.S.Store s) (standing_of g.S.Store c.tell.new.self)) c.self.view_is
-    (read_left g.S.Store c.self.inside.session (record {
-      connection = c.commands_run-asked.new.connection;
-      failures =
-          c.self.inside.session.failures;
-      is_shut = c.self.inside.session.is_shut;
-    })
-    c.tell.new.self c.commands_run-asked.result c.tell.result refl refl c.if-self.false c.self.invariant
-    (λ h db. g.met.S.Store.settled h.store db)
-    c.commands_run-asked.ensures.mode c.commands_run-asked.ensures.asks (λ clean ours is. let row = c.commands_run-asked.ensures.bad clean ours is in
-    unsound (kept_in (state g.S.Store c.self.inside.session.connection).now.trees) (RowOf c.args.panel.now row.0) row.2.1)
-    c.commands_run-asked.ensures.survives c.tell.ensures.mode c.tell.ensures.survives c.tell.ensures.told).1
+    (reported_left g.S.Store c.self.inside.session c.commands_run-asked.new.connection c.tell.new.self c.commands_run-asked.result c.tell.result
+    (λ kept broken. unsound kept (RowOf c.args.panel.now broken.0) broken.2.1) c.if-self.false c.self.invariant (λ h db. g.met.S.Store.settled h.store db)
+    c.commands_run-asked.ensures.answers c.tell.ensures.mode c.tell.ensures.survives c.tell.ensures.reported).reads
 
 pub returns-clause-judges : goal.returns-clause-judges
 returns-clause-judges g c clean =
     subst (λ s. Judges (IsBrokenRun (standing_of g.S.Store s).cannot_stand
     ((standing_of g.S.Store s).content.tables.row c.args.panel.now) c.args.panel.now c.args.from c.args.upto) (result_err c.tell.result)) c.self.view_is
-    (judged_left g.S.Store c.self.inside.session (record {
-      connection = c.commands_run-asked.new.connection;
-      failures =
-          c.self.inside.session.failures;
-      is_shut = c.self.inside.session.is_shut;
-    })
-    c.tell.new.self c.commands_run-asked.result c.tell.result refl refl c.if-self.false c.self.invariant
-    (λ h db. g.met.S.Store.settled h.store db)
-    c.commands_run-asked.ensures.mode c.commands_run-asked.ensures.asks (λ clean ours is. let row = c.commands_run-asked.ensures.bad clean ours is in
-    unsound (kept_in (state g.S.Store c.self.inside.session.connection).now.trees) (RowOf c.args.panel.now row.0) row.2.1)
-    c.commands_run-asked.ensures.survives c.tell.ensures.mode c.tell.ensures.survives c.tell.ensures.told
-    (λ kept. IsBrokenRun (cannot_stand_in kept) ((tables_in kept).row c.args.panel.now) c.args.panel.now c.args.from c.args.upto)
-    c.commands_run-asked.ensures.bad c.commands_run-asked.ensures.stood clean)
+    (judges_left (reported_left g.S.Store c.self.inside.session c.commands_run-asked.new.connection c.tell.new.self c.commands_run-asked.result c.tell.result
+    (λ kept broken. unsound kept (RowOf c.args.panel.now broken.0) broken.2.1) c.if-self.false c.self.invariant (λ h db. g.met.S.Store.settled h.store db)
+    c.commands_run-asked.ensures.answers c.tell.ensures.mode c.tell.ensures.survives c.tell.ensures.reported) clean (λ it holds. holds.1))

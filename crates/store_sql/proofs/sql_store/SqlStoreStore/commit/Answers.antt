@@ -18,7 +18,7 @@ returns-in-Err g c = record {
       })
       c.refuse.new.self c.refuse.result refl refl c.if-self.false c.self.invariant (λ h db. g.met.S.Store.settled h.store db)
       c.commit_change.ensures.mode c.in-Err.ensures.undone c.commit_change.ensures.survives c.refuse.ensures.mode
-      c.refuse.ensures.survives c.refuse.ensures.told).1;
+      c.refuse.ensures.survives c.refuse.ensures.reported).1;
 }
 
 pub returns-in-Ok : goal.returns-in-Ok

@@ -1,58 +1,29 @@
-use Rattle.std.proofs.Common.{IsTrue, refl, subst}
 use Rattle.std.specs.Result.{result_err}
 use Rattle.store.specs.Standing.{Reads}
 use Rattle.store_sql.specs.Standing.{standing_of}
-use Rattle.store_sql.proofs.StandLemmas.{flagged_left, read_left}
+use Rattle.store_sql_rows.proofs.UnsoundLemmas.{unsound}
+use Rattle.std.proofs.Common.{IsTrue, subst, sym, true≢false, ◌∙◌}
 use Rattle.store.specs.Asked.Asked.{ShownBy}
-use Rattle.sql_rows.proofs.UnsoundLemmas.{unsound}
-use Rattle.sql_rows.specs.Broken.{cannot_stand_in}
 use Rattle.store.specs.Asked.{Judges}
-use Rattle.sql_rows.specs.Ours.{kept_in}
-use Rattle.sqlite.specs.Held.{state}
+use Rattle.store_sql.proofs.StandLemmas.{judges_left, reported_left}
 use Rattle.store_sql.proofs.sql_store.SqlStoreStore.shown.Goals as goal
 
 pub invariant_of-self : goal.invariant_of-self
 invariant_of-self g c =
-    (read_left g.S.Store c.self.inside.session (record {
-      connection = c.shown_by-asked.new.connection;
-      failures =
-          c.self.inside.session.failures;
-      is_shut = c.self.inside.session.is_shut;
-    })
-    c.tell.new.self c.shown_by-asked.result c.tell.result refl refl c.if-self.false c.self.invariant
-    (λ h db. g.met.S.Store.settled h.store db)
-    c.shown_by-asked.ensures.mode c.shown_by-asked.ensures.asks (λ clean ours is.
-    unsound (kept_in (state g.S.Store c.self.inside.session.connection).now.trees) (ShownBy c.args.schedule.now) (c.shown_by-asked.ensures.bad clean ours is)) c.shown_by-asked.ensures.survives
-    c.tell.ensures.mode c.tell.ensures.survives c.tell.ensures.told).0
+    (reported_left g.S.Store c.self.inside.session c.shown_by-asked.new.connection c.tell.new.self c.shown_by-asked.result c.tell.result
+    (λ kept. unsound kept (ShownBy c.args.schedule.now)) c.if-self.false c.self.invariant (λ h db. g.met.S.Store.settled h.store db)
+    c.shown_by-asked.ensures.answers c.tell.ensures.mode c.tell.ensures.survives c.tell.ensures.reported).fit
 
 pub returns-clause-reads : goal.returns-clause-reads
 returns-clause-reads g c =
     subst (λ s. Reads (result_err c.tell.result) (standing_of g.S.Store s) (standing_of g.S.Store c.tell.new.self)) c.self.view_is
-    (read_left g.S.Store c.self.inside.session (record {
-      connection = c.shown_by-asked.new.connection;
-      failures =
-          c.self.inside.session.failures;
-      is_shut = c.self.inside.session.is_shut;
-    })
-    c.tell.new.self c.shown_by-asked.result c.tell.result refl refl c.if-self.false c.self.invariant
-    (λ h db. g.met.S.Store.settled h.store db)
-    c.shown_by-asked.ensures.mode c.shown_by-asked.ensures.asks (λ clean ours is.
-    unsound (kept_in (state g.S.Store c.self.inside.session.connection).now.trees) (ShownBy c.args.schedule.now) (c.shown_by-asked.ensures.bad clean ours is)) c.shown_by-asked.ensures.survives
-    c.tell.ensures.mode c.tell.ensures.survives c.tell.ensures.told).1
+    (reported_left g.S.Store c.self.inside.session c.shown_by-asked.new.connection c.tell.new.self c.shown_by-asked.result c.tell.result
+    (λ kept. unsound kept (ShownBy c.args.schedule.now)) c.if-self.false c.self.invariant (λ h db. g.met.S.Store.settled h.store db)
+    c.shown_by-asked.ensures.answers c.tell.ensures.mode c.tell.ensures.survives c.tell.ensures.reported).reads
 
 pub returns-clause-judges : goal.returns-clause-judges
 returns-clause-judges g c clean =
     subst (λ s. Judges (IsTrue ((standing_of g.S.Store s).cannot_stand (ShownBy c.args.schedule.now))) (result_err c.tell.result)) c.self.view_is
-    (flagged_left g.S.Store c.self.inside.session (record {
-      connection = c.shown_by-asked.new.connection;
-      failures =
-          c.self.inside.session.failures;
-      is_shut = c.self.inside.session.is_shut;
-    })
-    c.tell.new.self c.shown_by-asked.result c.tell.result refl refl c.if-self.false c.self.invariant
-    (λ h db. g.met.S.Store.settled h.store db)
-    c.shown_by-asked.ensures.mode c.shown_by-asked.ensures.asks (λ clean ours is.
-    unsound (kept_in (state g.S.Store c.self.inside.session.connection).now.trees) (ShownBy c.args.schedule.now) (c.shown_by-asked.ensures.bad clean ours is)) c.shown_by-asked.ensures.survives
-    c.tell.ensures.mode c.tell.ensures.survives c.tell.ensures.told
-    (λ kept. cannot_stand_in kept (ShownBy c.args.schedule.now))
-    c.shown_by-asked.ensures.bad c.shown_by-asked.ensures.stood clean)
+    (judges_left (reported_left g.S.Store c.self.inside.session c.shown_by-asked.new.connection c.tell.new.self c.shown_by-asked.result c.tell.result
+    (λ kept. unsound kept (ShownBy c.args.schedule.now)) c.if-self.false c.self.invariant (λ h db. g.met.S.Store.settled h.store db)
+    c.shown_by-asked.ensures.answers c.tell.ensures.mode c.tell.ensures.survives c.tell.ensures.reported) clean (λ it holds broken. true≢false (sym broken ∙ holds.1)))

@@ -1,0 +1,100 @@
+//! Why a check stopped.
+ghost use Rattle.std.specs.Prelude.{◌≡◌};
+
+use building::FileFault;
+use cli_common::{RunFault, Status, print_fault};
+use std::alloc::{AllocError, Global};
+use std::fmt;
+use std::io::Write;
+use store::{OpenFault, StoreFault};
+
+/// Why a check stopped.
+#[derive(Drop)]
+pub(crate) enum CheckFault<'a> {
+    /// As any run stops.
+    Run(RunFault<'a>),
+    /// The building file is at fault, and the fault is explained.
+    Explained {
+        fault: FileFault,
+        /// The line after the fault's, without its line end.
+        explanation: String,
+    },
+    /// There is no database at this path.
+    NoDatabase {
+        path: &'a str,
+    },
+}
+
+impl<'a> CheckFault<'a> {
+    /// What ends a check whose store is not opened.
+    pub fn of_opening(fault: OpenFault) -> CheckFault<'a> {
+        CheckFault::Run(match fault {
+            OpenFault::NoMemory => RunFault::NoMemory,
+            OpenFault::Failed => RunFault::Store(StoreFault::Failed),
+            OpenFault::UnknownTables => RunFault::UnknownTables,
+            OpenFault::BadRow => RunFault::Store(StoreFault::BadRow),
+        })
+    }
+
+    /// What the program ends with.
+    pub fn status(&self) -> Status
+        ensures { (result ≡ Status.Done) → ⊥ }
+    {
+        match self {
+            CheckFault::Run(fault) => fault.status(),
+            CheckFault::Explained { .. } | CheckFault::NoDatabase { .. } => Status::Fault,
+        }
+    }
+
+    /// Tells the fault as one line, and its explanation as another.
+    pub fn tell<F: Write>(&self, alloc: Global, out: &mut F) {
+        match self {
+            CheckFault::Run(fault) => fault.tell(alloc, out),
+            CheckFault::Explained { fault, explanation } => {
+                tell_explained(alloc, *fault, explanation.as_str(), out);
+            }
+            CheckFault::NoDatabase { path } => print_fault(alloc, &NoDatabase { path }, out),
+        }
+    }
+}
+
+/// Tells a fault and its explanation: in one write, or where memory is refused for that, the fault's line alone.
+fn tell_explained<F: Write>(alloc: Global, fault: FileFault, explanation: &str, out: &mut F) {
+    match explained_lines(alloc, fault, explanation) {
+        Ok(lines) => {
+            let _printed = out.write_all(lines.as_bytes());
+        }
+        Err(_) => RunFault::Building(fault).tell(alloc, out),
+    }
+}
+
+fn explained_lines(
+    alloc: Global,
+    fault: FileFault,
+    explanation: &str,
+) -> Result<String, AllocError> {
+    let fault = RunFault::Building(fault);
+    format!(in alloc; "{fault}\n{explanation}\n")
+}
+
+/// That there is no database at a path.
+#[derive(Clone, Copy)]
+struct NoDatabase<'a> {
+    path: &'a str,
+}
+
+impl fmt::Display for NoDatabase<'_> {
+    fn fmt<W: fmt::Write>(&self, f: &mut fmt::Formatter<W>) -> fmt::Result {
+        write!(f, "desk: no database at {}", self.path)
+    }
+}
+
+impl<'a> From<RunFault<'a>> for CheckFault<'a> {
+    ghost use Rattle.cli_check.specs.declared.check_fault.CheckFault.{CheckFault};
+
+    ghost from_gives = { λ fault given. given ≡ CheckFault.Run fault };
+
+    fn from(fault: RunFault<'a>) -> Self {
+        CheckFault::Run(fault)
+    }
+}

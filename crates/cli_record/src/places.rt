@@ -1,0 +1,83 @@
+//! The values in the places of points.
+ghost use Rattle.std.specs.Prelude.{◌≡◌, ◌++◌, IfOk, None, OnOk};
+ghost use Rattle.std.specs.List.{flat_map};
+ghost use Rattle.store.specs.Standing.{IsOpen, Reads};
+ghost use Rattle.cli_record.specs.Compared.{held_fault};
+ghost use Rattle.cli_record.specs.Differences.{of_point};
+
+use crate::adding::add_unless;
+use crate::comparing::CompareFault;
+use crate::difference::Difference;
+use crate::same_row::is_same_value;
+use points::{LOWEST_PRIORITY, Name, Point, PriorityArray};
+use store::Store;
+
+/// The priority arrays of a point.
+fn arrays<S: Store, T: Store>(
+    store: &mut S,
+    other: &mut T,
+    point: &Name,
+) -> Result<(PriorityArray, PriorityArray), CompareFault>
+    requires open { IsOpen (S.standing store.old) }
+    ensures reads { Reads (held_fault result) (S.standing store.old) (S.standing store.new) }
+    ensures reads_other { OnOk result (Reads None (T.standing other.old) (T.standing other.new)) }
+    ensures value { (S.standing store.new).is_honest → (T.standing other.new).is_honest → IfOk result (λ both.
+        (both.0 ≡ (S.standing store.old).content.tables.places point.now)
+        × (both.1 ≡ (T.standing other.old).content.tables.places point.now)) }
+{
+    let held = store.array(point)?;
+    match other.array(point) {
+        Ok(recorded) => Ok((held, recorded)),
+        Err(fault) => Err(CompareFault::Recorded(fault)),
+    }
+}
+
+/// Adds where the places of a point differ, from 1 to 16.
+fn compare_point<S: Store, T: Store>(
+    found: &mut Vec<Difference>,
+    store: &mut S,
+    other: &mut T,
+    point: &Point,
+) -> Result<(), CompareFault>
+    requires open { IsOpen (S.standing store.old) }
+    ensures reads { Reads (held_fault result) (S.standing store.old) (S.standing store.new) }
+    ensures reads_other { OnOk result (Reads None (T.standing other.old) (T.standing other.new)) }
+    ensures found { (S.standing store.new).is_honest → (T.standing other.new).is_honest → OnOk result (found.new.items
+        ≡ found.old.items
+        ++ of_point (S.standing store.old).content.tables (T.standing other.old).content.tables point.now) }
+{
+    let (held, recorded) = arrays(store, other, &point.name)?;
+    for priority in 1..LOWEST_PRIORITY + 1 {
+        let value = held.value_at(priority);
+        let other_value = recorded.value_at(priority);
+        let difference = Difference::Place {
+            point: point.name,
+            priority,
+            held: value,
+            recorded: other_value,
+        };
+        add_unless(found, is_same_value(value, other_value), difference)?;
+    }
+    Ok(())
+}
+
+/// Adds where points differ, one after the other.
+pub fn compare_points<S: Store, T: Store>(
+    found: &mut Vec<Difference>,
+    store: &mut S,
+    other: &mut T,
+    points: &[Point],
+) -> Result<(), CompareFault>
+    requires open { IsOpen (S.standing store.old) }
+    requires open_other { IsOpen (T.standing other.old) }
+    ensures reads { Reads (held_fault result) (S.standing store.old) (S.standing store.new) }
+    ensures reads_other { OnOk result (Reads None (T.standing other.old) (T.standing other.new)) }
+    ensures found { (S.standing store.new).is_honest → (T.standing other.new).is_honest → OnOk result (found.new.items
+        ≡ found.old.items
+        ++ flat_map (of_point (S.standing store.old).content.tables (T.standing other.old).content.tables) points.now) }
+{
+    for point in points {
+        compare_point(found, store, other, point)?;
+    }
+    Ok(())
+}

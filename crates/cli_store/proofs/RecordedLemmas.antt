@@ -1,0 +1,60 @@
+-- What is recorded, and what follows from it.
+use Rattle.std.proofs.Common.{◌≡◌, ◌∙◌, ℕ, List, [], ◌∷◌, ◌++◌, Option, None, Ok, ap, sym, subst}
+use Rattle.std.specs.Io.KnownBytes.{Appends}
+use Rattle.building.specs.Building.{Building}
+use Rattle.deliveries.specs.declared.delivery.Delivery.{Delivery}
+use Rattle.deliveries.specs.declared.reply.Reply.{Reply}
+use Rattle.deliveries.specs.Delivered.{Delivers, Holds}
+use Rattle.deliveries.specs.Tables.{tables}
+use Rattle.delivery_json.specs.ReplyText.{reply_line}
+use Rattle.desk.specs.Opening.{Opens}
+use Rattle.desk_record.specs.Lines.{IsWhole}
+use Rattle.desk_record.specs.Recorded.{Follows, InStep, IsBehind, listed}
+use Rattle.desk_record.specs.Recording.{HasWritten}
+use Rattle.desk_record.specs.RecordStanding.{RecordStanding}
+use Rattle.desk_record.proofs.InStepLemmas.{listed-written}
+use Rattle.sqlite_disk.specs.Disk.{Only}
+use Rattle.store.specs.Standing.{Content, Goes, Standing, sound}
+use Rattle.store.proofs.ReadLemmas.{was_open}
+use Rattle.cli_store.specs.Answered.{Answers}
+use Rattle.cli_store.specs.Recorded.{Adds, Records}
+
+-- a store over which a desk was opened is behind a list as before
+pub behind-opened : (b building : Building) (list : List Delivery) (old new : Standing) → Opens building None old new → new.is_honest
+    → IsBehind b list old → IsBehind b list new
+behind-opened b building list old new opened honest behind =
+    let was = was_open None old new opened.goes (λ e. cc) in
+    let held : Follows b list old.content = behind.holds was in
+    record {
+      holds = λ going. subst (λ (it : Content). Follows b list it) (sym (opened.kept honest (λ e. cc))) held;
+      leaves = λ content left. subst (λ (it : Content). Follows b list it) (sym (opened.left honest was content left)) held;
+    }
+
+-- a delivery that was written down and answered
+pub adds : (b : Building) (d : Delivery) (first last : RecordStanding) (before now : Standing) (reply : Reply) (old new : Option (List ℕ))
+    → InStep b first before → InStep b last now → HasWritten b d first last → Goes None before now
+    → ((earlier : List Delivery) → Holds b earlier before → Delivers b earlier d (Ok reply) now)
+    → Appends old new (reply_line reply) → Adds b d first last now old new
+adds b d first last before now reply old new step after (line, is, put) goes delivers printed =
+    let was = step.level put.was_open in
+    let answered = delivers (listed b first.bytes) (was.holds (was_open None before now goes (λ e. cc))) in
+    record {
+      lists = listed-written b d first last before step (line, is, put);
+      is_open = put.is_open;
+      level = after.level put.is_open;
+      answers = record { printed = subst (λ it. Appends old new (reply_line it)) answered.0 printed; holds = answered.1 };
+    }
+
+-- on the disk of a record that answered these deliveries
+pub records : (b : Building) (earlier : List Delivery) (d : Delivery) (first last : RecordStanding) (left : Standing) (file : List ℕ)
+    (may_leave : List ℕ → Type 0) (old new : Option (List ℕ)) → listed b first.bytes ≡ earlier → last.bytes ≡ file → Only file may_leave
+    → Adds b d first last left old new → Records b earlier d left file may_leave old new
+records b earlier d first last left file may_leave old new is same only adds =
+    let lists = adds.lists ∙ ap (λ list. list ++ d ∷ []) is in
+    record {
+      answers = subst (λ list. Answers b list d left old new) is adds.answers;
+      leaves = λ content held. adds.level.leaves content held ∙ ap (λ list. sound (tables b list)) lists;
+      lists = ap (listed b) (sym same) ∙ lists;
+      whole = subst IsWhole same adds.level.whole;
+      on_disk = only;
+    }

@@ -1,0 +1,28 @@
+//! What do `desk tick`, `desk import`, `desk report` and `desk serve` print, and what do they leave?
+//!
+//! Each reads the building of a file and opens a store. `tick` and `import` deliver one delivery to a desk over it, and
+//! print the reply as a line; `report` prints the report of a day. `serve` listens on an address and holds many
+//! connections at once, in one thread: the request of each is answered (`panel_http`) as soon as it is whole, and no
+//! client holds the others up. A connection is let go 5 seconds after it was taken. Each hands back the store that it
+//! opened, as it stands then, also where a fault ended it; `finish` closes it, and gives the status of the whole run.
+//! `tick` and `import` hand back the disk of their record too, if they keep one and were answered.
+#![tactic(auto)]
+
+pub use clock_run::{import, tick};
+pub use ended::{Delivered, Ended, finish};
+pub use keeper::Recording;
+pub use report_run::report;
+pub use server_run::{Serving, serve};
+
+mod answering;
+mod clock_run;
+mod connection;
+mod connections;
+mod ended;
+mod held;
+mod keeper;
+mod last_response;
+mod machine_clock;
+mod report_run;
+mod server_run;
+mod timed_stream;

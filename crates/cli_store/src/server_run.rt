@@ -1,0 +1,155 @@
+//! A run of the server, from the file of the building on.
+
+ghost use Rattle.std.specs.Prelude.{◌≡◌, IfOk, IsSome, OnOk, string_bytes};
+ghost use Rattle.std.specs.Io.KnownBytes.{Appends, Keeps};
+ghost use Rattle.cli_store.specs.Listening.{listening_line};
+
+use crate::answering::open_desk;
+use crate::connections::{Connections, EVENTS};
+use crate::ended::{Ended, Stopped};
+use crate::keeper::{Keeper, Recording, take_up};
+use cli_common::{Input, RunFault, Status, print_whole, read_building};
+use desk::Desk;
+use desk_record::Recorder;
+use mio::Events;
+use panel_http::Routes;
+use sqlite_disk::Disk;
+use std::alloc::{AllocError, Global};
+use std::io::{self, ErrorKind, Read, Write};
+use std::net::TcpListener;
+use store::{OpenFault, Store};
+
+/// What a server is asked to do.
+#[derive(Clone, Copy)]
+pub struct Serving<'a> {
+    /// The address to listen on, `HOST:PORT`, as it was given.
+    pub address: &'a str,
+    /// After how many connections it ends.
+    pub requests: u64,
+    /// Whether a tick of the machine's clock comes before each request.
+    pub clock: bool,
+}
+
+/// Serves the desk of the building of a file over the store that is opened: `desk serve`. The store is opened after the
+/// building is read, and the record, if one is kept, after the store; then the address is listened on, which is printed
+/// as a line, and then connections are taken. A record that can't be written any more ends the run.
+///
+/// A fault is printed to `fault` as one line. What the store answered stands, and it is handed back.
+pub fn serve<'a, B: Read + Drop, S: Store + Drop, D: Disk + Drop, O, Q, W: Write, F: Write>(
+    rt: &HostRuntime,
+    file: Input<'a, B>,
+    opener: O,
+    recording: Recording<'a, Q>,
+    serving: &Serving<'a>,
+    out: &mut W,
+    fault: &mut F,
+) -> Ended<S>
+where
+    O: FnOnce() -> Result<S, OpenFault>,
+    Q: FnOnce() -> Result<D, OpenFault>,
+    Q: Drop,
+    requires opens { O.IsAlwaysCallable opener }
+    requires records { Q.IsAlwaysCallable recording.opener }
+    ensures held { result.status ≡ Status.Done → IsSome result.store }
+    ensures listening { result.status ≡ Status.Done → Appends (W.contents out.old) (W.contents out.new) (listening_line serving.now.address.now) }
+    ensures quiet { result.status ≡ Status.Done → Keeps (F.contents fault.old) (F.contents fault.new) }
+{
+    match serve_over(rt, file, opener, recording, serving, out) {
+        Ok(ended) => ended,
+        Err(end) => end.tell(rt.alloc(), fault),
+    }
+}
+
+fn serve_over<'a, B: Read + Drop, S: Store + Drop, D: Disk + Drop, O, Q, W: Write>(
+    rt: &HostRuntime,
+    file: Input<'a, B>,
+    opener: O,
+    recording: Recording<'a, Q>,
+    serving: &Serving<'a>,
+    out: &mut W,
+) -> Result<Ended<S>, Stopped<'a, S>>
+where
+    O: FnOnce() -> Result<S, OpenFault>,
+    Q: FnOnce() -> Result<D, OpenFault>,
+    Q: Drop,
+    requires opens { O.IsAlwaysCallable opener }
+    requires records { Q.IsAlwaysCallable recording.opener }
+    ensures held { IfOk result (λ ended. IsSome ended.store) }
+    ensures listening { OnOk result (Appends (W.contents out.old) (W.contents out.new) (listening_line serving.now.address.now)) }
+{
+    let alloc = rt.alloc();
+    let building = read_building(alloc, file)?;
+    let mut desk = open_desk(alloc, building, opener)?;
+    let answered = keep_and_listen(rt, &mut desk, recording, serving, out);
+    let store = Some(desk.into_store());
+    match answered {
+        Ok(status) => Ok(Ended { status, store }),
+        Err(fault) => Err(Stopped { fault, store }),
+    }
+}
+
+/// Listens on the address, once the desk is level with its record.
+fn keep_and_listen<'a, S: Store + Drop, D: Disk + Drop, Q, W: Write>(
+    rt: &HostRuntime,
+    desk: &mut Desk<S>,
+    recording: Recording<'a, Q>,
+    serving: &Serving<'a>,
+    out: &mut W,
+) -> Result<Status, RunFault<'a>>
+where
+    Q: FnOnce() -> Result<D, OpenFault>,
+    Q: Drop,
+    requires { Q.IsAlwaysCallable recording.opener }
+    ensures { OnOk result (Appends (W.contents out.old) (W.contents out.new) (listening_line serving.now.address.now)) }
+{
+    let path = recording.path.unwrap_or("");
+    let mut keeper = take_up(rt.alloc(), desk, recording)?;
+    let status = listen(rt, desk, &mut keeper, serving, out)?;
+    if keeper.has_failed() {
+        Err(RunFault::CannotWrite { path })
+    } else {
+        Ok(status)
+    }
+}
+
+/// Listens on the address, prints it as a line, and takes connections.
+fn listen<'a, S: Store + Drop, R: Recorder, W: Write>(
+    rt: &HostRuntime,
+    desk: &mut Desk<S>,
+    keeper: &mut Keeper<R>,
+    serving: &Serving<'a>,
+    out: &mut W,
+) -> Result<Status, RunFault<'a>>
+    ensures { OnOk result (Appends (W.contents out.old) (W.contents out.new) (listening_line serving.now.address.now)) }
+{
+    let routes = Routes::new(rt.alloc())?;
+    let mut events = Events::with_capacity(rt.alloc(), EVENTS)?;
+    let mut connections = bound(rt, serving)?;
+    let line = listening_line(rt.alloc(), serving.address)?;
+    print_whole(out, line.as_str())?;
+    Ok(connections.serve(rt, &routes, desk, keeper, &mut events))
+}
+
+/// The connections to the address.
+fn bound<'a>(rt: &HostRuntime, serving: &Serving<'a>) -> Result<Connections, RunFault<'a>> {
+    let address = serving.address;
+    match bind(rt, serving) {
+        Ok(connections) => Ok(connections),
+        Err(error) => match error.kind() {
+            ErrorKind::OutOfMemory => Err(RunFault::NoMemory),
+            _ => Err(RunFault::CannotListen { address }),
+        },
+    }
+}
+
+fn bind(rt: &HostRuntime, serving: &Serving<'_>) -> io::Result<Connections> {
+    let listener = TcpListener::bind(rt, serving.address)?;
+    Connections::new(rt, listener, serving.requests, serving.clock)
+}
+
+/// The line of an address that is listened on.
+fn listening_line(alloc: Global, address: &str) -> Result<String, AllocError>
+    ensures { IfOk result (λ line. string_bytes line ≡ listening_line address.now) }
+{
+    format!(in alloc; "listening {address}\n")
+}

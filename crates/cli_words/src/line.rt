@@ -1,0 +1,739 @@
+//! What the words of a command line ask.
+
+ghost use Rattle.std.specs.Prelude.{◌≡◌, [], IfErr, IfOk, IfSome, Some, codes, false, map, option_and_then};
+ghost use Rattle.std.specs.Prelude.{option_map, string_bytes, unwrap_or};
+ghost use Rattle.std.specs.Str.{bytes_eq};
+ghost use Rattle.clap.specs.Words.{App, HasKind, Kinds, fault_of, first_of, found_of};
+ghost use Rattle.clap.specs.Words.{rows_of, rule_of, subcommand_rows_of, with_rule, with_subcommand};
+ghost use Rattle.cli_words.specs.ArgFault.{IsRefusedBy};
+ghost use Rattle.cli_words.specs.Line.{Makes, adopt_app, adopt_in, asked, asked_in, line_value, check_app, check_in};
+ghost use Rattle.cli_words.specs.Line.{count_in, count_of, database_app, deliveries_app};
+ghost use Rattle.cli_words.specs.Line.{describe_app, describe_in, flag_rule};
+ghost use Rattle.cli_words.specs.Line.{desk_app, file_app, import_app, import_in, is_set, looked_over_rule, moment_in};
+ghost use Rattle.cli_words.specs.Line.{needed_rule, record_rule, rename_rule, replay_app, replay_in, report_app, report_in};
+ghost use Rattle.cli_words.specs.Line.{requests_rule, serve_app, serve_in, straighten_app};
+ghost use Rattle.cli_words.specs.Line.{straighten_in, tick_app, tick_in, until_rule, values_in, why_app, why_in};
+
+use crate::ArgFault;
+use clap::error::ErrorKind;
+use clap::{Arg, ArgAction, ArgMatches, Command};
+use std::alloc::{AllocError, Global};
+
+/// What the words of a command line ask of the program.
+#[derive(Drop)]
+pub enum Line<'a> {
+    /// `check FILE [DB] [--explain] [--record PATH]`: reads the building of the file, and prints what it has, or what
+    /// of the tables in a database does not suit it, or whether they are those of a record.
+    Check {
+        /// The path of the building file.
+        file: &'a str,
+        /// The path of the database, if it is to be looked over.
+        database: Option<&'a str>,
+        /// Whether a fault of the file is explained.
+        explain: bool,
+        /// The path of the record, if the tables are to be compared with it.
+        record: Option<&'a str>,
+    },
+    /// `adopt FILE DB NEW [--rename OLD=NEW].. [--dry-run]`: makes a database that suits the building of the file, from
+    /// the tables of another one.
+    Adopt {
+        /// The path of the building file.
+        file: &'a str,
+        /// The path of the database, which is only read.
+        database: &'a str,
+        /// The path of the one that is made.
+        made: &'a str,
+        /// The renamings, as they were given.
+        renamings: Vec<&'a str>,
+        /// Whether nothing is made.
+        dry_run: bool,
+    },
+    /// `describe FILE`: prints the building of the file as one JSON object.
+    Describe {
+        /// The path of the building file.
+        file: &'a str,
+    },
+    /// `replay FILE DELIVERIES [--until AT]`: runs the deliveries over the building of the file, in memory.
+    Replay {
+        /// The path of the building file.
+        file: &'a str,
+        /// The path of the list of deliveries.
+        deliveries: &'a str,
+        /// Before the first tick that is later than this the list ends, in hundredths of a second since 1970.
+        until: Option<i64>,
+    },
+    /// `why FILE DELIVERIES POINT [--until AT]`: prints what the deliveries leave in the places of a point, and what
+    /// put it there.
+    Why {
+        /// The path of the building file.
+        file: &'a str,
+        /// The path of the list of deliveries.
+        deliveries: &'a str,
+        /// The name of the point.
+        point: &'a str,
+        /// As that of `replay`.
+        until: Option<i64>,
+    },
+    /// `straighten FILE DELIVERIES`: prints the straight list of the deliveries over the building of the file.
+    Straighten {
+        /// The path of the building file.
+        file: &'a str,
+        /// The path of the list of deliveries.
+        deliveries: &'a str,
+    },
+    /// `import FILE DB CSV [--record PATH]`: delivers the import of a holiday list to the desk of a database.
+    Import {
+        /// The path of the building file.
+        file: &'a str,
+        /// The path of the database.
+        database: &'a str,
+        /// The path of the holiday list.
+        holidays: &'a str,
+        /// The path of the record, if one is kept.
+        record: Option<&'a str>,
+    },
+    /// `tick FILE DB AT [--record PATH]`: delivers a tick to the desk of a database.
+    Tick {
+        /// The path of the building file.
+        file: &'a str,
+        /// The path of the database.
+        database: &'a str,
+        /// The moment, in hundredths of a second since 1970.
+        at: i64,
+        /// The path of the record, if one is kept.
+        record: Option<&'a str>,
+    },
+    /// `report FILE DB DATE`: prints a day of the desk of a database.
+    Report {
+        /// The path of the building file.
+        file: &'a str,
+        /// The path of the database.
+        database: &'a str,
+        /// The day, as `YYYY-MM-DD`.
+        date: &'a str,
+    },
+    /// `serve FILE DB ADDRESS --requests N [--clock] [--record PATH]`: answers requests to the desk of a database.
+    Serve {
+        /// The path of the building file.
+        file: &'a str,
+        /// The path of the database.
+        database: &'a str,
+        /// The address to listen on, an IP address or a host's name, and a port.
+        address: &'a str,
+        /// After how many connections it ends, from 1 to 1,000,000.
+        requests: u64,
+        /// Whether a tick of the machine's clock comes before each request.
+        clock: bool,
+        /// The path of the record, if one is kept.
+        record: Option<&'a str>,
+    },
+}
+
+impl<'a> Line<'a> {
+    /// Reads the program's words, its name first.
+    ///
+    /// A request for help is a fault too, whose text is the help.
+    pub fn of(alloc: Global, words: &'a [String]) -> Result<Line<'a>, ArgFault>
+        ensures takes { IfOk result (λ line. fault_of desk_app (map string_bytes words.entry.now) ≡ []) }
+        ensures asks { IfOk result (λ line.
+            asked (map string_bytes words.entry.now) ≡ Some (line_value line)) }
+        ensures refuses { IfErr result
+            (IsRefusedBy (fault_of desk_app (map string_bytes words.entry.now))) }
+    {
+        let desk = desk_command(alloc)?;
+        match desk.try_get_matches_from(words) {
+            Ok(matches) => line_in(alloc, &matches).ok_or(ArgFault::NoMemory),
+            Err(error) => Err(fault_in(error)),
+        }
+    }
+}
+
+/// The command `desk` with its subcommands.
+fn desk_command<'a>(alloc: Global) -> Result<Command<'a>, AllocError>
+    ensures { Makes desk_app result }
+{
+    let desk = Command::new(alloc, "desk")
+        .about("The operating desk of a building: BACnet schedules and command priorities")
+        .subcommand_required(true);
+    let desk = with_subcommand(Ok(desk), check_command(alloc));
+    let desk = with_subcommand(desk, describe_command(alloc));
+    let desk = with_subcommand(desk, replay_command(alloc));
+    let desk = with_subcommand(desk, why_command(alloc));
+    let desk = with_subcommand(desk, straighten_command(alloc));
+    let desk = with_subcommand(desk, import_command(alloc));
+    let desk = with_subcommand(desk, tick_command(alloc));
+    let desk = with_subcommand(desk, report_command(alloc));
+    let desk = with_subcommand(desk, serve_command(alloc));
+    with_subcommand(desk, adopt_command(alloc))
+}
+
+/// The subcommand `adopt FILE DB NEW [--rename OLD=NEW].. [--dry-run]`.
+fn adopt_command<'a>(alloc: Global) -> Result<Command<'a>, AllocError>
+    ensures { Makes adopt_app result }
+{
+    let about =
+        "Makes a database that suits a building, from the tables of another one, which stays as it is";
+    let database = needed(
+        alloc,
+        "database",
+        "DB",
+        "The database of the desk, which is only read",
+    );
+    let made = needed(alloc, "made", "NEW", "The database that is made");
+    let adopt = with_argument(file_command(alloc, "adopt", about), database);
+    with_argument(
+        with_argument(with_argument(adopt, made), rename_argument(alloc)),
+        flag(
+            alloc,
+            "dry-run",
+            "Prints what would be taken along, and makes nothing",
+        ),
+    )
+}
+
+/// The subcommand `check FILE [DB] [--explain] [--record PATH]`.
+fn check_command<'a>(alloc: Global) -> Result<Command<'a>, AllocError>
+    ensures { Makes check_app result }
+{
+    let about =
+        "Reads a building, and tells what it has or its first fault, or what of a database does not suit it";
+    let help = "After a fault of the building, prints which item it is, and what is expected there";
+    let check = with_argument(file_command(alloc, "check", about), looked_over(alloc));
+    let compared = "A record, whose tables those of the database are to be";
+    with_argument(
+        with_argument(check, flag(alloc, "explain", help)),
+        record_argument(alloc, compared),
+    )
+}
+
+/// The subcommand `describe FILE`.
+fn describe_command<'a>(alloc: Global) -> Result<Command<'a>, AllocError>
+    ensures { Makes describe_app result }
+{
+    file_command(alloc, "describe", "Prints a building as one JSON object")
+}
+
+/// The subcommand `replay FILE DELIVERIES [--until AT]`.
+fn replay_command<'a>(alloc: Global) -> Result<Command<'a>, AllocError>
+    ensures { Makes replay_app result }
+{
+    let about = "Runs deliveries in memory, and prints each reply and then each point";
+    with_argument(
+        deliveries_command(alloc, "replay", about),
+        until_argument(alloc),
+    )
+}
+
+/// The subcommand `why FILE DELIVERIES POINT [--until AT]`.
+fn why_command<'a>(alloc: Global) -> Result<Command<'a>, AllocError>
+    ensures { Makes why_app result }
+{
+    let about = "Prints what deliveries leave in the places of a point, and what put it there";
+    let point = needed(alloc, "point", "POINT", "The name of the point");
+    with_argument(
+        with_argument(deliveries_command(alloc, "why", about), point),
+        until_argument(alloc),
+    )
+}
+
+/// The subcommand `straighten FILE DELIVERIES`.
+fn straighten_command<'a>(alloc: Global) -> Result<Command<'a>, AllocError>
+    ensures { Makes straighten_app result }
+{
+    let about = "Prints the straight list of deliveries, one JSON object a line";
+    deliveries_command(alloc, "straighten", about)
+}
+
+/// The subcommand `import FILE DB CSV [--record PATH]`.
+fn import_command<'a>(alloc: Global) -> Result<Command<'a>, AllocError>
+    ensures { Makes import_app result }
+{
+    let about = "Adds a list of holidays to the calendars of a database, and prints the reply";
+    let help = "The holidays, as CSV with the header calendar,entry";
+    let holidays = needed(alloc, "holidays", "CSV", help);
+    with_argument(
+        database_command(alloc, "import", about, holidays),
+        record_argument(alloc, KEPT),
+    )
+}
+
+/// The subcommand `tick FILE DB AT [--record PATH]`.
+fn tick_command<'a>(alloc: Global) -> Result<Command<'a>, AllocError>
+    ensures { Makes tick_app result }
+{
+    let about = "Settles the schedules in a database at a moment, and prints the reply";
+    let help = "The moment, in hundredths of a second since 1970-01-01T00:00:00Z";
+    let at = needed(alloc, "at", "AT", help).value_parser(clap::value_parser!(i64));
+    with_argument(
+        database_command(alloc, "tick", about, at),
+        record_argument(alloc, KEPT),
+    )
+}
+
+/// The subcommand `report FILE DB DATE`.
+fn report_command<'a>(alloc: Global) -> Result<Command<'a>, AllocError>
+    ensures { Makes report_app result }
+{
+    let about = "Prints when each schedule has which value on a day, and how each point is now";
+    let help = "The day, as YYYY-MM-DD";
+    database_command(alloc, "report", about, needed(alloc, "date", "DATE", help))
+}
+
+/// The subcommand `serve FILE DB ADDRESS --requests N [--clock] [--record PATH]`.
+fn serve_command<'a>(alloc: Global) -> Result<Command<'a>, AllocError>
+    ensures { Makes serve_app result }
+{
+    let about = "Answers the requests of wall panels and of who asks, over HTTP";
+    let help = "The address to listen on, with its port, as 127.0.0.1:8080";
+    let address = needed(alloc, "address", "ADDRESS", help);
+    let clock = "Delivers a tick of the machine's clock before each request";
+    let serve = database_command(alloc, "serve", about, address);
+    let serve = with_argument(serve, requests_argument(alloc));
+    with_argument(
+        with_argument(serve, flag(alloc, "clock", clock)),
+        record_argument(alloc, KEPT),
+    )
+}
+
+/// A subcommand that takes FILE and DELIVERIES.
+fn deliveries_command<'a>(
+    alloc: Global,
+    name: &'a str,
+    about: &'a str,
+) -> Result<Command<'a>, AllocError>
+    ensures { Makes (deliveries_app name.now) result }
+{
+    let help = "The deliveries, one JSON object a line";
+    let deliveries = needed(alloc, "deliveries", "DELIVERIES", help);
+    with_argument(file_command(alloc, name, about), deliveries)
+}
+
+/// A subcommand that takes FILE, DB, which is made where there is none, and one argument more.
+fn database_command<'a>(
+    alloc: Global,
+    name: &'a str,
+    about: &'a str,
+    last: Arg<'a>,
+) -> Result<Command<'a>, AllocError>
+    requires { last.global ≡ false }
+    ensures { Makes (database_app name.now (rule_of last.entry)) result }
+{
+    let help = "The database of the desk, which is made where there is none";
+    let database = needed(alloc, "database", "DB", help);
+    with_argument(
+        with_argument(file_command(alloc, name, about), database),
+        last,
+    )
+}
+
+/// A subcommand that takes FILE.
+fn file_command<'a>(alloc: Global, name: &'a str, about: &'a str) -> Result<Command<'a>, AllocError>
+    ensures { Makes (file_app name.now) result }
+{
+    Command::new(alloc, name)
+        .about(about)
+        .arg(needed(alloc, "file", "FILE", "The building, as TOML"))
+}
+
+/// A command with one subcommand more, where memory was had for both.
+fn with_subcommand<'a>(
+    command: Result<Command<'a>, AllocError>,
+    subcommand: Result<Command<'a>, AllocError>,
+) -> Result<Command<'a>, AllocError>
+    ensures { (app sub : App) → Makes app command.entry → Makes sub subcommand.entry
+        → Makes (with_subcommand app sub.top) result }
+{
+    if let Ok(command) = command
+        && let Ok(subcommand) = subcommand
+    {
+        command.subcommand(subcommand)
+    } else {
+        Err(AllocError)
+    }
+}
+
+/// A command with one argument more, where memory was had for it.
+fn with_argument<'a>(
+    command: Result<Command<'a>, AllocError>,
+    argument: Arg<'a>,
+) -> Result<Command<'a>, AllocError>
+    requires { argument.global ≡ false }
+    ensures { (app : App) → Makes app command.entry → Makes (with_rule app (rule_of argument.entry)) result }
+{
+    match command {
+        Ok(command) => command.arg(argument),
+        Err(AllocError) => Err(AllocError),
+    }
+}
+
+/// An argument that has to be there, by its place among the words unless it gets a name.
+fn needed<'a>(alloc: Global, id: &'a str, value_name: &'a str, help: &'a str) -> Arg<'a>
+    ensures rule { rule_of result ≡ needed_rule id.now }
+    ensures local { result.global ≡ false }
+{
+    Arg::new(alloc, id)
+        .required(true)
+        .value_name(value_name)
+        .help(help)
+}
+
+/// The database that is looked over beside a building.
+fn looked_over<'a>(alloc: Global) -> Arg<'a>
+    ensures rule { rule_of result ≡ looked_over_rule }
+    ensures local { result.global ≡ false }
+{
+    Arg::new(alloc, "database")
+        .value_name("DB")
+        .help("The database of the desk, which is only read")
+}
+
+/// The number of connections.
+fn requests_argument<'a>(alloc: Global) -> Arg<'a>
+    ensures rule { rule_of result ≡ requests_rule }
+    ensures local { result.global ≡ false }
+{
+    let help = "After how many connections to end, from 1 to 1000000";
+    needed(alloc, "requests", "N", help)
+        .long("requests")
+        .value_parser(clap::value_parser!(u64).range(1..1_000_001))
+}
+
+/// Where a list of deliveries ends.
+fn until_argument<'a>(alloc: Global) -> Arg<'a>
+    ensures rule { rule_of result ≡ until_rule }
+    ensures local { result.global ≡ false }
+{
+    Arg::new(alloc, "until")
+        .long("until")
+        .value_name("AT")
+        .value_parser(clap::value_parser!(i64))
+        .help(
+            "Ends the list before its first tick later than this, in hundredths of a second since 1970",
+        )
+}
+
+/// What is said of a record that is kept.
+const KEPT: &str =
+    "Writes each delivery down at the end of this list, on the disk before it is made";
+
+/// The path of a record.
+fn record_argument<'a>(alloc: Global, help: &'a str) -> Arg<'a>
+    ensures rule { rule_of result ≡ record_rule }
+    ensures local { result.global ≡ false }
+{
+    Arg::new(alloc, "record")
+        .long("record")
+        .value_name("PATH")
+        .help(help)
+}
+
+/// A renaming, of which there may be many.
+fn rename_argument<'a>(alloc: Global) -> Arg<'a>
+    ensures rule { rule_of result ≡ rename_rule }
+    ensures local { result.global ≡ false }
+{
+    Arg::new(alloc, "rename")
+        .long("rename")
+        .action(ArgAction::Append)
+        .value_name("OLD=NEW")
+        .help("A name of the tables, and the one that the building has for it")
+}
+
+/// A flag.
+fn flag<'a>(alloc: Global, name: &'a str, help: &'a str) -> Arg<'a>
+    ensures rule { rule_of result ≡ flag_rule name.now }
+    ensures local { result.global ≡ false }
+{
+    Arg::new(alloc, name)
+        .long(name)
+        .action(ArgAction::SetTrue)
+        .help(help)
+}
+
+/// What the subcommand that was met asks, or `None` where a value is missing or memory was refused.
+fn line_in<'a>(alloc: Global, matches: &ArgMatches<'a>) -> Option<Line<'a>>
+    ensures { IfSome result (λ line. option_and_then asked_in (subcommand_rows_of matches.now) ≡ Some (line_value line)) }
+{
+    let (name, inner) = matches.subcommand()?;
+    match name {
+        "adopt" => adopt_line(alloc, inner),
+        _ => line_without_list(name, inner),
+    }
+}
+
+/// What a subcommand asks whose arguments have one value each, or `None` where a value is missing.
+fn line_without_list<'a>(name: &str, inner: &ArgMatches<'a>) -> Option<Line<'a>>
+    ensures { bytes_eq name.now (codes "adopt") ≡ false
+        → option_map line_value result ≡ asked_in (name.now, rows_of (found_of inner.now)) }
+{
+    match name {
+        "check" => check_line(inner),
+        "describe" => describe_line(inner),
+        "replay" => replay_line(inner),
+        "why" => why_line(inner),
+        "straighten" => straighten_line(inner),
+        "import" => import_line(inner),
+        "tick" => tick_line(inner),
+        "report" => report_line(inner),
+        "serve" => serve_line(inner),
+        _ => None,
+    }
+}
+
+/// What the arguments of `adopt` ask; nothing too where memory was refused.
+fn adopt_line<'a>(alloc: Global, matches: &ArgMatches<'a>) -> Option<Line<'a>>
+    ensures { IfSome result (λ line. adopt_in (rows_of (found_of matches.now)) ≡ Some (line_value line)) }
+{
+    if let Some(file) = text_at(matches, "file")
+        && let Some(database) = text_at(matches, "database")
+        && let Some(made) = text_at(matches, "made")
+    {
+        let renamings = texts_at(alloc, matches, "rename").ok()?;
+        let dry_run = is_set(matches, "dry-run");
+        Some(Line::Adopt {
+            file,
+            database,
+            made,
+            renamings,
+            dry_run,
+        })
+    } else {
+        None
+    }
+}
+
+/// The values of an argument.
+fn texts_at<'a>(
+    alloc: Global,
+    matches: &ArgMatches<'a>,
+    id: &str,
+) -> Result<Vec<&'a str>, AllocError>
+    ensures { IfOk result (λ texts. map (λ s. s.now) texts.items ≡ values_in id.now (rows_of (found_of matches.now))) }
+{
+    copied(alloc, matches.get_strs(id))
+}
+
+/// The texts of a slice, if there is one.
+fn copied<'a>(alloc: Global, values: Option<&[&'a str]>) -> Result<Vec<&'a str>, AllocError>
+    ensures { IfOk result (λ texts. map (λ s. s.now) texts.items
+        ≡ unwrap_or (option_map (λ them. map (λ s. s.now) them.now) values.entry) []) }
+{
+    let mut texts = Vec::new(alloc);
+    if let Some(values) = values {
+        texts.extend_from_slice(values)?;
+    }
+    Ok(texts)
+}
+
+/// What the arguments of `check` ask.
+fn check_line<'a>(matches: &ArgMatches<'a>) -> Option<Line<'a>>
+    ensures { option_map line_value result ≡ check_in (rows_of (found_of matches.now)) }
+{
+    let file = text_at(matches, "file")?;
+    let database = text_at(matches, "database");
+    let explain = is_set(matches, "explain");
+    let record = text_at(matches, "record");
+    Some(Line::Check {
+        file,
+        database,
+        explain,
+        record,
+    })
+}
+
+/// What the arguments of `describe` ask.
+fn describe_line<'a>(matches: &ArgMatches<'a>) -> Option<Line<'a>>
+    ensures { option_map line_value result ≡ describe_in (rows_of (found_of matches.now)) }
+{
+    let file = text_at(matches, "file")?;
+    Some(Line::Describe { file })
+}
+
+/// What the arguments of `replay` ask.
+fn replay_line<'a>(matches: &ArgMatches<'a>) -> Option<Line<'a>>
+    ensures { option_map line_value result ≡ replay_in (rows_of (found_of matches.now)) }
+{
+    if let Some(file) = text_at(matches, "file")
+        && let Some(deliveries) = text_at(matches, "deliveries")
+    {
+        let until = moment_at(matches, "until");
+        Some(Line::Replay {
+            file,
+            deliveries,
+            until,
+        })
+    } else {
+        None
+    }
+}
+
+/// What the arguments of `why` ask.
+fn why_line<'a>(matches: &ArgMatches<'a>) -> Option<Line<'a>>
+    ensures { option_map line_value result ≡ why_in (rows_of (found_of matches.now)) }
+{
+    if let Some(file) = text_at(matches, "file")
+        && let Some(deliveries) = text_at(matches, "deliveries")
+        && let Some(point) = text_at(matches, "point")
+    {
+        let until = moment_at(matches, "until");
+        Some(Line::Why {
+            file,
+            deliveries,
+            point,
+            until,
+        })
+    } else {
+        None
+    }
+}
+
+/// What the arguments of `straighten` ask.
+fn straighten_line<'a>(matches: &ArgMatches<'a>) -> Option<Line<'a>>
+    ensures { option_map line_value result ≡ straighten_in (rows_of (found_of matches.now)) }
+{
+    if let Some(file) = text_at(matches, "file")
+        && let Some(deliveries) = text_at(matches, "deliveries")
+    {
+        Some(Line::Straighten { file, deliveries })
+    } else {
+        None
+    }
+}
+
+/// What the arguments of `import` ask.
+fn import_line<'a>(matches: &ArgMatches<'a>) -> Option<Line<'a>>
+    ensures { option_map line_value result ≡ import_in (rows_of (found_of matches.now)) }
+{
+    if let Some(file) = text_at(matches, "file")
+        && let Some(database) = text_at(matches, "database")
+        && let Some(holidays) = text_at(matches, "holidays")
+    {
+        let record = text_at(matches, "record");
+        Some(Line::Import {
+            file,
+            database,
+            holidays,
+            record,
+        })
+    } else {
+        None
+    }
+}
+
+/// What the arguments of `tick` ask.
+fn tick_line<'a>(matches: &ArgMatches<'a>) -> Option<Line<'a>>
+    ensures { option_map line_value result ≡ tick_in (rows_of (found_of matches.now)) }
+{
+    if let Some(file) = text_at(matches, "file")
+        && let Some(database) = text_at(matches, "database")
+        && let Some(at) = moment_at(matches, "at")
+    {
+        let record = text_at(matches, "record");
+        Some(Line::Tick {
+            file,
+            database,
+            at,
+            record,
+        })
+    } else {
+        None
+    }
+}
+
+/// What the arguments of `report` ask.
+fn report_line<'a>(matches: &ArgMatches<'a>) -> Option<Line<'a>>
+    ensures { option_map line_value result ≡ report_in (rows_of (found_of matches.now)) }
+{
+    if let Some(file) = text_at(matches, "file")
+        && let Some(database) = text_at(matches, "database")
+        && let Some(date) = text_at(matches, "date")
+    {
+        Some(Line::Report {
+            file,
+            database,
+            date,
+        })
+    } else {
+        None
+    }
+}
+
+/// What the arguments of `serve` ask.
+fn serve_line<'a>(matches: &ArgMatches<'a>) -> Option<Line<'a>>
+    ensures { option_map line_value result ≡ serve_in (rows_of (found_of matches.now)) }
+{
+    if let Some(file) = text_at(matches, "file")
+        && let Some(database) = text_at(matches, "database")
+        && let Some(address) = text_at(matches, "address")
+        && let Some(requests) = count_at(matches, "requests")
+    {
+        let clock = is_set(matches, "clock");
+        let record = text_at(matches, "record");
+        Some(Line::Serve {
+            file,
+            database,
+            address,
+            requests,
+            clock,
+            record,
+        })
+    } else {
+        None
+    }
+}
+
+/// The value of an argument, as a count.
+fn count_at(matches: &ArgMatches<'_>, id: &str) -> Option<u64>
+    ensures { result ≡ option_and_then count_in (first_of id.now (rows_of (found_of matches.now))) }
+{
+    count_of(moment_in(text_at(matches, id)?)?)
+}
+
+/// The number that is not below 0.
+fn count_of(number: i64) -> Option<u64>
+    ensures { result ≡ count_of number }
+{
+    u64::try_from(number).ok()
+}
+
+/// Whether a flag was among the words.
+fn is_set(matches: &ArgMatches<'_>, id: &str) -> bool
+    ensures { result ≡ is_set (first_of id.now (rows_of (found_of matches.now))) }
+{
+    match text_at(matches, id) {
+        Some(text) => text == "true",
+        None => false,
+    }
+}
+
+/// The value of an argument, as a moment.
+fn moment_at(matches: &ArgMatches<'_>, id: &str) -> Option<i64>
+    ensures { result ≡ option_and_then moment_in (first_of id.now (rows_of (found_of matches.now))) }
+{
+    moment_in(text_at(matches, id)?)
+}
+
+/// The number that a text writes.
+#[tactic(auto, using(crate::proofs::MomentLemmas::moment_read))]
+fn moment_in(text: &str) -> Option<i64>
+    ensures { result ≡ moment_in text.now }
+{
+    text.parse::<i64>().ok()
+}
+
+/// The value of an argument.
+fn text_at<'a>(matches: &ArgMatches<'a>, id: &str) -> Option<&'a str>
+    ensures { option_map (λ s. s.now) result ≡ first_of id.now (rows_of (found_of matches.now)) }
+{
+    matches.get_str(id)
+}
+
+/// The fault of words that `clap` refuses.
+fn fault_in(error: clap::Error) -> ArgFault
+    ensures { (kinds : Kinds) → HasKind kinds error → IsRefusedBy kinds result }
+{
+    match error.kind() {
+        ErrorKind::OutOfMemory => ArgFault::NoMemory,
+        _ => ArgFault::Words(error),
+    }
+}

@@ -1,0 +1,4 @@
+mod GrammarLemmas
+mod LineEndLemmas
+mod ReadingLemmas
+mod UsualLemmas

@@ -1,0 +1,11 @@
+pub mod ClockLine
+pub mod CommandMembers
+pub mod DeliveryLine
+pub mod DeliveryText
+pub mod LineEnds
+pub mod LineFault
+pub mod Members
+pub mod PanelLine
+pub mod Readings
+pub mod ReplyText
+pub mod Scalars

@@ -1,0 +1,36 @@
+//! The command that a line of the usual form says, read in one pass.
+
+ghost use Rattle.std.specs.Prelude.{◌≡◌, IfSome, Some, option_and_then};
+ghost use Rattle.serde_json.specs.Data.{Members, object};
+ghost use Rattle.delivery_json.specs.CommandMembers.{IsReadAs};
+ghost use Rattle.delivery_json.specs.DeliveryLine.{delivery_in, json_of};
+
+use crate::command_members::CommandMembers;
+use crate::object_members::read_members;
+use deliveries::Delivery;
+use json::Scratch;
+use points::{Content, LOWEST_PRIORITY, text_of};
+
+/// The command that a line of the usual form says; nothing of any other, or where memory is refused.
+pub(crate) fn usual_command(scratch: &mut Scratch, line: &[u8]) -> Option<Delivery>
+    ensures { IfSome result (λ command. option_and_then delivery_in (json_of line.now) ≡ Some command) }
+{
+    let members = read_members(scratch, text_of(line)?)?;
+    command_of(&members)
+}
+
+/// The command that the members of an object say, where there are all that it needs.
+fn command_of(members: &CommandMembers) -> Option<Delivery>
+    ensures { IfSome result (λ command. (ms : Members) → IsReadAs members.now ms → delivery_in (object ms) ≡ Some command) }
+{
+    let content = Content {
+        point: members.point?,
+        priority: members.priority.unwrap_or(i64::from(LOWEST_PRIORITY)),
+        value: members.value?,
+    };
+    Some(Delivery::Command {
+        panel: members.panel?,
+        number: members.number?,
+        content,
+    })
+}

@@ -1,3 +1,0 @@
-mod GrammarLemmas
-mod ReadingLemmas
-mod UsualLemmas

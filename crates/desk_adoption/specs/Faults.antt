@@ -1,0 +1,27 @@
+-- The fault where nothing was taken along, and what that leaves.
+use Rattle.std.specs.Prelude.{◌≡◌, Option, Some, None, Result, Ok, Err}
+use Rattle.desk_adoption.specs.declared.adopting.AdoptFault.{AdoptFault}
+use Rattle.desk_adoption.specs.declared.adopting.AdoptFault.TheVariants.{Old, OutOfRange, New}
+use Rattle.store.specs.declared.change.Change.{Change}
+use Rattle.store.specs.declared.fault.StoreFault.{StoreFault}
+use Rattle.store.specs.Standing.{Commits, Standing}
+
+-- what the store that is read reported
+abbrev pub fault_read : AdoptFault → Option StoreFault
+fault_read (Old fault) = Some fault
+fault_read OutOfRange = None
+fault_read (New fault) = None
+
+abbrev pub read_fault : {A : Type 0} → Result A AdoptFault → Option StoreFault
+read_fault (Ok x) = None
+read_fault (Err fault) = fault_read fault
+
+-- one change was made, or was refused with this fault
+abbrev pub IsMade : Option StoreFault → Standing → Standing → Type 0
+IsMade fault old new = (change : Change) × Commits change fault old new
+
+-- where the earlier tables could not be taken along, no change was begun
+abbrev pub IsLeft : {T : Type 0} → (T → Standing) → AdoptFault → T → T → Type 0
+IsLeft standing (Old fault) old new = new ≡ old
+IsLeft standing OutOfRange old new = new ≡ old
+IsLeft standing (New fault) old new = IsMade (Some fault) (standing old) (standing new)

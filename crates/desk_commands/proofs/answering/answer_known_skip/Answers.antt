@@ -1,0 +1,46 @@
+use Rattle.std.proofs.Common.{◌+◌, ◌≡◌, ◌∙◌, sym, ap, subst, to_z, of_z, w64, rules}
+use Rattle.deliveries.specs.Accepted.{ask_skip, number_upto}
+use Rattle.deliveries.specs.declared.delivery.Delivery.TheVariants.{Skip}
+use Rattle.deliveries.proofs.StepLemmas.{reply-bad_number, tables-bad_number}
+use Rattle.store.specs.Standing.{sound, Content}
+use Rattle.window.specs.declared.TheConstants.{LAST_NUMBER}
+use Rattle.window.specs.Taken as asks
+use Rattle.desk_commands.specs.Planned.{IsPlanned}
+use Rattle.desk_commands.proofs.PlannedLemmas.{planned-skip}
+use Rattle.store.proofs.ReadLemmas.{changes_once_then}
+use Rattle.deliveries.proofs.ImportedLemmas.{imported_then}
+use Rattle.desk_commands.proofs.answering.answer_known_skip.Goals as goal
+
+pub returns-in_default-clause-delivers : goal.returns-in_default-clause-delivers
+returns-in_default-clause-delivers g c = λ earlier next_is honest held.
+    let whole : to_z w64 (of_z w64 c.args.upto) ≡ c.args.upto = search rules in
+    let b = c.args.building.now in
+    let panel = c.args.panel.now in
+    let d = Skip panel.name c.args.upto in
+    let none = ap ask_skip (ap (number_upto (LAST_NUMBER + 1)) (sym whole) ∙ (sym c.number_upto.ensures.found ∙ c.in_default.is)) in
+    (sym (reply-bad_number b earlier d panel tt c.requires.known none), held ∙ sym (ap sound (tables-bad_number b earlier d tt none)))
+
+pub returns-clause-delivers : goal.returns-clause-delivers
+returns-clause-delivers g c = λ earlier next_is honest held.
+    let whole : to_z w64 (of_z w64 c.args.upto) ≡ c.args.upto = search rules in
+    let b = c.args.building.now in
+    let panel = c.args.panel.now in
+    let old = g.S.Store.standing c.args.store.now in
+    let before = c.answer_plan.ensures.goes.honest honest in
+    let same = ap (λ (held : Content). held.tables) held in
+    let planned = planned-skip b earlier panel.name c.args.next old.content.tables same next_is c.in_ok-view.view c.in_ok-plan.plan
+    c.args.upto c.in-Some.natural (ap (number_upto (LAST_NUMBER + 1)) (sym whole)
+    ∙ (sym c.number_upto.ensures.found ∙ c.in-Some.is)) (c.in_ok-view.ensures.views before) c.in_ok-plan.ensures in
+    c.answer_plan.ensures.delivers earlier (Skip panel.name c.args.upto) (asks.Skip c.in-Some.natural)
+    (subst (λ z. IsPlanned b earlier (Skip panel.name c.args.upto) (asks.Skip c.in-Some.natural) panel.name c.args.next z
+    c.in_ok-plan.plan) (sym whole) planned) honest
+    (c.in_ok-view.ensures.reads.kept before (λ e. cc) ∙ held)
+
+pub returns-clause-changes_once : goal.returns-clause-changes_once
+returns-clause-changes_once g c =
+    changes_once_then _ _ _ _ c.in_ok-view.ensures.reads c.answer_plan.ensures.goes.honest c.answer_plan.ensures.changes_once
+
+pub returns-clause-imported : goal.returns-clause-imported
+returns-clause-imported g c =
+    imported_then (g.S.Store.standing c.args.store.now) (g.S.Store.standing c.view_for_skip.new.store)
+    (g.S.Store.standing c.answer_plan.new.store) c.in_ok-view.ensures.reads c.answer_plan.ensures.goes.honest c.answer_plan.ensures.imported

@@ -1,0 +1,77 @@
+-- What carrying out a plan makes.
+use Rattle.std.specs.Prelude.{◌≡◌, ℕ, ◌+◌, ◌-◌, ◌≤◌, ◌⊎◌, Bool, true, false, ◌&&◌, nat_le, List, [], ◌∷◌, ◌++◌, Some, None, Result, IfOk, IfSome}
+use Rattle.std.specs.List.{All, list_all}
+use Rattle.std.specs.Option.{option_map_or}
+use Rattle.std.specs.Result.{result_err}
+use Rattle.points.specs.declared.answer.Answer.{Answer}
+use Rattle.points.specs.declared.answer.Answer.TheVariants.{Refused}
+use Rattle.points.specs.declared.command_row.CommandState.{CommandState}
+use Rattle.points.specs.declared.command_row.CommandState.TheVariants.{Parked, Answered}
+use Rattle.points.specs.declared.rule.Rule.TheVariants.{NoSuchPoint}
+use Rattle.store.specs.declared.change.Change.{Change}
+use Rattle.store.specs.declared.change.KeptRow.{KeptRow}
+use Rattle.store.specs.declared.fault.StoreFault.{StoreFault}
+use Rattle.store.specs.declared.fault.StoreFault.TheVariants.{BadRow}
+use Rattle.store.specs.Change.{IsNumber}
+use Rattle.store.specs.Standing.{Content, Goes, Standing}
+use Rattle.store.specs.Tables.{Tables}
+use Rattle.points.specs.Texts.{Text}
+use Rattle.window.specs.declared.numbered_content.NumberedContent.{NumberedContent}
+use Rattle.window.specs.declared.plan.Plan.{Plan}
+use Rattle.window.specs.declared.TheConstants.{LAST_NUMBER}
+use Rattle.window.specs.Window.{remembered}
+use Rattle.building.specs.Building.{Building}
+use Rattle.deliveries.specs.Moved.{first_answer, moved, parked_rows}
+use Rattle.desk_commands.specs.declared.acting.Acted.{Acted}
+
+abbrev pub is_number : ℕ → Bool
+is_number number = nat_le 1 number && nat_le number LAST_NUMBER
+
+-- whether the numbers of a plan lie in their ranges
+abbrev pub is_in_range : Plan → Bool
+is_in_range plan =
+    nat_le 1 plan.next && (nat_le plan.next (LAST_NUMBER + 1)
+    && (list_all (λ (entry : NumberedContent). is_number entry.number) plan.apply
+    && option_map_or (λ (entry : NumberedContent). is_number entry.number) plan.park true))
+
+-- that they do
+pub record IsInRange (plan : Plan) : Type 0 where
+  pub least : 1 ≤ plan.next
+  pub greatest : plan.next ≤ LAST_NUMBER + 1
+  pub apply : All (λ (entry : NumberedContent). IsNumber entry.number) plan.apply
+  pub park : IfSome plan.park (λ (entry : NumberedContent). IsNumber entry.number)
+
+abbrev pub answer_in : CommandState → Answer
+answer_in Parked = Refused NoSuchPoint
+answer_in (Answered answer) = answer
+
+-- the answer in the first of rows; of none it means nothing
+abbrev pub first_answer_in : List KeptRow → Answer
+first_answer_in [] = Refused NoSuchPoint
+first_answer_in (item ∷ items) = answer_in item.row.state
+
+-- the change of a plan, with what its commands made
+pub record IsChangeOf (panel : Text) (plan : Plan) (acted : Acted) (change : Change) : Type 0 where
+  pub nexts : change.nexts.items ≡ record { panel = panel; next = plan.next } ∷ []
+  pub rows : change.rows.items ≡ acted.rows.items ++ parked_rows panel plan.park
+  pub dropped : change.dropped.items ≡ record { panel = panel; number = plan.next - remembered } ∷ []
+  pub places : change.places.items ≡ acted.places.items
+  pub shown : change.shown.items ≡ []
+  pub imported : change.imported.items ≡ []
+  pub last_tick : change.last_tick ≡ None
+
+-- a content with other tables
+pub record Becomes (tables : Tables) (old new : Content) : Type 0 where
+  pub tables_are : new.tables ≡ tables
+  pub is_sound : old.is_sound ≡ true → new.is_sound ≡ true
+
+-- what a plan's carrying out answers, and leaves
+pub record Carries (building : Building) (panel : Text) (plan : Plan) (result : Result Answer StoreFault) (old new : Standing) :
+    Type 0 where
+  pub goes : Goes (result_err result) old new
+  pub answer : new.is_honest → IfOk result (λ answer. answer ≡ first_answer building old.content.tables.places panel plan.apply)
+  pub made : new.is_honest → result_err result ≡ None → Becomes (moved building panel plan old.content.tables) old.content new.content
+  pub unchanged : new.is_honest → new.is_shut ≡ false → (fault : StoreFault) → result_err result ≡ Some fault → new.content ≡ old.content
+  pub left : new.is_honest → old.is_shut ≡ false → (content : Content) → new.may_leave content
+      → (content ≡ old.content) ⊎ Becomes (moved building panel plan old.content.tables) old.content content
+  pub bad_row : new.is_honest → result_err result ≡ Some BadRow → old.content.is_sound ≡ false

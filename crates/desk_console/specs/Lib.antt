@@ -1,4 +1,0 @@
-pub mod Input
-pub mod Printed
-pub mod RunFault
-pub mod Status

@@ -1,3 +1,0 @@
-pub mod OneLine
-pub mod TextPlace
-pub mod TimeValues

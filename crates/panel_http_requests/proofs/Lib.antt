@@ -1,0 +1,11 @@
+pub mod CharacterEndings
+pub mod HeadEndings
+pub mod HeadLemmas
+pub mod SectionEndings
+pub mod NumberLemmas
+pub mod ValueLemmas
+pub mod PartLemmas
+mod BodyLemmas
+pub mod MethodLemmas
+pub mod RequestLemmas
+pub mod WholeLemmas

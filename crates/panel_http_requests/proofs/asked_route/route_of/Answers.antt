@@ -1,0 +1,13 @@
+use Rattle.std.proofs.Common.{◌∙◌, ap, sym, option_map}
+use Rattle.std.specs.Option.{is_some}
+use Rattle.std.proofs.lemmas.Bool.{false≢true}
+use Rattle.panel_http_requests.proofs.MethodLemmas.{no_route-of_long}
+use Rattle.panel_http_requests.specs.Routes.{route_value}
+use Rattle.panel_http_requests.proofs.asked_route.route_of.Goals as goal
+
+pub returns-in_err-method : goal.returns-in_err-method
+returns-in_err-method c =
+    let failed = sym c.ok.ensures.variant ∙ ap is_some c.in_err-method.was in
+    let made = c.from_bytes.ensures.no_memory_needed in
+    ap (option_map route_value) c.from_residual.ensures
+    ∙ sym (no_route-of_long c.args.method.now c.args.target.now (λ token short. false≢true (sym failed ∙ made token short)))

@@ -1,0 +1,11 @@
+pub mod Counting
+pub mod Endings
+pub mod Heads
+pub mod BodyLength
+pub mod Laws
+pub mod Routes
+pub mod Bodies
+pub mod AskedRoute
+pub mod RequestBody
+pub mod Requests
+pub mod Whole

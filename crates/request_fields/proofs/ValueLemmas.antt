@@ -1,8 +1,0 @@
--- The values of a name among headers.
-use Rattle.std.proofs.Common.{ℕ, List, map}
-use Rattle.httparse.specs.Spans.{header_bytes}
-use Rattle.httparse.specs.declared.spans.HeaderSpan.{HeaderSpan}
-use Rattle.request_fields.specs.BodyLength.{Text, values_of}
-
-abbrev pub values_at : List ℕ → Text → List HeaderSpan → List Text
-values_at buffer name headers = values_of name (map (header_bytes buffer) headers)

@@ -1,4 +1,0 @@
-pub mod CharacterEndings
-pub mod HeadEndings
-pub mod HeadLemmas
-pub mod SectionEndings

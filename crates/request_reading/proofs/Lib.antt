@@ -1,3 +1,0 @@
-pub mod MethodLemmas
-pub mod RequestLemmas
-pub mod WholeLemmas

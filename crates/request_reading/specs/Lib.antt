@@ -1,4 +1,0 @@
-pub mod AskedRoute
-pub mod BodyTold
-pub mod Requests
-pub mod Whole

@@ -1,8 +1,0 @@
-use Rattle.std.proofs.Common.{refl}
-use Rattle.std.specs.Fmt.{digits}
-use Rattle.response_texts.specs.Response.{response_text}
-use Rattle.response_texts.proofs.fixed_texts.no_memory_text.Goals as goal
-
-pub returns : goal.returns
-unfolding response_text digits
-returns c = refl

@@ -1,9 +1,0 @@
-pub mod FoundLemmas
-pub mod PlacingLemmas
-pub mod ReadLemmas
-pub mod ToldLemmas
-pub mod StepLemmas
-pub mod NumberLemmas
-pub mod TextLemmas
-pub mod EntryLemmas
-pub mod NameLemmas

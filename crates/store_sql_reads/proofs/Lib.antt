@@ -1,0 +1,9 @@
+pub mod CellLemmas
+pub mod FoundLemmas
+pub mod PlacingLemmas
+pub mod ReadLemmas
+pub mod ParsedLemmas
+pub mod NumberLemmas
+pub mod TextLemmas
+pub mod EntryLemmas
+pub mod NameLemmas

@@ -1,0 +1,99 @@
+-- The statements on the shown values.
+use Rattle.std.proofs.Common.{◌≡◌, ◌∙◌, inl, inr, ℕ, ℤ, Option, Result, IfOk, Ok, Err, OnOk, true, false, List, [], ◌∷◌, codes, refl, sym, ap, subst}
+use Rattle.sqlite_value.specs.declared.value.Value.TheVariants.{Null, Text}
+use Rattle.sqlite_value.specs.Keys.{first_key}
+use Rattle.sqlite_value.specs.Order.{Row, column}
+use Rattle.sqlite_catalog.specs.Listing.{automatic}
+use Rattle.sqlite_rules.specs.Edit.{id_in}
+use Rattle.sqlite_rules.proofs.TableLemmas.{int_is}
+use Rattle.sqlite_trees.specs.Tree.{rowid}
+use Rattle.store_sql_rows.proofs.KeyLemmas.{one_number, text_is}
+use Rattle.store_sql_rows.proofs.RewriteLemmas.{rewrites}
+use Rattle.sqlite_schema.specs.declared.schema.Constraint.TheVariants.{Datatype, NotNull}
+use Rattle.sqlite_schema.specs.declared.schema.Kind.TheVariants as kind
+use Rattle.sqlite_rules.specs.Lists.{Has}
+use Rattle.sqlite_rules.proofs.ListLemmas.{all_has}
+use Rattle.sqlite_sql.specs.Term.{lit, col}
+use Rattle.sqlite.specs.declared.error.Error.{Error}
+use Rattle.sqlite.specs.Effect.{Database}
+use Rattle.sqlite.specs.State.{ExecutesInside, Shown, State}
+use Rattle.store_sql_create.specs.Schema.{column_of, shown_table, shown_tree}
+use Rattle.store_sql_rows.specs.Meanings.{given, passes}
+use Rattle.store_sql_rows.specs.Ours.{Changes, Gains, IsInside, IsOurs, Loses, Rewrites}
+use Rattle.store_sql_rows.specs.Slot.{On, shown_slot}
+use Rattle.store_sql_rows.proofs.CellLemmas.{and_true, cast_cell, cast_int, cast_null, equal_text}
+use Rattle.store_sql_rows.proofs.RestLemmas.{finds, finds_same}
+use Rattle.store_sql_rows.specs.Looking.{Finds}
+use Rattle.store_sql_rows.proofs.SlotLemmas.{gains, is_shown, loses}
+use Rattle.store_sql_rows.proofs.TypeLemmas.{IsFilled, first_filled, ruled}
+use Rattle.store_sql_rows.proofs.ShownTexts.{add_runs, add_text, cells_set, clear_runs, clear_text, find_runs, find_text, set_runs, set_text}
+use Rattle.store_sql_rows.specs.Cells.{cell_of, is_text}
+use Rattle.store_sql_rows.specs.Rows.{of_schedule}
+
+pub shown_cells : (db : Database) → IsOurs db → (row : Row) → Has (db.trees shown_tree) row → IsFilled kind.Text (column row 1)
+shown_cells db ours row h =
+    let typed = all_has _ (db.trees shown_tree) row (ruled Datatype db ours).1.1.1.1.0 h in
+    let present = all_has _ (db.trees shown_tree) row (ruled NotNull db ours).1.1.1.1.0 h in
+    let col2 = column_of (codes "value") kind.Integer false in
+    first_filled shown_table (codes "schedule") kind.Text (col2 ∷ []) refl refl db.trees row typed present
+
+pub passes_shown : (db : Database) → IsOurs db → (schedule : List ℕ) → (row : Row) → Has (db.trees shown_tree) row
+    → passes (given 1 0 ∷ []) (Text schedule ∷ []) row ≡ of_schedule schedule row
+passes_shown db ours schedule row h =
+    let cell = shown_cells db ours row h in
+    rw (equal_text schedule (column row 1) cell.of cell.filled, and_true) refl
+
+pub clears : (schedule : List ℕ) → (old new : State) (result : Result ℕ Error) → IsInside old
+    → ExecutesInside 0 clear_text (Text schedule ∷ []) old new result
+    → OnOk result (Changes (On shown_slot (Loses (of_schedule schedule))) old new)
+clears schedule old new result inside h =
+    loses shown_slot is_shown clear_text clear_runs.plain (given 1 0 ∷ []) (of_schedule schedule) clear_runs.is
+    (λ a b same. ap (λ l. is_text schedule (column l 0)) same) old new (Text schedule ∷ []) result
+    (λ row h. passes_shown old.now inside.ours schedule row h) inside h
+
+pub adds : (schedule : List ℕ) (value : Option ℤ) → (old new : State) (result : Result ℕ Error) → IsInside old
+    → ExecutesInside 0 add_text (Text schedule ∷ cell_of value ∷ []) old new result
+    → OnOk result (Changes (On shown_slot (Gains (Text schedule ∷ cell_of value ∷ []))) old new)
+adds schedule value old new result inside h =
+    gains shown_slot is_shown add_text add_runs.plain (codes "shown") shown_table.columns shown_table.checks
+    (lit Null ∷ col 0 0 ∷ col 0 1 ∷ []) 3 shown_tree refl add_runs.is
+    old new (Text schedule ∷ cell_of value ∷ []) (Text schedule ∷ cell_of value ∷ []) result
+    (rw (cast_null, cast_cell value) refl) inside h
+
+-- no two rows have one name
+one_shown : (db : Database) → IsOurs db → (schedule : List ℕ) (a b : Row) → Has (db.trees shown_tree) a → Has (db.trees shown_tree) b
+    → of_schedule schedule a ≡ true → of_schedule schedule b ≡ true → rowid a ≡ rowid b
+unfolding first_key
+one_shown db ours schedule a b ha hb is_a is_b =
+    one_number (automatic shown_table 0 (1 ∷ []) 8) shown_table (1 ∷ []) db ours (inr (inr (inr (inr (inl refl)))))
+    (inr (inr (inr (inl refl)))) refl ours.rows.shown a b ha hb
+    (subst (λ v. passes (given 1 0 ∷ []) (v ∷ []) a ≡ true) (sym (text_is schedule (column b 1) is_b))
+    (passes_shown db ours schedule a ha ∙ is_a))
+
+pub sets : (schedule : List ℕ) (value : Option ℤ) → (old new : State) (result : Result ℕ Error) → IsInside old
+    → ExecutesInside 0 set_text (Text schedule ∷ cell_of value ∷ []) old new result
+    → IfOk result (λ count. Changes (On shown_slot (Rewrites (of_schedule schedule) (Text schedule ∷ cell_of value ∷ []) count)) old new)
+sets schedule value old new result inside h =
+    let cells = Text schedule ∷ cell_of value ∷ [] in
+    rewrites shown_slot is_shown set_text set_runs.plain (given 1 0 ∷ []) (of_schedule schedule) cells_set set_runs.is old new cells cells result
+    (λ row h. passes_shown old.now inside.ours schedule row h)
+    (record {
+      by_key = λ a b same. ap (λ l. is_text schedule (column l 0)) same;
+      one = λ a b ha hb is_a is_b. one_shown old.now inside.ours schedule a b ha hb is_a is_b;
+      made = λ row h is.
+          let number = int_is (rowid row) (inside.ours.rows.shown.numbered row h) in
+          rw (text_is schedule (column row 1) is, cast_cell value, number, cast_int (id_in (rowid row))) refl;
+    })
+    inside h
+
+-- the queries
+
+pub find_shown : {V : Type 0} (items : V → List Row) (schedule : List ℕ) (old new : State) (r : Result V Error) → IsOurs old.now
+    → IfOk r (λ v. Shown find_text (Text schedule ∷ []) old new (items v))
+    → IfOk r (λ v. Finds (of_schedule schedule) (λ row. column row 2 ∷ []) (old.now.trees shown_tree) (items v))
+find_shown items schedule old new (Err e) ours shown = tt
+find_shown items schedule old new (Ok v) ours shown =
+    finds_same (passes (given 1 0 ∷ []) (Text schedule ∷ [])) (of_schedule schedule) (λ row. column row 2 ∷ [])
+    (old.now.trees shown_tree) (items v) (λ row h. passes_shown old.now ours schedule row h)
+    (finds find_text find_runs.plain find_runs.unlisted shown_tree (given 1 0 ∷ []) (col 1 2 ∷ []) (codes "value" ∷ []) find_runs.is old new
+    (Text schedule ∷ []) (items v) ours.schema_is shown)

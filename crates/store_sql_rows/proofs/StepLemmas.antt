@@ -1,0 +1,126 @@
+-- Steps of a transaction, one after the other.
+use Rattle.std.proofs.Common.{◌≡◌, true, ℕ, suc, ◌+◌, ◌<◌, List, [], ◌∷◌, drop, length, get_or, Ok, Err, Result, OnOk, sym, ap, ◌∙◌, arith, add-one, drop-cons}
+use Rattle.sqlite_trees.specs.Tree.{Trees}
+use Rattle.sqlite.specs.declared.error.Error.{Error}
+use Rattle.sqlite.specs.State.{HasCleanDisk, KeepsCommit, State, Survives}
+use Rattle.sqlite.proofs.InsideLemmas.{keeps_then}
+use Rattle.sqlite.proofs.StateLemmas.{survives_then}
+use Rattle.store.specs.Change.{with_each}
+use Rattle.store.specs.Tables.{Tables}
+use Rattle.store_sql_rows.specs.Broken.{Keeps}
+use Rattle.store_sql_rows.specs.Stored.{Kept, is_sound_in, tables_in}
+use Rattle.store_sql_rows.specs.Ours.{Changes, IsInside, Makes, kept_in}
+use Rattle.store_sql_rows.specs.Steps.{Steps, Turns}
+
+pub survives_on : (a b c : State) → Survives a b (λ _. ⊥) → Survives b c (λ _. ⊥) → Survives a c (λ _. ⊥)
+survives_on a b c one two = survives_then a b c (λ _. ⊥) (λ _. ⊥) (λ _. ⊥) (λ _ db none. none) (λ _ db none. none) one two
+
+pub clean_before : (a b : State) (P : Trees → Type 0) → Survives a b P → HasCleanDisk b → HasCleanDisk a
+clean_before a b P one clean = omega (arith, one.clean)
+
+-- one step alone
+alone : {A : Type 0} (P Q : State → State → Type 0) (a b : State) (x y : A) → (P a b → Q a b) → Steps {A = A} P a b (Ok x)
+    → Steps {A = A} Q a b (Ok y)
+alone P Q a b x y turn one = record { done = λ clean inside. turn (one.done clean inside); kept = one.kept; survives = one.survives }
+
+on_ok : {A : Type 0} {P Q : Type 0} (outcome : Result A Error) → (P → Q) → OnOk outcome P → OnOk outcome Q
+on_ok (Ok x) f p = f p
+on_ok (Err e) f p = tt
+
+-- two steps
+pub then : {A B : Type 0} (P Q R : State → State → Type 0) (a b c : State) (x : A) (outcome : Result B Error) → (P a b → IsInside b)
+    → (P a b → Q b c → R a c)
+    → Steps P a b (Ok x) → Steps Q b c outcome → Steps R a c outcome
+then P Q R a b c x outcome inside both one two = record {
+  done =
+      λ clean at. let first =
+      one.done (clean_before b c _ two.survives clean) at in on_ok outcome (both first) (two.done clean (inside first));
+  kept = λ clean. keeps_then a b c (one.kept (clean_before b c _ two.survives clean)) (two.kept clean);
+  survives = survives_on a b c one.survives two.survives;
+}
+
+-- the transaction is inside after a change
+pub inside_after : (P : Kept → Kept → Type 0) (a b : State) → Changes P a b → IsInside b
+inside_after P a b one = record { in_transaction = one.seen.mode; ours = one.ours }
+
+-- one statement turns the tables
+pub one_statement : {A : Type 0} (P : Kept → Kept → Type 0) (f : Tables → Tables) (a b : State) (z : A)
+    → ((k l : Kept) → P k l → Makes f k l)
+    → (HasCleanDisk b → IsInside a → Changes P a b) → (HasCleanDisk b → KeepsCommit a b) → Survives a b (λ _. ⊥)
+    → Steps (Turns f) a b (Ok z)
+one_statement P f a b z makes done kept survives = record {
+  done =
+      λ clean at. let one =
+      done clean at in record { inside = inside_after P a b one; makes = makes (kept_in a.now.trees) (kept_in b.now.trees) one.change };
+  kept = kept;
+  survives = survives;
+}
+
+-- two statements do
+pub two_statements : {A : Type 0} (P Q : Kept → Kept → Type 0) (f : Tables → Tables) (a b c : State) (z : A)
+    → ((k l m : Kept) → P k l → Q l m → Makes f k m)
+    → (HasCleanDisk b → IsInside a → Changes P a b) → (HasCleanDisk b → KeepsCommit a b) → Survives a b (λ _. ⊥)
+    → (HasCleanDisk c → IsInside b → Changes Q b c) → (HasCleanDisk c → KeepsCommit b c) → Survives b c (λ _. ⊥)
+    → Steps (Turns f) a c (Ok z)
+two_statements P Q f a b c z makes done kept survives done' kept' survives' = record {
+  done = λ clean at.
+      let one = done (clean_before b c _ survives' clean) at in
+      let two = done' clean (inside_after P a b one) in
+      record {
+        inside = inside_after Q b c two;
+        makes = makes (kept_in a.now.trees) (kept_in b.now.trees) (kept_in c.now.trees) one.change two.change;
+      };
+  kept = λ clean. keeps_then a b c (kept (clean_before b c _ survives' clean)) (kept' clean);
+  survives = survives_on a b c survives survives';
+}
+
+-- one turn after the other
+pub turns_then : {A B : Type 0} (f g h : Tables → Tables) (a b c : State) (x : A) (outcome : Result B Error) → ((t : Tables) → g (f t) ≡ h t)
+    → Steps (Turns f) a b (Ok x) → Steps (Turns g) b c outcome → Steps (Turns h) a c outcome
+turns_then f g h a b c x outcome same one two =
+    then (Turns f) (Turns g) (Turns h) a b c x outcome (λ first. first.inside)
+    (λ first second. record {
+      inside = second.inside;
+      makes = record {
+        tables = second.makes.tables ∙ ap g first.makes.tables ∙ same (tables_in (kept_in a.now.trees));
+        is_sound = λ is. second.makes.is_sound (first.makes.is_sound is);
+        stands = λ asked stood. second.makes.stands asked (first.makes.stands asked stood);
+      };
+    })
+    one two
+
+-- ---- the steps of a list
+
+-- what is left to do leads to the tables that the whole leads to
+pub record Nears (rest whole : Tables → Tables) (old new : State) : Type 0 where
+  pub inside : IsInside new
+  pub tables : rest (tables_in (kept_in new.now.trees)) ≡ whole (tables_in (kept_in old.now.trees))
+  pub is_sound : is_sound_in (kept_in old.now.trees) ≡ true → is_sound_in (kept_in new.now.trees) ≡ true
+  pub stands : Keeps (kept_in old.now.trees) (kept_in new.now.trees)
+
+module _ {Item A : Type 0} (put : Item → Tables → Tables) (items : List Item) where
+  pub nears_next : (i : ℕ) (item : Item) (a b c : State) (x y : A) → i < length items → item ≡ get_or items i item
+      → Steps {A = A} (Nears (with_each put (drop i items)) (with_each put items)) a b (Ok x) → Steps {A = A} (Turns (put item)) b c (Ok y)
+      → Steps {A = A} (Nears (with_each put (drop (i + 1) items)) (with_each put items)) a c (Ok y)
+  nears_next i item a b c x y below is one two =
+      let cut : drop i items ≡ item ∷ drop (suc i) items = drop-cons items i item below ∙ ap (λ it. it ∷ drop (suc i) items) (sym is) in
+      then (Nears (with_each put (drop i items)) (with_each put items)) (Turns (put item))
+      (Nears (with_each put (drop (i + 1) items)) (with_each put items)) a b c x (Ok y)
+      (λ first. first.inside)
+      (λ first second.
+      let so_far = rw cut at first.tables in record {
+        inside = second.inside;
+        tables = rw add-one (ap (with_each put (drop (suc i) items)) second.makes.tables ∙ so_far);
+        is_sound = λ sound. second.makes.is_sound (first.is_sound sound);
+        stands = λ asked stood. second.makes.stands asked (first.stands asked stood);
+      })
+      one two
+
+  pub nears_last : (i : ℕ) (a b : State) (x y : A) → drop i items ≡ []
+      → Steps {A = A} (Nears (with_each put (drop i items)) (with_each put items)) a b (Ok x)
+      → Steps {A = A} (Turns (with_each put items)) a b (Ok y)
+  nears_last i a b x y none one =
+      alone (Nears (with_each put (drop i items)) (with_each put items)) (Turns (with_each put items)) a b x y
+      (λ all. let whole =
+      rw none at all.tables in record { inside = all.inside; makes = record { tables = whole; is_sound = all.is_sound; stands = all.stands } })
+      one

@@ -1,0 +1,104 @@
+//! The statements on the next numbers of panels.
+ghost use Rattle.std.specs.Prelude.{◌≡◌, ◌<◌, ◌^◌, ◌&&◌, false, IfOk, OnOk, pos, [], ◌∷◌};
+ghost use Rattle.sqlite.specs.Held.{state};
+ghost use Rattle.sqlite.specs.State.{HasCleanDisk, IsUnchanged, KeepsCommit, Survives};
+ghost use Rattle.sqlite_value.specs.declared.value.Value.TheVariants.{Int, Text};
+ghost use Rattle.sqlite_value.specs.Order.{column};
+ghost use Rattle.store_sql_rows.specs.Looking.{Finds, FindsLeast, Rests, is_from_text, is_from};
+ghost use Rattle.store_sql_rows.specs.Ours.{Changes, Gains, IsInside, IsOurs, Rewrites, kept_in};
+ghost use Rattle.store_sql_rows.specs.Slot.{On, panel_slot};
+ghost use Rattle.store_sql_rows.specs.Cells.{is_text};
+ghost use Rattle.store_sql_rows.specs.Rows.{of_panel};
+
+use crate::looking::ask;
+use crate::parameters::{count, text, words};
+use crate::running::run;
+use points::Name;
+use sqlite::{Alter, Connection, Error, Row, Transaction};
+
+/// Adds the next number of a panel.
+pub fn add<S: Alter>(
+    transaction: &mut Transaction<'_, S>,
+    panel: &Name,
+    next: u64,
+) -> Result<usize, Error>
+    requires { next < 2 ^ 63 }
+    ensures same_reference { transaction.new.conn.ghost_name ≡ transaction.old.conn.ghost_name }
+    ensures done { HasCleanDisk (state S.Store transaction.new.conn.now) → IsInside (state S.Store transaction.old.conn.now)
+        → OnOk result (Changes (On panel_slot (Gains (Text panel.now ∷ Int (pos next) ∷ [])))
+        (state S.Store transaction.old.conn.now) (state S.Store transaction.new.conn.now)) }
+    ensures kept { HasCleanDisk (state S.Store transaction.new.conn.now)
+        → KeepsCommit (state S.Store transaction.old.conn.now) (state S.Store transaction.new.conn.now) }
+    ensures survives { Survives (state S.Store transaction.old.conn.now) (state S.Store transaction.new.conn.now) (λ _. ⊥) }
+{
+    run(
+        transaction,
+        "INSERT INTO panel (name, next) VALUES (?1, ?2)",
+        &[text(panel), count(next)],
+    )
+}
+
+/// Sets the next number of a panel that has one, and answers how many rows that were: none, or the one that it has.
+pub fn set<S: Alter>(
+    transaction: &mut Transaction<'_, S>,
+    panel: &Name,
+    next: u64,
+) -> Result<usize, Error>
+    requires { next < 2 ^ 63 }
+    ensures same_reference { transaction.new.conn.ghost_name ≡ transaction.old.conn.ghost_name }
+    ensures done { HasCleanDisk (state S.Store transaction.new.conn.now) → IsInside (state S.Store transaction.old.conn.now)
+        → IfOk result (λ count. Changes
+        (On panel_slot (Rewrites (of_panel panel.now) (Text panel.now ∷ Int (pos next) ∷ []) count))
+        (state S.Store transaction.old.conn.now) (state S.Store transaction.new.conn.now)) }
+    ensures kept { HasCleanDisk (state S.Store transaction.new.conn.now)
+        → KeepsCommit (state S.Store transaction.old.conn.now) (state S.Store transaction.new.conn.now) }
+    ensures survives { Survives (state S.Store transaction.old.conn.now) (state S.Store transaction.new.conn.now) (λ _. ⊥) }
+{
+    run(
+        transaction,
+        "UPDATE panel SET next = ?2 WHERE name = ?1",
+        &[text(panel), count(next)],
+    )
+}
+
+// ---- what is read
+
+/// The cell `next` of a panel.
+pub fn find<S: Alter>(connection: &mut Connection<S>, panel: &Name) -> Result<Vec<Row>, Error>
+    ensures mode { connection.old.in_transaction ≡ false → connection.new.in_transaction ≡ false }
+    ensures same { HasCleanDisk (state S.Store connection.new) → IsOurs (state S.Store connection.old).now
+        → OnOk result (IsUnchanged (state S.Store connection.old) (state S.Store connection.new)) }
+    ensures rests { HasCleanDisk (state S.Store connection.new) → IsOurs (state S.Store connection.old).now
+        → Rests (state S.Store connection.old) (state S.Store connection.new) }
+    ensures found { HasCleanDisk (state S.Store connection.new) → IsOurs (state S.Store connection.old).now
+        → IfOk result (λ rows. Finds (of_panel panel.now) (λ row. column row 2 ∷ [])
+        (kept_in (state S.Store connection.old).now.trees).panel rows.items) }
+    ensures survives { Survives (state S.Store connection.old) (state S.Store connection.new)
+        (λ _. IsOurs (state S.Store connection.old).now → ⊥) }
+{
+    ask(
+        connection,
+        "SELECT next FROM panel WHERE name = ?1",
+        &[text(panel)],
+    )
+}
+
+/// The least name from a text on, if there is one.
+pub fn next_name<S: Alter>(connection: &mut Connection<S>, from: &str) -> Result<Vec<Row>, Error>
+    ensures mode { connection.old.in_transaction ≡ false → connection.new.in_transaction ≡ false }
+    ensures same { HasCleanDisk (state S.Store connection.new) → IsOurs (state S.Store connection.old).now
+        → OnOk result (IsUnchanged (state S.Store connection.old) (state S.Store connection.new)) }
+    ensures rests { HasCleanDisk (state S.Store connection.new) → IsOurs (state S.Store connection.old).now
+        → Rests (state S.Store connection.old) (state S.Store connection.new) }
+    ensures found { HasCleanDisk (state S.Store connection.new) → IsOurs (state S.Store connection.old).now
+        → IfOk result (λ rows. FindsLeast (λ row. is_from_text from.now (column row 1)) 1
+        (kept_in (state S.Store connection.old).now.trees).panel rows.items) }
+    ensures survives { Survives (state S.Store connection.old) (state S.Store connection.new)
+        (λ _. IsOurs (state S.Store connection.old).now → ⊥) }
+{
+    ask(
+        connection,
+        "SELECT name FROM panel WHERE name >= ?1 ORDER BY name LIMIT 1",
+        &[words(from)],
+    )
+}

@@ -1,0 +1,199 @@
+//! One item put into the tables, in a transaction.
+ghost use Rattle.std.specs.Prelude.{◌≡◌, Some};
+ghost use Rattle.dates.specs.Entry.{IsEntry, spelling};
+ghost use Rattle.sqlite.specs.Held.{state};
+ghost use Rattle.sqlite_value.specs.declared.value.Value.TheVariants.{Int};
+ghost use Rattle.store.specs.Change.{IsKeptRow, IsNext, IsPlace};
+ghost use Rattle.store_sql_rows.specs.Cells.{cell_of};
+ghost use Rattle.store_sql_rows.specs.Rows.{state_in};
+ghost use Rattle.store_sql_rows.specs.Steps.{Steps, Turns, imported_put, last_put, next_put, place_put, row_put, rows_dropped, shown_put};
+
+use crate::command_cells::{StateCells, cells_of};
+use crate::{calendars, commands, desk_row, panels, places, schedules};
+use sqlite::{Alter, Constraint, Error, ErrorCode, Transaction};
+use std::alloc::Global;
+use store::{ImportedEntry, KeptRow, NextNumber, PlaceValue, RowsBelow, ShownValue};
+
+// A number above that of each command.
+const ABOVE: u64 = 1_000_000_000_001;
+
+/// Puts the next number of a panel.
+pub fn put_next<S: Alter>(
+    transaction: &mut Transaction<'_, S>,
+    item: &NextNumber,
+) -> Result<(), Error>
+    requires { IsNext item.now }
+    ensures same_reference { transaction.new.conn.ghost_name ≡ transaction.old.conn.ghost_name }
+    ensures steps { Steps (Turns (next_put item.now)) (state S.Store transaction.old.conn.now)
+        (state S.Store transaction.new.conn.now) result }
+{
+    let _name = item.panel.as_str();
+    if panels::set(transaction, &item.panel, item.next)? == 0 {
+        panels::add(transaction, &item.panel, item.next)?;
+    }
+    Ok(())
+}
+
+// Puts the row of a command, whose state these cells say, in place of the one that stands there.
+fn replace_row<S: Alter>(
+    transaction: &mut Transaction<'_, S>,
+    item: &KeptRow,
+    cells: &StateCells,
+) -> Result<(), Error>
+    requires { IsKeptRow item.now }
+    ensures same_reference { transaction.new.conn.ghost_name ≡ transaction.old.conn.ghost_name }
+    ensures steps { state_in (Int cells.now.code) (cell_of cells.now.a) (cell_of cells.now.b) ≡ Some item.now.row.state
+        → Steps (Turns (row_put item.now)) (state S.Store transaction.old.conn.now) (state S.Store transaction.new.conn.now) result }
+{
+    let _name = item.panel.as_str();
+    let _point = item.row.content.point.as_str();
+    commands::clear(transaction, &item.panel, item.number)?;
+    commands::add(
+        transaction,
+        &item.panel,
+        item.number,
+        &item.row.content,
+        cells,
+    )?;
+    Ok(())
+}
+
+/// Puts the row of a command. Most are new, so that it is added first, and one that stands there is removed only where
+/// that is refused.
+pub fn put_row<S: Alter>(transaction: &mut Transaction<'_, S>, item: &KeptRow) -> Result<(), Error>
+    requires { IsKeptRow item.now }
+    ensures same_reference { transaction.new.conn.ghost_name ≡ transaction.old.conn.ghost_name }
+    ensures steps { Steps (Turns (row_put item.now)) (state S.Store transaction.old.conn.now)
+        (state S.Store transaction.new.conn.now) result }
+{
+    let _name = item.panel.as_str();
+    let _point = item.row.content.point.as_str();
+    let cells = cells_of(&item.row.state);
+    match commands::add(
+        transaction,
+        &item.panel,
+        item.number,
+        &item.row.content,
+        &cells,
+    ) {
+        Ok(_) => Ok(()),
+        Err(Error::SqliteFailure(ErrorCode::ConstraintViolation(Constraint::Unique))) =>
+            replace_row(transaction, item, &cells),
+        Err(error) => Err(error),
+    }
+}
+
+/// Drops the rows of a panel below a number: below 0 there is none, so that nothing is asked of the database.
+pub fn drop_rows<S: Alter>(
+    transaction: &mut Transaction<'_, S>,
+    item: &RowsBelow,
+) -> Result<(), Error>
+    ensures same_reference { transaction.new.conn.ghost_name ≡ transaction.old.conn.ghost_name }
+    ensures steps { Steps (Turns (rows_dropped item.now)) (state S.Store transaction.old.conn.now)
+        (state S.Store transaction.new.conn.now) result }
+{
+    if item.number == 0 {
+        return Ok(());
+    }
+    let number = if item.number < ABOVE {
+        item.number
+    } else {
+        ABOVE
+    };
+    commands::drop_below(transaction, &item.panel, number)?;
+    Ok(())
+}
+
+/// Puts a value into a place, or takes it out.
+pub fn put_place<S: Alter>(
+    transaction: &mut Transaction<'_, S>,
+    item: &PlaceValue,
+) -> Result<(), Error>
+    requires { IsPlace item.now }
+    ensures same_reference { transaction.new.conn.ghost_name ≡ transaction.old.conn.ghost_name }
+    ensures steps { Steps (Turns (place_put item.now)) (state S.Store transaction.old.conn.now)
+        (state S.Store transaction.new.conn.now) result }
+{
+    let _name = item.point.as_str();
+    let Some(value) = item.value else {
+        places::clear(transaction, &item.point, item.priority)?;
+        return Ok(());
+    };
+    if places::set(transaction, &item.point, item.priority, value)? == 0 {
+        places::add(transaction, &item.point, item.priority, value)?;
+    }
+    Ok(())
+}
+
+/// Puts what a schedule shows, or takes it out.
+pub fn put_shown<S: Alter>(
+    transaction: &mut Transaction<'_, S>,
+    item: &ShownValue,
+) -> Result<(), Error>
+    ensures same_reference { transaction.new.conn.ghost_name ≡ transaction.old.conn.ghost_name }
+    ensures steps { Steps (Turns (shown_put item.now)) (state S.Store transaction.old.conn.now)
+        (state S.Store transaction.new.conn.now) result }
+{
+    let _name = item.schedule.as_str();
+    let Some(value) = item.shown else {
+        schedules::clear(transaction, &item.schedule)?;
+        return Ok(());
+    };
+    if schedules::set(transaction, &item.schedule, value)? == 0 {
+        schedules::add(transaction, &item.schedule, value)?;
+    }
+    Ok(())
+}
+
+// Puts an entry into a calendar in place of the one that stands there.
+fn replace_imported<S: Alter>(
+    transaction: &mut Transaction<'_, S>,
+    item: &ImportedEntry,
+    text: &str,
+) -> Result<(), Error>
+    requires { text.now ≡ spelling item.now.entry }
+    ensures same_reference { transaction.new.conn.ghost_name ≡ transaction.old.conn.ghost_name }
+    ensures steps { IsEntry item.now.entry → Steps (Turns (imported_put item.now)) (state S.Store transaction.old.conn.now)
+        (state S.Store transaction.new.conn.now) result }
+{
+    let _name = item.calendar.as_str();
+    calendars::clear(transaction, &item.calendar, text)?;
+    calendars::add(transaction, &item.calendar, text)?;
+    Ok(())
+}
+
+/// Puts an entry into a calendar. Most are new, so that it is added first, and one that stands there is removed only
+/// where that is refused.
+pub fn put_imported<S: Alter>(
+    alloc: Global,
+    transaction: &mut Transaction<'_, S>,
+    item: &ImportedEntry,
+) -> Result<(), Error>
+    ensures same_reference { transaction.new.conn.ghost_name ≡ transaction.old.conn.ghost_name }
+    ensures steps { Steps (Turns (imported_put item.now)) (state S.Store transaction.old.conn.now)
+        (state S.Store transaction.new.conn.now) result }
+{
+    let _name = item.calendar.as_str();
+    let entry = item.entry.write(alloc)?;
+    let text = entry.as_str();
+    match calendars::add(transaction, &item.calendar, text) {
+        Ok(_) => Ok(()),
+        Err(Error::SqliteFailure(ErrorCode::ConstraintViolation(Constraint::Unique))) =>
+            replace_imported(transaction, item, text),
+        Err(error) => Err(error),
+    }
+}
+
+/// Puts the moment of the last tick, where there is one.
+pub fn put_last<S: Alter>(
+    transaction: &mut Transaction<'_, S>,
+    last: Option<i64>,
+) -> Result<(), Error>
+    ensures same_reference { transaction.new.conn.ghost_name ≡ transaction.old.conn.ghost_name }
+    ensures steps { Steps (Turns (last_put last)) (state S.Store transaction.old.conn.now) (state S.Store transaction.new.conn.now) result }
+{
+    if let Some(moment) = last {
+        desk_row::set_last(transaction, moment)?;
+    }
+    Ok(())
+}

@@ -1,0 +1,21 @@
+//! The desk over a database whose disk stops or fails at a call (`stop_each`), one of version 1 that is opened on such
+//! a disk, and tables that are made twice. What the program shows of both stores is tried on it. There is no code here
+//! but tests, so that nothing is proved twice for them.
+#![tactic(auto)]
+
+#[cfg(test)]
+mod contents;
+#[cfg(test)]
+mod databases;
+#[cfg(test)]
+mod disks;
+#[cfg(test)]
+mod faulty_disk;
+#[cfg(test)]
+mod scripts;
+#[cfg(test)]
+mod stop_each;
+#[cfg(test)]
+mod version_1;
+#[cfg(test)]
+mod worked_script;

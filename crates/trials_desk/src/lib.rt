@@ -1,0 +1,30 @@
+//! The desk and requests to it, as calls: a run of deliveries, the loopback, and the worked request in any two pieces,
+//! cut, with each of its reads failing (`ends_each`), and with a reply that is lost after each byte, over tables in
+//! memory; the same request gathered from an input that has nothing yet now and then; a replay whose reader or writer
+//! fails; how often schedules are evaluated (`evaluations`); and that a command of the usual form is read in one pass,
+//! which no contract says. What each request gets, and how the same goes over a database, is tried on the program.
+//! There is no code here but tests, so that no other crate is proved twice for them.
+#![tactic(auto)]
+
+#[cfg(test)]
+mod asking;
+#[cfg(test)]
+mod desks;
+#[cfg(test)]
+mod ends;
+#[cfg(test)]
+mod ends_each;
+#[cfg(test)]
+mod evaluations;
+#[cfg(test)]
+mod gathered;
+#[cfg(test)]
+mod loopback;
+#[cfg(test)]
+mod members;
+#[cfg(test)]
+mod runs;
+#[cfg(test)]
+mod torn_replays;
+#[cfg(test)]
+mod worked_request;
