@@ -6,7 +6,7 @@ use Rattle.store.specs.declared.change.Change.{Change}
 use Rattle.store.specs.declared.fault.StoreFault.{StoreFault}
 use Rattle.store.specs.Standing.{Commits, Standing}
 
--- what the store that is read reported
+-- the fault of the store that is read
 abbrev pub fault_read : AdoptFault → Option StoreFault
 fault_read (Old fault) = Some fault
 fault_read OutOfRange = None

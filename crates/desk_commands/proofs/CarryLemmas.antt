@@ -35,7 +35,7 @@ change-moved b p plan acted change held is rows places =
       last_tick = with_last_tick (is.last_tick i) held.last_tick;
     }
 
--- what the first command is reported
+-- the answer of the first command
 pub first_answer_in-answered : (b : Building) (held : Text → Places) (p : Text) (entries : List NumberedContent)
     → first_answer_in (answered_rows b held p entries) ≡ first_answer b held p entries
 first_answer_in-answered b held p [] = refl

@@ -1,4 +1,4 @@
--- A run of a panel's end, reported from its last event back.
+-- A run of a panel's end, from its last event back.
 use Rattle.std.specs.Prelude.{ℕ, ◌+◌, ◌==◌, not, nat_lt, nat_le, max, min, if◌then◌else◌, List, [], ◌∷◌, ◌++◌, Option, Some, None}
 use Rattle.std.specs.List.{filter, find}
 use Rattle.points.specs.declared.content.Content.{Content}

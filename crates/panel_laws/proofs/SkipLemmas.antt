@@ -78,7 +78,7 @@ ask-tells t (asks.Command n content) row next after number answer reported e =
 ask-tells t (asks.Skip upto) row next after number answer reported e =
     skip-tells next after number answer (nat_lt (asks.front t + window) upto) reported e
 
--- what a panel's delivery is reported is the front after it
+-- the next number in the reply to a panel's delivery is the front after it
 sent-reported : (b : Building) (E : List Delivery) (d : Delivery) (reported : ℕ) → IsSent d → next_in_reply (reply b E d) ≡ Some reported
     → reported ≡ asks.front (taken_by b (panel_of d) (E ++ d ∷ []))
 sent-reported b E d reported sent e = by (panel_named b (panel_of d)) refl (asked d) refl

@@ -16,7 +16,7 @@ abbrev pub put : Places → ℕ → Option ℤ → Places
 put places priority None = remove places priority
 put places priority (Some value) = insert places priority value
 
--- the value at the least priority, reported with it; of none, the relinquish default, reported with 0
+-- the value at the least priority, with that priority; of none, the relinquish default, with 0
 abbrev pub first_of : ℤ → List (ℕ × ℤ) → ℤ × ℕ
 first_of default [] = (default, 0)
 first_of default (place ∷ places) = (place.1, place.0)

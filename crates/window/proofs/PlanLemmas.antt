@@ -283,7 +283,7 @@ pub Plans-too_far : (t : Taken) (u : ℕ) (asked : Option CommandRow) → front 
     → Plans t (Skip u) asked (record { next = front t; apply = []; park = None; verdict = TooFar })
 Plans-too_far t u asked past = Plans-same t u asked TooFar (accepts_skip-past t u past) (too_far t u asked past)
 
--- a plan that is reported by its parts
+-- a plan, by its parts
 pub Plans-reported : (t : Taken) (ask : Ask) (asked : Option CommandRow) (plan reported : Plan) → plan ≡ reported
     → Plans t ask asked reported → Plans t ask asked plan
 Plans-reported t ask asked plan reported same plans = subst (λ p. Plans t ask asked p) (sym same) plans
@@ -296,7 +296,7 @@ pub Plans-from_front : (t : Taken) (ask : Ask) (asked : Option CommandRow) (next
 Plans-from_front t ask asked next apply park verdict same plans =
     subst (λ (n : ℕ). Plans t ask asked (record { next = n; apply = apply; park = park; verdict = verdict })) (sym same) plans
 
--- a plan that is reported by what was drained: the contents before a run, and the run
+-- a plan, by what was drained: the contents before a run, and the run
 pub Plans-drained : (t : Taken) (ask : Ask) (asked : Option CommandRow) (plan : Plan) (upto : ℕ) (contents before : List NumberedContent)
     (drained run : List NumberedRow) (verdict : Verdict)
     → plan ≡ record { next = end_of upto drained; apply = contents ++ contents_of drained; park = None; verdict = verdict }
