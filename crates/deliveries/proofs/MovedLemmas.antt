@@ -146,7 +146,7 @@ reply_on-other verdict.Forgotten next later z answer given other = refl
 first-answered : (b : Building) (m : Machine) (p : Text) (number : ℕ) (content : Content) (entries : List NumberedContent)
     → Rise number entries
     → asks.content_in entries number ≡ Some content
-    → (run b m (events_of p entries)).answers p number ≡ first_answer b m.places p entries
+    → first_answer b m.places p entries ≡ Some ((run b m (events_of p entries)).answers p number)
 first-answered b m p number content [] rise found = absurd cc
 first-answered b m p number content (entry ∷ entries) rise found =
     let next = step b m (Command p entry.number entry.content) in
@@ -154,7 +154,7 @@ first-answered b m p number content (entry ∷ entries) rise found =
       | inl same ↦
           let at : entry.number ≡ number = grind (arith, nat_tests) in
           let none = content_in-below (entry.number + 1) number entries rise.1 (omega (arith, at)) in
-          answers-apart b next p number entries none ∙ rw (bytes_eq-same p, same) refl
+          ap Some (sym (answers-apart b next p number entries none ∙ rw (bytes_eq-same p, same) refl))
       | inr apart ↦
           let least = rise.0 in
           let past : number < entry.number + 1 = grind (arith, nat_tests) in
@@ -166,7 +166,7 @@ first-answered b m p number content (entry ∷ entries) rise found =
 -- the command at the front is the first that is acted on
 front-answered : (b : Building) (m : Machine) (p : Text) (t : asks.Taken) (number : ℕ) (content : Content) → number ≡ asks.front t
     → let entries = applied t (asks.take t (asks.Command number content)) in
-    (run b m (events_of p entries)).answers p number ≡ first_answer b m.places p entries
+    first_answer b m.places p entries ≡ Some ((run b m (events_of p entries)).answers p number)
 front-answered b m p t number content same =
     let ask = asks.Command number content in
     let grown = asks.take t ask in
@@ -183,7 +183,7 @@ not_applies-skip : (t : asks.Taken) (upto : ℕ) (row : Option CommandRow) → v
 not_applies-skip t upto row = elim (nat_lt (asks.front t + window) upto) as
     (λ far. cond far verdict.TooFar verdict.SkipDone ≡ verdict.Applies → ⊥) [ true ↦ (λ e. cc) | false ↦ (λ e. cc) ]
 
-is_applies : (v : Verdict) → (v ≡ verdict.Applies) ⊎ (v ≡ verdict.Applies → ⊥)
+pub is_applies : (v : Verdict) → (v ≡ verdict.Applies) ⊎ (v ≡ verdict.Applies → ⊥)
 is_applies verdict.Applies = inl refl
 is_applies verdict.Parked = inr (λ e. cc)
 is_applies (verdict.Repeat state) = inr (λ e. cc)
@@ -193,33 +193,62 @@ is_applies verdict.TooFar = inr (λ e. cc)
 is_applies verdict.SkipDone = inr (λ e. cc)
 is_applies verdict.Forgotten = inr (λ e. cc)
 
--- the answer with which a verdict is reported
-reported-answer : (b : Building) (m : Machine) (p : Text) (t : asks.Taken) (ask : asks.Ask) (row : Option CommandRow) (next later : ℕ) (z : ℤ)
+-- where a verdict applies a command, the answer of the machine to it is that of the first that is acted on
+applies-answered : (b : Building) (m : Machine) (p : Text) (t : asks.Taken) (ask : asks.Ask) (row : Option CommandRow)
+    → verdict_of t ask row ≡ verdict.Applies
     → let entries = applied t (asks.take t ask) in
-    reply_on (verdict_of t ask row) next later z ((run b m (events_of p entries)).answers p (number_asked ask))
-    ≡ reply_on (verdict_of t ask row) next later z (first_answer b m.places p entries)
-reported-answer b m p t (asks.Skip upto) row next later z = reply_on-other _ next later z _ _ (not_applies-skip t upto row)
-reported-answer b m p t (asks.Command number content) row next later z =
-    elim (is_applies (verdict_of t (asks.Command number content) row)) [
-      | inl applies ↦
-          ap (reply_on (verdict_of t (asks.Command number content) row) next later z)
-          (front-answered b m p t number content (at_front-applies t number content row applies))
-      | inr other ↦ reply_on-other _ next later z _ _ other
-    ]
+    first_answer b m.places p entries ≡ Some ((run b m (events_of p entries)).answers p (number_asked ask))
+applies-answered b m p t (asks.Skip upto) row applies = absurd (not_applies-skip t upto row applies)
+applies-answered b m p t (asks.Command number content) row applies =
+    front-answered b m p t number content (at_front-applies t number content row applies)
 
--- the reply to a delivery, from its plan
-pub reply-moved : (b : Building) (E : List Delivery) (d : Delivery) (ask : asks.Ask) (plan : Plan) → Asks b d ask
-    → let t = taken_by b (panel_of d) E in Plans t ask (row_asked ((tables b E).row (panel_of d)) ask) plan
-    → reply b E d ≡ reply_on plan.verdict (asks.front t) plan.next (number_in_reply d)
-    (first_answer b (tables b E).places (panel_of d) plan.apply)
-reply-moved b E d ask plan asking plans =
-    let p = panel_of d in
-    let t = taken_by b p E in
-    let row = row_asked ((tables b E).row p) ask in
-    let z = number_in_reply d in
-    reply-asked b E d ask asking
-    ∙ (λ i. reply_on (verdict_of t ask row) (asks.front t) (asks.front (taken-here b E d ask asking i)) z
-    ((machine-asked b E d ask asking i).answers p (number_asked ask)))
-    ∙ reported-answer b (machine b E) p t ask row (asks.front t) (asks.front (asks.take t ask)) z
-    ∙ (λ i. reply_on (sym plans.verdict i) (asks.front t) (sym plans.next i) z
-    (first_answer b (sym (places-tables b E d ask asking) i) p (sym plans.apply i)))
+-- a plan that is reported as it is carried out: on a verdict that applies with the answer of its first command
+module _ (b : Building) (E : List Delivery) (d : Delivery) (ask : asks.Ask) (plan : Plan) (asking : Asks b d ask)
+    (plans : Plans (taken_by b (panel_of d) E) ask (row_asked ((tables b E).row (panel_of d)) ask) plan) where
+  abbrev who : Text
+  who = panel_of d
+
+  abbrev held : asks.Taken
+  held = taken_by b who E
+
+  abbrev given : Answer
+  given = (run b (machine b E) (events_of who (applied held (asks.take held ask)))).answers who (number_asked ask)
+
+  -- the answer of its first command
+  applies-given : plan.verdict ≡ verdict.Applies → first_answer b (tables b E).places who plan.apply ≡ Some given
+  applies-given applies =
+      (λ i. first_answer b (places-tables b E d ask asking i) who (plans.apply i))
+      ∙ applies-answered b (machine b E) who held ask (row_asked ((tables b E).row who) ask) (sym plans.verdict ∙ applies)
+
+  -- the reply to its delivery
+  reply-given : reply b E d ≡ reply_on plan.verdict (asks.front held) plan.next (number_in_reply d) given
+  reply-given =
+      reply-asked b E d ask asking
+      ∙ (λ i. reply_on (sym plans.verdict i) (asks.front held) (asks.front (taken-here b E d ask asking i)) (number_in_reply d)
+      ((machine-asked b E d ask asking i).answers who (number_asked ask)))
+      ∙ (λ i. reply_on plan.verdict (asks.front held) (sym plans.next i) (number_in_reply d) given)
+
+  -- a plan that applies has a command
+  pub has_answer : plan.verdict ≡ verdict.Applies → first_answer b (tables b E).places who plan.apply ≡ None → ⊥
+  has_answer applies none = some_none (sym (applies-given applies) ∙ none)
+    where
+      some_none : Some given ≡ None → ⊥
+      some_none e = cc
+
+  -- the reply on another verdict has no answer
+  pub reply-other : (answer : Answer) → (plan.verdict ≡ verdict.Applies → ⊥)
+      → reply b E d ≡ reply_on plan.verdict (asks.front held) plan.next (number_in_reply d) answer
+  reply-other answer other = reply-given ∙ reply_on-other plan.verdict (asks.front held) plan.next (number_in_reply d) given answer other
+
+  -- the reply, by the answer of the first command
+  pub reply-answered : (answer : Answer) → first_answer b (tables b E).places who plan.apply ≡ Some answer
+      → reply b E d ≡ reply_on plan.verdict (asks.front held) plan.next (number_in_reply d) answer
+  reply-answered answer first = elim (is_applies plan.verdict) [
+      | inl applies ↦
+          reply-given
+          ∙ ap (reply_on plan.verdict (asks.front held) plan.next (number_in_reply d)) (is_same (sym (applies-given applies) ∙ first))
+      | inr other ↦ reply-other answer other
+    ]
+    where
+      is_same : Some given ≡ Some answer → given ≡ answer
+      is_same e = cc

@@ -1,8 +1,6 @@
 -- The tables after what a panel asks, said of the tables before it and of the plan.
 use Rattle.std.specs.Prelude.{◌-◌, List, [], ◌∷◌, ◌++◌, Option, Some, None}
 use Rattle.points.specs.declared.answer.Answer.{Answer}
-use Rattle.points.specs.declared.answer.Answer.TheVariants.{Refused}
-use Rattle.points.specs.declared.rule.Rule.TheVariants.{NoSuchPoint}
 use Rattle.points.specs.declared.command_row.CommandState.TheVariants.{Parked, Answered}
 use Rattle.points.specs.PriorityArray.{Places}
 use Rattle.store.specs.declared.change.KeptRow.{KeptRow}
@@ -52,7 +50,7 @@ moved building panel plan tables = record {
   last_tick = tables.last_tick;
 }
 
--- the answer of the first of a panel's commands; of none it means nothing
-abbrev pub first_answer : Building → (Text → Places) → Text → List NumberedContent → Answer
-first_answer building places panel [] = Refused NoSuchPoint
-first_answer building places panel (entry ∷ entries) = answer_to building places panel entry.content
+-- the answer of the first of a panel's commands
+abbrev pub first_answer : Building → (Text → Places) → Text → List NumberedContent → Option Answer
+first_answer building places panel [] = None
+first_answer building places panel (entry ∷ entries) = Some (answer_to building places panel entry.content)

@@ -1,21 +1,29 @@
 -- A plan's change makes the tables of the plan.
-use Rattle.std.proofs.Common.{◌≡◌, ◌⊎◌, ◌++◌, true, false, List, [], ◌∷◌, Some, None, Result, IfOk, refl, sym, ap, ◌∙◌, inl, inr}
+use Rattle.std.proofs.Common.{◌≡◌, ◌⊎◌, ◌++◌, true, false, List, ℕ, ℤ, [], ◌∷◌, Option, Some, None, Result, Ok, Err, IfOk, refl, sym, subst, ap, ◌∙◌, inl, inr}
 use Rattle.std.specs.Result.{result_err}
 use Rattle.points.specs.declared.answer.Answer.{Answer}
+use Rattle.points.specs.declared.answer.Answer.TheVariants.{Refused}
+use Rattle.points.specs.declared.rule.Rule.TheVariants.{NoSuchPoint}
 use Rattle.points.specs.PriorityArray.{Places}
 use Rattle.store.specs.declared.change.Change.{Change}
 use Rattle.store.specs.declared.fault.StoreFault.{StoreFault}
+use Rattle.store.specs.declared.fault.StoreFault.TheVariants.{BadRow, Failed, Shut}
 use Rattle.store.specs.Change.{with_change, with_each, with_imported, with_last_tick, with_next, with_place, with_row, with_shown, without_rows}
-use Rattle.store.specs.Standing.{Commits, Content, Makes, Reads, Standing}
+use Rattle.store.specs.Standing.{Commits, Content, Goes, IsOpen, Makes, Reads, Standing}
 use Rattle.store.specs.Tables.{Tables}
 use Rattle.points.specs.Texts.{Text}
-use Rattle.store.proofs.ReadLemmas.{Commits-then}
+use Rattle.store.proofs.ReadLemmas.{Commits-then, Goes-reported}
 use Rattle.window.specs.declared.numbered_content.NumberedContent.{NumberedContent}
 use Rattle.window.specs.declared.plan.Plan.{Plan}
+use Rattle.window.specs.declared.verdict.Verdict.{Verdict}
+use Rattle.window.specs.declared.verdict.Verdict.TheVariants.{Applies}
 use Rattle.building.specs.Building.{Building}
+use Rattle.deliveries.specs.declared.reply.Reply.{Reply}
+use Rattle.deliveries.specs.Reply.{reply_on}
+use Rattle.deliveries.proofs.MovedLemmas.{is_applies}
 use Rattle.deliveries.specs.Moved.{answered_rows, first_answer, moved, parked_rows, places_after_each}
 use Rattle.desk_commands.specs.declared.acting.Acted.{Acted}
-use Rattle.desk_commands.specs.Carried.{Becomes, Carries, IsChangeOf, first_answer_in}
+use Rattle.desk_commands.specs.Carried.{Becomes, Carries, IsChangeOf, Replies, first_answer_in}
 use Rattle.desk_commands.specs.Written.{written}
 
 pub change-moved : (b : Building) (p : Text) (plan : Plan) (acted : Acted) (change : Change) (held : Tables)
@@ -41,38 +49,62 @@ pub first_answer_in-answered : (b : Building) (held : Text → Places) (p : Text
 first_answer_in-answered b held p [] = refl
 first_answer_in-answered b held p (entry ∷ entries) = refl
 
--- a read that tells a fault carries out nothing
-pub Carries-read : (b : Building) (p : Text) (plan : Plan) (result : Result Answer StoreFault) (fault : StoreFault) (old new : Standing)
-    → result_err result ≡ Some fault
-    → (new.is_honest → IfOk result (λ answer. answer ≡ first_answer b old.content.tables.places p plan.apply))
-    → Reads (result_err result) old new → Carries b p plan result old new
-Carries-read b p plan result fault old new reported answer reads = record {
-  goes = reads.goes;
-  answer = answer;
-  made = λ honest none. absurd (some_none (sym reported ∙ none));
-  unchanged = λ honest going other is. reads.kept honest (λ failed. still going (reads.goes.failed failed).0);
-  left = λ honest was content left. inl (reads.left honest was content left);
-  bad_row = reads.bad_row;
-}
+-- only a verdict that applies, with no answer, has no reply: it is S5
+pub reply-lacking : (v : Verdict) (next later : ℕ) (z : ℤ) (answer : Option Answer) (fault : StoreFault)
+    → Replies v next later z answer (Err fault)
+    → (fault ≡ BadRow) × ((v ≡ Applies) × (answer ≡ None))
+reply-lacking v next later z (Some given) fault replies = let no : Err fault ≡ Ok (reply_on v next later z given) = replies.answered in absurd cc
+reply-lacking v next later z None fault replies = elim (is_applies v) [
+    | inl applies ↦ (same (ap result_err (replies.none refl applies)), (applies, refl))
+    | inr other ↦
+        let any = Refused NoSuchPoint in
+        let no : Err fault ≡ Ok (reply_on v next later z any) = replies.other any other in
+        absurd cc
+  ]
   where
-    some_none : Some fault ≡ None → ⊥
+    same : Some fault ≡ Some BadRow → fault ≡ BadRow
+    same e = cc
+
+-- a reply without its answer, behind reads: nothing is committed
+pub Carries-lacking : (b : Building) (p : Text) (plan : Plan) (next : ℕ) (z : ℤ) (answer : Option Answer) (fault : StoreFault)
+    (first second : Standing)
+    → Replies plan.verdict next plan.next z answer (Err fault)
+    → (second.is_honest → answer ≡ first_answer b first.content.tables.places p plan.apply)
+    → Reads None first second → Carries b p plan next z (Err fault) first second
+Carries-lacking b p plan next z answer fault first second replies given reads =
+    let lacking = reply-lacking plan.verdict next plan.next z answer fault replies in
+    subst (λ f. Carries b p plan next z (Err f) first second) (sym lacking.0) (record {
+      goes = Goes-reported BadRow first second reads.goes (λ e. cc) (λ e. cc);
+      reply = λ honest. tt;
+      made = λ honest none. absurd (some_none none);
+      unchanged = λ honest going other is. reads.kept honest (λ e. none_some e);
+      left = λ honest was content left. inl (reads.left honest was content left);
+      bad_row = λ honest bad. inr (record { verdict = lacking.1.0; apply = nothing plan.apply (sym (given honest) ∙ lacking.1.1) });
+    })
+  where
+    some_none : Some BadRow ≡ None → ⊥
     some_none e = cc
 
-    still : new.is_shut ≡ false → new.is_shut ≡ true → ⊥
-    still going shut = cc
+    none_some : None ≡ Some Failed → ⊥
+    none_some e = cc
+
+    nothing : (entries : List NumberedContent) → first_answer b first.content.tables.places p entries ≡ None → entries ≡ []
+    nothing [] none = refl
+    nothing (entry ∷ entries) none = absurd cc
 
 -- a commit behind reads carries out the plan
-pub Carries-committed : (b : Building) (p : Text) (plan : Plan) (change : Change) (result : Result Answer StoreFault)
+pub Carries-committed : (b : Building) (p : Text) (plan : Plan) (next : ℕ) (z : ℤ) (change : Change) (result : Result Reply StoreFault)
     (first second third : Standing)
-    → (third.is_honest → IfOk result (λ answer. answer ≡ first_answer b first.content.tables.places p plan.apply))
+    → (third.is_honest → IfOk result (λ reply.
+        Replies plan.verdict next plan.next z (first_answer b first.content.tables.places p plan.apply) (Ok reply)))
     → Reads None first second → Commits change (result_err result) second third
     → (third.is_honest → with_change change first.content.tables ≡ moved b p plan first.content.tables)
-    → Carries b p plan result first third
-Carries-committed b p plan change result first second third answer reads commits makes =
+    → Carries b p plan next z result first third
+Carries-committed b p plan next z change result first second third replies reads commits makes =
     let whole = Commits-then change (result_err result) first second third reads commits in
     record {
       goes = whole.goes;
-      answer = answer;
+      reply = replies;
       made = λ honest none. becomes honest third.content (whole.made honest none);
       unchanged = whole.unchanged;
       left = λ honest was content left. made_or_not honest content (whole.left honest was content left);
@@ -87,3 +119,21 @@ Carries-committed b p plan change result first second third answer reads commits
         → (content ≡ first.content) ⊎ Becomes (moved b p plan first.content.tables) first.content content
     made_or_not honest content (inl same) = inl same
     made_or_not honest content (inr made) = inr (becomes honest content made)
+
+-- a store that stays open and reports that a row cannot stand
+pub Goes-bad_row : (old : Standing) → IsOpen old → Goes (Some BadRow) old old
+Goes-bad_row old is_open = Goes-reported BadRow old old is_open.goes not_shut not_failed
+  where
+    not_shut : Some BadRow ≡ Some Shut → ⊥
+    not_shut e = cc
+
+    not_failed : Some BadRow ≡ Some Failed → ⊥
+    not_failed e = cc
+
+-- where nothing is carried out, the reply is all: it is made over a store that is open
+pub reply-goes : (v : Verdict) (next later : ℕ) (z : ℤ) (answer : Option Answer) (result : Result Reply StoreFault) (old : Standing)
+    → Replies v next later z answer result → IsOpen old → Goes (result_err result) old old
+reply-goes v next later z answer (Ok reply) old replies is_open = is_open.goes
+reply-goes v next later z answer (Err fault) old replies is_open =
+    let lacking = reply-lacking v next later z answer fault replies in
+    subst (λ f. Goes (Some f) old old) (sym lacking.0) (Goes-bad_row old is_open)

@@ -1,5 +1,5 @@
 -- One delivery, from its plan.
-use Rattle.std.proofs.Common.{◌≡◌, ◌⊎◌, ℕ, ◌+◌, ◌≤◌, ◌++◌, true, false, List, [], ◌∷◌, Option, Some, None, is_some, Ok, Err, IfSome}
+use Rattle.std.proofs.Common.{◌≡◌, ◌⊎◌, ℕ, ◌+◌, ◌≤◌, ◌++◌, true, false, List, [], ◌∷◌, Option, Some, None, is_some, Result, Ok, Err, IfSome}
 use Rattle.std.proofs.Common.{refl, sym, ap, ◌∙◌, subst, arith, inl, inr, nat_le, ℤ}
 use Rattle.std.specs.List.{list_all}
 use Rattle.std.specs.Option.{option_map_or}
@@ -26,16 +26,21 @@ use Rattle.window.specs.View.{row_asked}
 use Rattle.window.proofs.PlanLemmas.{applied-same_front}
 use Rattle.building.specs.Building.{Building}
 use Rattle.deliveries.specs.declared.delivery.Delivery.{Delivery}
+use Rattle.deliveries.specs.declared.reply.Reply.{Reply}
 use Rattle.deliveries.specs.Accepted.{panel_named, panel_of, taken_by}
 use Rattle.deliveries.specs.Moved.{first_answer, moved}
-use Rattle.deliveries.specs.Reply.{reply, reply_on}
+use Rattle.deliveries.specs.Reply.{number_in_reply, reply, reply_on}
 use Rattle.deliveries.specs.Tables.{tables}
-use Rattle.deliveries.proofs.MovedLemmas.{reply-moved, tables-moved}
+use Rattle.deliveries.proofs.MovedLemmas.{has_answer, is_applies, reply-answered, reply-other, tables-moved}
 use Rattle.deliveries.proofs.RangeLemmas.{applied-in_range, front_greatest, front_least, parked-in_range}
 use Rattle.deliveries.proofs.StepLemmas.{Asks, tables-unmoved, taken-here}
-use Rattle.desk_commands.specs.Carried.{Becomes, Carries, is_in_range, is_number}
+use Rattle.desk_commands.specs.Carried.{Becomes, Carries, Replies, is_in_range, is_number}
 use Rattle.deliveries.specs.Delivered.{Delivers, Holds}
 use Rattle.desk_commands.specs.Planned.{IsPlanned}
+
+abbrev reply_in : Reply → Result Reply StoreFault → Reply
+reply_in other (Ok reply) = reply
+reply_in other (Err fault) = other
 
 module _ (b : Building) (E : List Delivery) (d : Delivery) (ask : asks.Ask) (panel : Panel) (next : ℕ) (number : ℤ) (plan : Plan)
     (known : panel_named b panel.name ≡ Some panel) (is : IsPlanned b E d ask panel.name next number plan) where
@@ -51,19 +56,35 @@ module _ (b : Building) (E : List Delivery) (d : Delivery) (ask : asks.Ask) (pan
   next-front : next ≡ asks.front before
   next-front = is.next_is ∙ ap (λ p. asks.front (taken_by b p E)) (sym is.of_panel)
 
-  -- the reply that a plan tells
-  reply-planned : (answer : Answer) → answer ≡ first_answer b (tables b E).places (panel_of d) plan.apply
-      → reply_on plan.verdict next plan.next number answer ≡ reply b E d
-  reply-planned answer first =
-      (λ i. reply_on plan.verdict (next-front i) plan.next (sym is.number_is i) (first i)) ∙ sym (reply-moved b E d ask plan asking plans)
+  reply-by : (given : Answer) → reply b E d ≡ reply_on plan.verdict (asks.front before) plan.next (number_in_reply d) given
+      → reply_on plan.verdict next plan.next number given ≡ reply b E d
+  reply-by given same = (λ i. reply_on plan.verdict (next-front i) plan.next (sym is.number_is i) given) ∙ sym same
+
+  -- the reply on a plan, with the answer of its first command
+  reply-planned : (answer : Option Answer) (result : Result Reply StoreFault)
+      → answer ≡ first_answer b (tables b E).places (panel_of d) plan.apply
+      → Replies plan.verdict next plan.next number answer result
+      → result ≡ Ok (reply b E d)
+  reply-planned (Some given) result first replies =
+      replies.answered ∙ ap Ok (reply-by given (reply-answered b E d ask plan asking plans given (sym first)))
+  reply-planned None result first replies = elim (is_applies plan.verdict) [
+      | inl applies ↦ absurd (has_answer b E d ask plan asking plans applies (sym first))
+      | inr other ↦
+          let any = Refused NoSuchPoint in
+          replies.other any other ∙ ap Ok (reply-by any (reply-other b E d ask plan asking plans any other))
+    ]
 
   -- a plan that changes nothing
-  pub Delivers-unchanged : (old new : Standing) → plan.next ≡ next → plan.park ≡ None → Holds b E old → new.content ≡ old.content
-      → Delivers b E d (Ok (reply_on plan.verdict next plan.next number (Refused NoSuchPoint))) new
-  Delivers-unchanged old new stays none held same =
+  pub Delivers-unchanged : (result : Result Reply StoreFault) (old new : Standing)
+      → Replies plan.verdict next plan.next number None result → plan.next ≡ next → plan.park ≡ None → Holds b E old
+      → new.content ≡ old.content
+      → Delivers b E d result new
+  Delivers-unchanged result old new replies stays none held same =
       let still : plan.next ≡ asks.front before = stays ∙ next-front in
-      let nothing : plan.apply ≡ [] = plans.apply ∙ applied-same_front before (asks.take before ask) (sym plans.next ∙ still) in (
-        reply-planned (Refused NoSuchPoint) (sym (ap (first_answer b (tables b E).places (panel_of d)) nothing)),
+      let nothing : plan.apply ≡ [] = plans.apply ∙ applied-same_front before (asks.take before ask) (sym plans.next ∙ still) in
+      let first = sym (ap (first_answer b (tables b E).places (panel_of d)) nothing) in
+      subst (λ r. Delivers b E d r new) (sym (reply-planned None result first replies)) (
+        refl,
         same ∙ (held ∙ sym (ap sound (tables-unmoved b E d ask _ plan asking plans still none))),
       )
 
@@ -108,17 +129,19 @@ module _ (b : Building) (E : List Delivery) (d : Delivery) (ask : asks.Ask) (pan
       λ i. record { tables = (becomes.tables_are ∙ moves) i; is_sound = all_sound i }
 
   -- a plan that is carried out
-  pub Delivers-carried : (answer : Answer) (old new : Standing) → Carries b panel.name plan (Ok answer) old new → new.is_honest
+  Delivers-carried : (replied : Reply) (old new : Standing) → Carries b panel.name plan next number (Ok replied) old new → new.is_honest
       → Holds b E old
-      → Delivers b E d (Ok (reply_on plan.verdict next plan.next number answer)) new
-  Delivers-carried answer old new carries honest held =
-      let first = carries.answer honest in (
-        reply-planned answer (first ∙ (λ i. first_answer b (held i).tables.places (sym is.of_panel i) plan.apply)),
+      → Delivers b E d (Ok replied) new
+  Delivers-carried replied old new carries honest held =
+      let first : first_answer b old.content.tables.places panel.name plan.apply
+      ≡ first_answer b (tables b E).places (panel_of d) plan.apply =
+      (λ i. first_answer b (held i).tables.places (sym is.of_panel i) plan.apply) in (
+        ap (reply_in replied) (reply-planned _ (Ok replied) first (carries.reply honest)),
         becomes-moved old.content new.content held (carries.made honest refl),
       )
 
   -- or is not
-  pub Delivers-failed : (fault : StoreFault) (old new : Standing) → IsOpen old → Carries b panel.name plan (Err fault) old new
+  Delivers-failed : (fault : StoreFault) (old new : Standing) → IsOpen old → Carries b panel.name plan next number (Err fault) old new
       → new.is_honest → Holds b E old
       → Delivers b E d (Err fault) new
   Delivers-failed NoMemory old new is_open carries honest held =
@@ -134,17 +157,18 @@ module _ (b : Building) (E : List Delivery) (d : Delivery) (ask : asks.Ask) (pan
   Delivers-failed Shut old new is_open carries honest held =
       absurd (false≢true (sym (stays_open old old is_open.goes) ∙ carries.goes.shut.0 refl))
   Delivers-failed BadRow old new is_open carries honest held =
-      absurd (false≢true (sym (carries.bad_row honest refl) ∙ ap (λ (c : Content). c.is_sound) held))
+      elim (carries.bad_row honest refl) [
+        | inl unsound ↦ absurd (false≢true (sym unsound ∙ ap (λ (c : Content). c.is_sound) held))
+        | inr lacks ↦ absurd (has_answer b E d ask plan asking plans lacks.verdict
+            (ap (first_answer b (tables b E).places (panel_of d)) lacks.apply))
+      ]
 
--- a store that stays open and tells that a row cannot stand
-pub Goes-bad_row : (old : Standing) → IsOpen old → Goes (Some BadRow) old old
-Goes-bad_row old is_open = Goes-reported BadRow old old is_open.goes not_shut not_failed
-  where
-    not_shut : Some BadRow ≡ Some Shut → ⊥
-    not_shut e = cc
-
-    not_failed : Some BadRow ≡ Some Failed → ⊥
-    not_failed e = cc
+  -- so is a plan, whatever comes of it
+  pub Delivers-made : (result : Result Reply StoreFault) (old new : Standing) → IsOpen old
+      → Carries b panel.name plan next number result old new → new.is_honest → Holds b E old
+      → Delivers b E d result new
+  Delivers-made (Ok replied) old new is_open carries honest held = Delivers-carried replied old new carries honest held
+  Delivers-made (Err fault) old new is_open carries honest held = Delivers-failed fault old new is_open carries honest held
 
 pub none_of : {A : Type 0} (found : Option A) → is_some found ≡ false → found ≡ None
 none_of None none = refl

@@ -14,7 +14,7 @@ use crate::replying::reply_on;
 use crate::viewing::{view_for_command, view_for_skip};
 use building::Building;
 use deliveries::Reply;
-use points::{Answer, Content, Name, Panel, Rule};
+use points::{Content, Name, Panel};
 use std::alloc::Global;
 use store::{Store, StoreFault};
 use window::{LAST_NUMBER, Plan, plan_command, plan_skip};
@@ -51,16 +51,12 @@ fn answer_plan<S: Store>(
         → Delivers building.now earlier delivery result (S.standing store.new) }
 {
     if plan.next == next && plan.park.is_none() {
-        let nothing = Answer::Refused(Rule::NoSuchPoint);
-        return Ok(reply_on(plan.verdict, next, plan.next, number, nothing));
+        return reply_on(plan.verdict, next, plan.next, number, None);
     }
     if !is_in_range(plan) {
         return Err(StoreFault::BadRow);
     }
-    match carry_out(alloc, store, building, panel, plan) {
-        Ok(answer) => Ok(reply_on(plan.verdict, next, plan.next, number, answer)),
-        Err(fault) => Err(fault),
-    }
+    carry_out(alloc, store, building, panel, next, number, plan)
 }
 
 // Answers a command of a panel of the building, of which `next` is the next number.

@@ -13,8 +13,10 @@ ghost use Rattle.desk_commands.specs.Carried.{Carries, IsChangeOf, IsInRange, fi
 ghost use Rattle.window.specs.declared.TheConstants.{LAST_NUMBER};
 
 use crate::acting::{Acted, act_on_each};
+use crate::replying::reply_on;
 use building::Building;
-use points::{Answer, CommandRow, CommandState, Name, Panel, Rule};
+use deliveries::Reply;
+use points::{Answer, CommandRow, CommandState, Name, Panel};
 use std::alloc::{AllocError, Global};
 use store::{Change, KeptRow, NextNumber, RowsBelow, Store, StoreFault};
 use window::{LAST_NUMBER, NumberedContent, Plan, REMEMBERED};
@@ -50,21 +52,13 @@ pub fn is_in_range(plan: &Plan) -> bool
         && is_park_in_range(plan)
 }
 
-// The answer of the first command that was acted on. Where there is none it means nothing, and no reply has it.
-fn first_answer(rows: &[KeptRow]) -> Answer
+// The answer of the first command that was acted on.
+fn first_answer(rows: &[KeptRow]) -> Option<Answer>
     ensures { result ≡ first_answer_in rows.now }
 {
-    match rows.first() {
-        Some(
-            KeptRow {
-                row: CommandRow {
-                    state: CommandState::Answered(answer),
-                    ..
-                },
-                ..
-            },
-        ) => *answer,
-        _ => Answer::Refused(Rule::NoSuchPoint),
+    match rows.first()?.row.state {
+        CommandState::Answered(answer) => Some(answer),
+        CommandState::Parked => None,
     }
 }
 
@@ -116,27 +110,29 @@ fn change_of(alloc: Global, panel: Name, plan: &Plan, acted: Acted) -> Result<Ch
     Ok(change)
 }
 
-/// Acts on a plan's commands and makes the change of the plan, in one commit: the store's last call. Answers
-/// the answer of the first command.
+/// Acts on a plan's commands and makes the change of the plan, in one commit: the store's last call. The reply is made
+/// before it, with the answer of the first command, and S5 where the plan applies and has none. `next` is the panel's
+/// next number before the delivery, and `number` the one that the delivery has.
 pub fn carry_out<S: Store>(
     alloc: Global,
     store: &mut S,
     building: &Building,
     panel: &Panel,
+    next: u64,
+    number: i64,
     plan: &Plan,
-) -> Result<Answer, StoreFault>
+) -> Result<Reply, StoreFault>
     requires open { IsOpen (S.standing store.old) }
     requires known { panel_named building.now panel.now.name ≡ Some panel.now }
     requires ranges { IsInRange plan.now }
-    ensures carries { Carries building.now panel.now.name plan.now result (S.standing store.old) (S.standing store.new) }
+    ensures carries { Carries building.now panel.now.name plan.now next number result (S.standing store.old) (S.standing store.new) }
     ensures changes_once { ChangesOnce (result_err result) (S.standing store.old) (S.standing store.new) }
     ensures imported { KeepsImported (S.standing store.old) (S.standing store.new) }
 {
     let acted = act_on_each(alloc, store, building, panel, plan.apply.as_slice())?;
     let answer = first_answer(acted.rows.as_slice());
+    let reply = reply_on(plan.verdict, next, plan.next, number, answer)?;
     let change = change_of(alloc, panel.name, plan, acted)?;
-    match store.commit(&change) {
-        Ok(()) => Ok(answer),
-        Err(fault) => Err(fault),
-    }
+    store.commit(&change)?;
+    Ok(reply)
 }
