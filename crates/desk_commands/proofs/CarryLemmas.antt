@@ -1,5 +1,5 @@
 -- A plan's change makes the tables of the plan.
-use Rattle.std.proofs.Common.{◌≡◌, ◌⊎◌, ◌++◌, true, false, List, ℕ, ℤ, [], ◌∷◌, Option, Some, None, Result, Ok, Err, IfOk, refl, sym, subst, ap, ◌∙◌, inl, inr}
+use Rattle.std.proofs.Common.{◌≡◌, ◌⊎◌, ◌++◌, true, false, List, ℕ, ℤ, [], ◌∷◌, Option, Some, None, Result, Ok, Err, IfOk, refl, sym, subst, ap, ◌∙◌, inl, inr, rules}
 use Rattle.std.specs.Result.{result_err}
 use Rattle.points.specs.declared.answer.Answer.{Answer}
 use Rattle.points.specs.declared.answer.Answer.TheVariants.{Refused}
@@ -12,7 +12,7 @@ use Rattle.store.specs.Change.{with_change, with_each, with_imported, with_last_
 use Rattle.store.specs.Standing.{Commits, Content, Goes, IsOpen, Makes, Reads, Standing}
 use Rattle.store.specs.Tables.{Tables}
 use Rattle.points.specs.Texts.{Text}
-use Rattle.store.proofs.ReadLemmas.{Commits-then, Goes-reported}
+use Rattle.store.proofs.ReadLemmas.{Commits-then, Goes-reported, changes_once_reported, changes_once_then}
 use Rattle.window.specs.declared.numbered_content.NumberedContent.{NumberedContent}
 use Rattle.window.specs.declared.plan.Plan.{Plan}
 use Rattle.window.specs.declared.verdict.Verdict.{Verdict}
@@ -21,9 +21,10 @@ use Rattle.building.specs.Building.{Building}
 use Rattle.deliveries.specs.declared.reply.Reply.{Reply}
 use Rattle.deliveries.specs.Reply.{reply_on}
 use Rattle.deliveries.proofs.MovedLemmas.{is_applies}
+use Rattle.deliveries.proofs.ImportedLemmas.{imported_read, imported_then}
 use Rattle.deliveries.specs.Moved.{answered_rows, first_answer, moved, parked_rows, places_after_each}
 use Rattle.desk_commands.specs.declared.acting.Acted.{Acted}
-use Rattle.desk_commands.specs.Carried.{Becomes, Carries, IsChangeOf, Replies, first_answer_in}
+use Rattle.desk_commands.specs.Carried.{Becomes, Carries, IsChangeOf, MakesOnce, Replies, first_answer_in}
 use Rattle.desk_commands.specs.Written.{written}
 
 pub change-moved : (b : Building) (p : Text) (plan : Plan) (acted : Acted) (change : Change) (held : Tables)
@@ -55,12 +56,12 @@ pub reply-lacking : (v : Verdict) (next later : ℕ) (z : ℤ) (answer : Option 
     → (fault ≡ BadRow) × ((v ≡ Applies) × (answer ≡ None))
 reply-lacking v next later z (Some given) fault replies = let no : Err fault ≡ Ok (reply_on v next later z given) = replies.answered in absurd cc
 reply-lacking v next later z None fault replies = elim (is_applies v) [
-    | inl applies ↦ (same (ap result_err (replies.none refl applies)), (applies, refl))
-    | inr other ↦
-        let any = Refused NoSuchPoint in
-        let no : Err fault ≡ Ok (reply_on v next later z any) = replies.other any other in
-        absurd cc
-  ]
+  | inl applies ↦ (same (ap result_err (replies.none refl applies)), (applies, refl))
+  | inr other ↦
+      let any = Refused NoSuchPoint in
+      let no : Err fault ≡ Ok (reply_on v next later z any) = replies.other any other in
+      absurd cc
+]
   where
     same : Some fault ≡ Some BadRow → fault ≡ BadRow
     same e = cc
@@ -96,7 +97,7 @@ Carries-lacking b p plan next z answer fault first second replies given reads =
 pub Carries-committed : (b : Building) (p : Text) (plan : Plan) (next : ℕ) (z : ℤ) (change : Change) (result : Result Reply StoreFault)
     (first second third : Standing)
     → (third.is_honest → IfOk result (λ reply.
-        Replies plan.verdict next plan.next z (first_answer b first.content.tables.places p plan.apply) (Ok reply)))
+    Replies plan.verdict next plan.next z (first_answer b first.content.tables.places p plan.apply) (Ok reply)))
     → Reads None first second → Commits change (result_err result) second third
     → (third.is_honest → with_change change first.content.tables ≡ moved b p plan first.content.tables)
     → Carries b p plan next z result first third
@@ -137,3 +138,20 @@ reply-goes v next later z answer (Ok reply) old replies is_open = is_open.goes
 reply-goes v next later z answer (Err fault) old replies is_open =
     let lacking = reply-lacking v next later z answer fault replies in
     subst (λ f. Goes (Some f) old old) (sym lacking.0) (Goes-bad_row old is_open)
+
+-- the same behind a read
+pub makes_once-then : (fault : Option StoreFault) (first second third : Standing) → Reads None first second
+    → MakesOnce fault second third → MakesOnce fault first third
+makes_once-then fault first second third reads makes = record {
+  goes = search rules;
+  changes_once = changes_once_then fault first second third reads makes.goes.honest makes.changes_once;
+  imported = imported_then first second third reads makes.goes.honest makes.imported;
+}
+
+-- a reply alone
+pub makes_once-reply : (fault : Option StoreFault) (old : Standing) → IsOpen old → Goes fault old old → MakesOnce fault old old
+makes_once-reply fault old is_open goes = record {
+  goes = goes;
+  changes_once = changes_once_reported fault old old is_open;
+  imported = imported_read None old old is_open;
+}

@@ -14,7 +14,7 @@ use Rattle.points.specs.declared.rule.Rule.TheVariants.{NoSuchPoint}
 use Rattle.store.specs.declared.fault.StoreFault.{StoreFault}
 use Rattle.store.specs.declared.fault.StoreFault.TheVariants.{NoMemory, Failed, Shut, BadRow}
 use Rattle.store.specs.Change.{IsNumber}
-use Rattle.store.specs.Standing.{Content, Goes, IsOpen, Standing, sound}
+use Rattle.store.specs.Standing.{Content, IsOpen, Reads, Standing, sound}
 use Rattle.store.proofs.ReadLemmas.{Goes-reported, stays_open}
 use Rattle.window.specs.declared.numbered_content.NumberedContent.{NumberedContent}
 use Rattle.window.specs.declared.plan.Plan.{Plan}
@@ -27,13 +27,15 @@ use Rattle.window.proofs.PlanLemmas.{applied-same_front}
 use Rattle.building.specs.Building.{Building}
 use Rattle.deliveries.specs.declared.delivery.Delivery.{Delivery}
 use Rattle.deliveries.specs.declared.reply.Reply.{Reply}
+use Rattle.deliveries.specs.declared.reply.Reply.TheVariants.{NoPanel}
 use Rattle.deliveries.specs.Accepted.{panel_named, panel_of, taken_by}
 use Rattle.deliveries.specs.Moved.{first_answer, moved}
 use Rattle.deliveries.specs.Reply.{number_in_reply, reply, reply_on}
 use Rattle.deliveries.specs.Tables.{tables}
 use Rattle.deliveries.proofs.MovedLemmas.{has_answer, is_applies, reply-answered, reply-other, tables-moved}
 use Rattle.deliveries.proofs.RangeLemmas.{applied-in_range, front_greatest, front_least, parked-in_range}
-use Rattle.deliveries.proofs.StepLemmas.{Asks, tables-unmoved, taken-here}
+use Rattle.deliveries.proofs.DeliveredLemmas.{Delivers-read_only}
+use Rattle.deliveries.proofs.StepLemmas.{Asks, IsSent, reply-unknown, tables-unknown, tables-unmoved, taken-here}
 use Rattle.desk_commands.specs.Carried.{Becomes, Carries, Replies, is_in_range, is_number}
 use Rattle.deliveries.specs.Delivered.{Delivers, Holds}
 use Rattle.desk_commands.specs.Planned.{IsPlanned}
@@ -68,11 +70,11 @@ module _ (b : Building) (E : List Delivery) (d : Delivery) (ask : asks.Ask) (pan
   reply-planned (Some given) result first replies =
       replies.answered ∙ ap Ok (reply-by given (reply-answered b E d ask plan asking plans given (sym first)))
   reply-planned None result first replies = elim (is_applies plan.verdict) [
-      | inl applies ↦ absurd (has_answer b E d ask plan asking plans applies (sym first))
-      | inr other ↦
-          let any = Refused NoSuchPoint in
-          replies.other any other ∙ ap Ok (reply-by any (reply-other b E d ask plan asking plans any other))
-    ]
+    | inl applies ↦ absurd (has_answer b E d ask plan asking plans applies (sym first))
+    | inr other ↦
+        let any = Refused NoSuchPoint in
+        replies.other any other ∙ ap Ok (reply-by any (reply-other b E d ask plan asking plans any other))
+  ]
 
   -- a plan that changes nothing
   pub Delivers-unchanged : (result : Result Reply StoreFault) (old new : Standing)
@@ -173,3 +175,10 @@ module _ (b : Building) (E : List Delivery) (d : Delivery) (ask : asks.Ask) (pan
 pub none_of : {A : Type 0} (found : Option A) → is_some found ≡ false → found ≡ None
 none_of None none = refl
 none_of (Some x) none = absurd (false≢true (sym none))
+
+-- the delivery of a panel that the building lacks
+pub Delivers-unknown : (b : Building) (E : List Delivery) (d : Delivery) (old new : Standing) → IsSent d
+    → panel_named b (panel_of d) ≡ None → Reads None old new → new.is_honest → Holds b E old
+    → Delivers b E d (Ok NoPanel) new
+Delivers-unknown b E d old new sent unknown reads honest held =
+    Delivers-read_only b E d NoPanel old new reads honest held (sym (reply-unknown b E d sent unknown)) (tables-unknown b E d sent unknown)

@@ -11,7 +11,7 @@ use Rattle.store.specs.declared.change.KeptRow.{KeptRow}
 use Rattle.store.specs.declared.fault.StoreFault.{StoreFault}
 use Rattle.store.specs.declared.fault.StoreFault.TheVariants.{BadRow}
 use Rattle.store.specs.Change.{IsNumber}
-use Rattle.store.specs.Standing.{Content, Goes, Standing}
+use Rattle.store.specs.Standing.{ChangesOnce, Content, Goes, Standing}
 use Rattle.store.specs.Tables.{Tables}
 use Rattle.points.specs.Texts.{Text}
 use Rattle.window.specs.declared.numbered_content.NumberedContent.{NumberedContent}
@@ -22,9 +22,16 @@ use Rattle.window.specs.declared.TheConstants.{LAST_NUMBER}
 use Rattle.window.specs.Window.{remembered}
 use Rattle.building.specs.Building.{Building}
 use Rattle.deliveries.specs.declared.reply.Reply.{Reply}
+use Rattle.deliveries.specs.Delivered.{KeepsImported}
 use Rattle.deliveries.specs.Moved.{first_answer, moved, parked_rows}
 use Rattle.deliveries.specs.Reply.{reply_on}
 use Rattle.desk_commands.specs.declared.acting.Acted.{Acted}
+
+-- what a panel's delivery may do to a store: it makes one change or none, and imports nothing
+pub record MakesOnce (fault : Option StoreFault) (old new : Standing) : Type 0 where
+  pub goes : Goes fault old new
+  pub changes_once : ChangesOnce fault old new
+  pub imported : KeepsImported old new
 
 abbrev pub is_number : ℕ → Bool
 is_number number = nat_le 1 number && nat_le number LAST_NUMBER

@@ -8,6 +8,7 @@ ghost use Rattle.deliveries.specs.declared.delivery.Delivery.TheVariants as deli
 ghost use Rattle.deliveries.specs.Accepted.{number_upto, panel_named, taken_by};
 ghost use Rattle.deliveries.specs.Delivered.{Delivers, Holds, KeepsImported};
 ghost use Rattle.desk_commands.specs.Planned.{IsPlanned};
+ghost use Rattle.desk_commands.specs.Carried.{MakesOnce};
 
 use crate::carrying_out::{carry_out, is_in_range};
 use crate::replying::reply_on;
@@ -36,15 +37,13 @@ fn answer_plan<S: Store>(
     store: &mut S,
     building: &Building,
     panel: &Panel,
+    plan: &Plan,
     next: u64,
     number: i64,
-    plan: &Plan,
 ) -> Result<Reply, StoreFault>
     requires open { IsOpen (S.standing store.old) }
     requires known { panel_named building.now panel.now.name ≡ Some panel.now }
-    ensures goes { Goes (result_err result) (S.standing store.old) (S.standing store.new) }
-    ensures changes_once { ChangesOnce (result_err result) (S.standing store.old) (S.standing store.new) }
-    ensures imported { KeepsImported (S.standing store.old) (S.standing store.new) }
+    ensures makes { MakesOnce (result_err result) (S.standing store.old) (S.standing store.new) }
     ensures delivers { (earlier : List a_delivery) (delivery : a_delivery) (ask : Ask)
         → IsPlanned building.now earlier delivery ask panel.now.name next number plan.now
         → (S.standing store.new).is_honest → Holds building.now earlier (S.standing store.old)
@@ -56,7 +55,7 @@ fn answer_plan<S: Store>(
     if !is_in_range(plan) {
         return Err(StoreFault::BadRow);
     }
-    carry_out(alloc, store, building, panel, next, number, plan)
+    carry_out(alloc, store, building, panel, plan, next, number)
 }
 
 // Answers a command of a panel of the building, of which `next` is the next number.
@@ -71,9 +70,7 @@ fn answer_known_command<S: Store>(
 ) -> Result<Reply, StoreFault>
     requires open { IsOpen (S.standing store.old) }
     requires known { panel_named building.now panel.now.name ≡ Some panel.now }
-    ensures goes { Goes (result_err result) (S.standing store.old) (S.standing store.new) }
-    ensures changes_once { ChangesOnce (result_err result) (S.standing store.old) (S.standing store.new) }
-    ensures imported { KeepsImported (S.standing store.old) (S.standing store.new) }
+    ensures makes { MakesOnce (result_err result) (S.standing store.old) (S.standing store.new) }
     ensures delivers { (earlier : List a_delivery) → next ≡ front (taken_by building.now panel.now.name earlier)
         → (S.standing store.new).is_honest → Holds building.now earlier (S.standing store.old)
         → Delivers building.now earlier (delivery_of.Command panel.now.name number content.now) result (S.standing store.new) }
@@ -83,7 +80,7 @@ fn answer_known_command<S: Store>(
     };
     let view = view_for_command(alloc, store, &panel.name, next, natural)?;
     let plan = plan_command(alloc, &view, natural, content)?;
-    answer_plan(alloc, store, building, panel, next, number, &plan)
+    answer_plan(alloc, store, building, panel, &plan, next, number)
 }
 
 // Answers a skip of a panel of the building, of which `next` is the next number.
@@ -97,9 +94,7 @@ fn answer_known_skip<S: Store>(
 ) -> Result<Reply, StoreFault>
     requires open { IsOpen (S.standing store.old) }
     requires known { panel_named building.now panel.now.name ≡ Some panel.now }
-    ensures goes { Goes (result_err result) (S.standing store.old) (S.standing store.new) }
-    ensures changes_once { ChangesOnce (result_err result) (S.standing store.old) (S.standing store.new) }
-    ensures imported { KeepsImported (S.standing store.old) (S.standing store.new) }
+    ensures makes { MakesOnce (result_err result) (S.standing store.old) (S.standing store.new) }
     ensures delivers { (earlier : List a_delivery) → next ≡ front (taken_by building.now panel.now.name earlier)
         → (S.standing store.new).is_honest → Holds building.now earlier (S.standing store.old)
         → Delivers building.now earlier (delivery_of.Skip panel.now.name upto) result (S.standing store.new) }
@@ -109,7 +104,7 @@ fn answer_known_skip<S: Store>(
     };
     let view = view_for_skip(alloc, store, &panel.name, next, natural)?;
     let plan = plan_skip(alloc, &view, natural)?;
-    answer_plan(alloc, store, building, panel, next, upto, &plan)
+    answer_plan(alloc, store, building, panel, &plan, next, upto)
 }
 
 /// Carries out the command of a panel and answers it: of whatever list the store holds the tables, it then holds

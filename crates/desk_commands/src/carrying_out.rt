@@ -118,9 +118,9 @@ pub fn carry_out<S: Store>(
     store: &mut S,
     building: &Building,
     panel: &Panel,
+    plan: &Plan,
     next: u64,
     number: i64,
-    plan: &Plan,
 ) -> Result<Reply, StoreFault>
     requires open { IsOpen (S.standing store.old) }
     requires known { panel_named building.now panel.now.name ≡ Some panel.now }

@@ -6,9 +6,8 @@ use Rattle.store.specs.Standing.{sound, Content}
 use Rattle.window.specs.declared.TheConstants.{LAST_NUMBER}
 use Rattle.window.specs.Taken as asks
 use Rattle.desk_commands.specs.Planned.{IsPlanned}
+use Rattle.desk_commands.proofs.CarryLemmas.{makes_once-then}
 use Rattle.desk_commands.proofs.PlannedLemmas.{planned-command}
-use Rattle.store.proofs.ReadLemmas.{changes_once_then}
-use Rattle.deliveries.proofs.ImportedLemmas.{imported_then}
 use Rattle.desk_commands.proofs.answering.answer_known_command.Goals as goal
 
 pub returns-in_default-clause-delivers : goal.returns-in_default-clause-delivers
@@ -29,7 +28,7 @@ returns-clause-delivers g c = λ earlier next_is honest held.
     let panel = c.args.panel.now in
     let old = g.S.Store.standing c.args.store.now in
     let content = c.args.content.now in
-    let before = c.answer_plan.ensures.goes.honest honest in
+    let before = c.answer_plan.ensures.makes.goes.honest honest in
     let same = ap (λ (held : Content). held.tables) held in
     let planned = planned-command b earlier panel.name c.args.next old.content.tables same next_is c.in_ok-view.view c.in_ok-plan.plan
     c.args.number c.in-Some.natural content (ap (number_upto LAST_NUMBER) (sym whole)
@@ -39,11 +38,7 @@ returns-clause-delivers g c = λ earlier next_is honest held.
     c.args.next z c.in_ok-plan.plan) (sym whole) planned) honest
     (c.in_ok-view.ensures.reads.kept before (λ e. cc) ∙ held)
 
-pub returns-clause-changes_once : goal.returns-clause-changes_once
-returns-clause-changes_once g c =
-    changes_once_then _ _ _ _ c.in_ok-view.ensures.reads c.answer_plan.ensures.goes.honest c.answer_plan.ensures.changes_once
-
-pub returns-clause-imported : goal.returns-clause-imported
-returns-clause-imported g c =
-    imported_then (g.S.Store.standing c.args.store.now) (g.S.Store.standing c.view_for_command.new.store)
-    (g.S.Store.standing c.answer_plan.new.store) c.in_ok-view.ensures.reads c.answer_plan.ensures.goes.honest c.answer_plan.ensures.imported
+pub returns-clause-makes : goal.returns-clause-makes
+returns-clause-makes g c =
+    makes_once-then _ (g.S.Store.standing c.args.store.now) (g.S.Store.standing c.view_for_command.new.store)
+    (g.S.Store.standing c.answer_plan.new.store) c.in_ok-view.ensures.reads c.answer_plan.ensures.makes

@@ -1,14 +1,15 @@
 use Rattle.std.proofs.Common.{◌≡◌, ◌∙◌, None, sym, ap, not, refl, subst, to_z, of_z, w64, rules}
 use Rattle.std.proofs.lemmas.Bool.{false≢true}
 use Rattle.desk_commands.specs.Carried.{Carries, Replies}
-use Rattle.desk_commands.proofs.CarryLemmas.{reply-goes}
+use Rattle.desk_commands.proofs.CarryLemmas.{makes_once-reply, reply-goes}
 use Rattle.desk_commands.proofs.DeliverLemmas.{Delivers-made, Delivers-unchanged, in_range, none_of}
 use Rattle.desk_commands.proofs.answering.answer_plan.Goals as goal
 
-pub returns-then-is_none-clause-goes : goal.returns-then-is_none-clause-goes
-returns-then-is_none-clause-goes g c =
-    reply-goes c.args.plan.now.verdict c.args.next c.args.plan.now.next _ None c.reply_on.result
-    (g.S.Store.standing c.args.store.now) c.reply_on.ensures c.requires.open
+pub returns-then-is_none-clause-makes : goal.returns-then-is_none-clause-makes
+returns-then-is_none-clause-makes g c =
+    let old = g.S.Store.standing c.args.store.now in
+    makes_once-reply _ old c.requires.open
+    (reply-goes c.args.plan.now.verdict c.args.next c.args.plan.now.next _ None c.reply_on.result old c.reply_on.ensures c.requires.open)
 
 pub returns-then-is_none-clause-delivers : goal.returns-then-is_none-clause-delivers
 returns-then-is_none-clause-delivers g c = λ earlier delivery ask planned honest held.

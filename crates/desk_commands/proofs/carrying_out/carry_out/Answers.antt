@@ -29,9 +29,9 @@ answered g c honest =
 -- what the commit makes
 carried : (g : given.Over) (c : After-commit g) (result : Result Reply StoreFault)
     → ((g.S.Store.standing c.commit.new.self).is_honest → IfOk result (λ reply.
-        Replies c.args.plan.now.verdict c.args.next c.args.plan.now.next c.args.number
-        (first_answer c.args.building.now (g.S.Store.standing c.args.store.now).content.tables.places c.args.panel.now.name c.args.plan.now.apply)
-        (Ok reply)))
+    Replies c.args.plan.now.verdict c.args.next c.args.plan.now.next c.args.number
+    (first_answer c.args.building.now (g.S.Store.standing c.args.store.now).content.tables.places c.args.panel.now.name c.args.plan.now.apply)
+    (Ok reply)))
     → Commits c.in_ok-change.change (result_err result) (g.S.Store.standing c.act_on_each.new.store) (g.S.Store.standing c.commit.new.self)
     → Carries c.args.building.now c.args.panel.now.name c.args.plan.now c.args.next c.args.number result
     (g.S.Store.standing c.args.store.now) (g.S.Store.standing c.commit.new.self)
