@@ -1,5 +1,7 @@
-use Rattle.std.proofs.Common.{◌≡◌, ◌∙◌, ◌-◌, [], None, length, sym, ap, subst, rules}
+use Rattle.std.proofs.Common.{◌≡◌, ◌∙◌, ◌-◌, [], List, None, length, sym, ap, subst, rules}
+use Rattle.deliveries.specs.declared.delivery.Delivery.{Delivery as a_delivery}
 use Rattle.deliveries.specs.declared.delivery.Delivery.TheVariants.{Import}
+use Rattle.deliveries.specs.Delivered.{Holds}
 use Rattle.deliveries.specs.declared.reply.Reply.TheVariants.{Imported}
 use Rattle.deliveries.specs.Clocked.{Settles}
 use Rattle.deliveries.specs.Events.{machine}
@@ -10,66 +12,67 @@ use Rattle.desk_settling.specs.Calendars.{Tells, with_items}
 use Rattle.store.specs.Standing.{Content}
 use Rattle.store.proofs.ReadLemmas.{Reads-then, changes_once_commit, kept-read}
 use Rattle.desk_clock.proofs.ClockedLemmas.{Settled-over, Tells-held, imported-reply, none_in, reply-known, imported-tables, last_of-held}
+use Rattle.desk_clock.proofs.importing.import.Given as given
+use Rattle.desk_clock.proofs.importing.import.Goals.{After-commit}
 use Rattle.desk_clock.proofs.importing.import.Goals as goal
+
+-- the items that are added
+added_are : (g : given.Over) (c : After-commit g) (earlier : List a_delivery) → (g.S.Store.standing c.commit.new.self).is_honest
+    → Holds c.args.building.now earlier (g.S.Store.standing c.args.store.now)
+    → c.in_ok-items.items.items ≡ added c.args.building.now (machine c.args.building.now earlier).imported c.args.rows.now
+added_are g c earlier honest held =
+    c.in_ok-items.ensures.added (c.in_ok-change.ensures.reads.goes.honest (c.commit.ensures.commits.goes.honest honest))
+    (machine c.args.building.now earlier).imported
+    (Tells-held c.args.building.now earlier (g.S.Store.standing c.args.store.now) held)
+
+-- the change settles the schedules beside them
+settled : (g : given.Over) (c : After-commit g) (earlier : List a_delivery)
+    → c.args.last ≡ (g.S.Store.standing c.args.store.now).content.tables.last_tick → (g.S.Store.standing c.commit.new.self).is_honest
+    → Holds c.args.building.now earlier (g.S.Store.standing c.args.store.now)
+    → Settled-over c.args.building.now (g.S.Store.standing c.args.store.now) c.in_ok-items.items.items
+    (local_of c.args.building.now (machine c.args.building.now earlier).last_tick) None c.in_ok-change.change
+settled g c earlier last_is honest held = λ imported tells.
+    let b = c.args.building.now in
+    let first = g.S.Store.standing c.args.store.now in
+    let changed = c.commit.ensures.commits.goes.honest honest in
+    let kept = kept-read first (g.S.Store.standing c.added_items.new.store) c.in_ok-items.ensures.reads
+    (c.in_ok-change.ensures.reads.goes.honest changed) in
+    let items = c.in_ok-items.items.items in
+    let change = c.in_ok-change.change in
+    let here = subst (λ (content : Content). Tells content.tables.imported imported) (sym kept) tells in
+    subst (λ local. Settles b (with_items imported items) first.content.tables.shown local items None change)
+    (c.local_of-local.ensures ∙ ap (local_of b) (last_is ∙ last_of-held b earlier first held))
+    (subst (λ (content : Content). Settles b (with_items imported items) content.tables.shown c.local_of-local.result items None
+    change) kept (c.in_ok-change.ensures.settles changed imported here))
 
 pub returns-in-Ok-clause-delivers : goal.returns-in-Ok-clause-delivers
 returns-in-Ok-clause-delivers g c = λ earlier none last_is honest held.
+    let at = (goal.at.returns-in-Ok-clause-delivers g c).After-commit in
     let b = c.args.building.now in
     let rows = c.args.rows.now in
     let change = c.in_ok-change.change in
     let first = g.S.Store.standing c.args.store.now in
-    let read = g.S.Store.standing c.added_items.new.store in
-    let second = g.S.Store.standing c.settled_change.new.store in
-    let third = g.S.Store.standing c.commit.new.self in
-    let commits = c.in-Ok.ensures.commits in
-    let changed = commits.goes.honest honest in
-    let added_before = c.in_ok-change.ensures.reads.goes.honest changed in
-    let reads = Reads-then None first read second c.in_ok-items.ensures.reads c.in_ok-change.ensures.reads in
-    let kept = kept-read first read c.in_ok-items.ensures.reads added_before in
     let items = c.in_ok-items.items.items in
-    let items_are = c.in_ok-items.ensures.added added_before (machine b earlier).imported (Tells-held b earlier first held) in
-    let last = last_is ∙ last_of-held b earlier first held in
-    let settles : Settled-over b first items (local_of b (machine b earlier).last_tick) None change = λ imported tells.
-    let here = subst (λ (content : Content). Tells content.tables.imported imported) (sym kept) tells in
-    let raw = c.in_ok-change.ensures.settles changed imported here in
-    subst (λ local. Settles b (with_items imported items) first.content.tables.shown local items None change)
-    (c.local_of-local.ensures ∙ ap (local_of b) last)
-    (subst (λ (content : Content). Settles b (with_items imported items) content.tables.shown c.local_of-local.result items None
-    change) kept raw) in
+    let items_are = added_are g at earlier honest held in
+    let settles = settled g at earlier last_is honest held in
     let count : c.len.result ≡ length change.places.items = search rules in
     let new : c.len-added.result ≡ length items = search rules in
     let known : c.saturating_sub.result ≡ length rows - length items = search rules in
-    Delivers-made b earlier (Import rows) change first second third reads honest held
-    (imported-tables b earlier first held rows none items items_are change settles) _ commits
+    Delivers-made b earlier (Import rows) change first _ (g.S.Store.standing c.commit.new.self)
+    (Reads-then None _ _ _ c.in_ok-items.ensures.reads c.in_ok-change.ensures.reads) honest held
+    (imported-tables b earlier first held rows none items items_are change settles) _ c.in-Ok.ensures.commits
     ((λ i. Imported (new i) (known i) c.len.result)
     ∙ imported-reply b earlier first held rows none items items_are change settles c.len.result count)
 
 pub returns-clause-delivers : goal.returns-clause-delivers
 returns-clause-delivers g c = λ earlier none last_is honest held.
+    let at = (goal.at.returns-clause-delivers g c).After-commit in
     let b = c.args.building.now in
-    let rows = c.args.rows.now in
-    let change = c.in_ok-change.change in
     let first = g.S.Store.standing c.args.store.now in
-    let read = g.S.Store.standing c.added_items.new.store in
-    let second = g.S.Store.standing c.settled_change.new.store in
-    let third = g.S.Store.standing c.commit.new.self in
-    let commits = c.in-Err.ensures.commits in
-    let changed = commits.goes.honest honest in
-    let added_before = c.in_ok-change.ensures.reads.goes.honest changed in
-    let reads = Reads-then None first read second c.in_ok-items.ensures.reads c.in_ok-change.ensures.reads in
-    let kept = kept-read first read c.in_ok-items.ensures.reads added_before in
-    let items = c.in_ok-items.items.items in
-    let items_are = c.in_ok-items.ensures.added added_before (machine b earlier).imported (Tells-held b earlier first held) in
-    let last = last_is ∙ last_of-held b earlier first held in
-    let settles : Settled-over b first items (local_of b (machine b earlier).last_tick) None change = λ imported tells.
-    let here = subst (λ (content : Content). Tells content.tables.imported imported) (sym kept) tells in
-    let raw = c.in_ok-change.ensures.settles changed imported here in
-    subst (λ local. Settles b (with_items imported items) first.content.tables.shown local items None change)
-    (c.local_of-local.ensures ∙ ap (local_of b) last)
-    (subst (λ (content : Content). Settles b (with_items imported items) content.tables.shown c.local_of-local.result items None
-    change) kept raw) in
-    Delivers-not_made b earlier (Import rows) change first second third reads honest held
-    (imported-tables b earlier first held rows none items items_are change settles) c.in-Err.fault commits
+    Delivers-not_made b earlier (Import c.args.rows.now) c.in_ok-change.change first _ (g.S.Store.standing c.commit.new.self)
+    (Reads-then None _ _ _ c.in_ok-items.ensures.reads c.in_ok-change.ensures.reads) honest held
+    (imported-tables b earlier first held c.args.rows.now none c.in_ok-items.items.items (added_are g at earlier honest held)
+    c.in_ok-change.change (settled g at earlier last_is honest held)) c.in-Err.fault c.in-Err.ensures.commits
 
 pub returns-in-Ok-clause-changes_once : goal.returns-in-Ok-clause-changes_once
 returns-in-Ok-clause-changes_once g c =
