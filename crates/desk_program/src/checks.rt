@@ -24,6 +24,31 @@ fn one_of<S: Drop>(found: Result<Option<S>, OpenFault>) -> Result<S, OpenFault> 
     }
 }
 
+/// The database of a path, with the call that opens it.
+#[derive(Drop)]
+struct Found<'a, O> {
+    path: &'a str,
+    /// Whether there is nothing at the path.
+    is_missing: bool,
+    opener: O,
+}
+
+/// The store of a database, if there is one.
+fn store_of<S: Drop, O>(is_missing: bool, opener: O) -> Result<Option<S>, OpenFault>
+where
+    O: FnOnce() -> Result<S, OpenFault>,
+    O: Drop,
+    requires { O.IsAlwaysCallable opener }
+{
+    if is_missing {
+        return Ok(None);
+    }
+    match opener() {
+        Ok(store) => Ok(Some(store)),
+        Err(fault) => Err(fault),
+    }
+}
+
 /// Checks the tables in the database of a path beside the building of another. It is an error where memory for the
 /// output's buffer is refused.
 pub fn run<'a>(
@@ -37,18 +62,12 @@ pub fn run<'a>(
         path: file,
         reader: fs::open(rt, file),
     };
-    let is_missing = is_nothing_at(rt, database);
-    let opener = || one_of(find_store(rt, database));
-    Ok(run_over(
-        rt,
-        building,
-        detail,
-        database,
-        is_missing,
-        opener,
-        &mut out,
-        &mut rt.stderr(),
-    ))
+    let found = Found {
+        path: database,
+        is_missing: is_nothing_at(rt, database),
+        opener: || one_of(find_store(rt, database)),
+    };
+    Ok(run_over(rt, building, detail, found, &mut out, &mut rt.stderr()))
 }
 
 /// The same over the file and the store that is found. It is generic over them, since a call that names their types is
@@ -57,26 +76,22 @@ fn run_over<'a, B: Read + Drop, S: Store + Drop, O, W: Write, F: Write>(
     rt: &HostRuntime,
     building: Input<'a, B>,
     detail: Detail,
-    database: &'a str,
-    is_missing: bool,
-    opener: O,
+    found: Found<'a, O>,
     out: &mut W,
     fault: &mut F,
 ) -> Status
 where
     O: FnOnce() -> Result<S, OpenFault>,
-    requires { O.IsAlwaysCallable opener }
+    O: Drop,
+    requires { O.IsAlwaysCallable found.opener }
 {
-    let finder = || {
-        if is_missing {
-            return Ok(None);
-        }
-        match opener() {
-            Ok(store) => Ok(Some(store)),
-            Err(fault) => Err(fault),
-        }
-    };
-    check_database(rt.alloc(), building, detail, database, finder, out, fault).status
+    let Found {
+        path,
+        is_missing,
+        opener,
+    } = found;
+    let finder = move || store_of(is_missing, opener);
+    check_database(rt.alloc(), building, detail, path, finder, out, fault).status
 }
 
 /// Compares the tables in the database of a path with those that the record of another leaves in a building. It is an
@@ -96,18 +111,12 @@ pub fn run_record<'a>(
         path: record,
         open: || BufReader::new(rt.alloc(), fs::open(rt, record)?),
     };
-    let is_missing = is_nothing_at(rt, database);
-    let opener = || one_of(find_store(rt, database));
-    Ok(run_record_over(
-        rt,
-        building,
-        list,
-        database,
-        is_missing,
-        opener,
-        &mut out,
-        &mut rt.stderr(),
-    ))
+    let found = Found {
+        path: database,
+        is_missing: is_nothing_at(rt, database),
+        opener: || one_of(find_store(rt, database)),
+    };
+    Ok(run_record_over(rt, building, list, found, &mut out, &mut rt.stderr()))
 }
 
 /// The same over the files and the store that is found, and generic over them too.
@@ -115,26 +124,22 @@ fn run_record_over<'a, B: Read + Drop, D: Read + Drop, P, S: Store + Drop, O, W:
     rt: &HostRuntime,
     building: Input<'a, B>,
     list: Listed<'a, P>,
-    database: &'a str,
-    is_missing: bool,
-    opener: O,
+    found: Found<'a, O>,
     out: &mut W,
     fault: &mut F,
 ) -> Status
 where
     P: FnOnce() -> io::Result<BufReader<D>>,
     O: FnOnce() -> Result<S, OpenFault>,
+    O: Drop,
     requires list { P.IsAlwaysCallable list.open }
-    requires found { O.IsAlwaysCallable opener }
+    requires opens { O.IsAlwaysCallable found.opener }
 {
-    let finder = || {
-        if is_missing {
-            return Ok(None);
-        }
-        match opener() {
-            Ok(store) => Ok(Some(store)),
-            Err(fault) => Err(fault),
-        }
-    };
-    check_record(rt.alloc(), building, list, database, finder, out, fault).status
+    let Found {
+        path,
+        is_missing,
+        opener,
+    } = found;
+    let finder = move || store_of(is_missing, opener);
+    check_record(rt.alloc(), building, list, path, finder, out, fault).status
 }

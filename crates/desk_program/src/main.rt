@@ -106,56 +106,40 @@ fn run_describe(rt: &HostRuntime, file: &str) -> io::Result<Status> {
     Ok(describe(alloc, building, &mut out, &mut rt.stderr()))
 }
 
-fn run_replay(
+/// What a run over a list of deliveries prints.
+#[derive(Clone, Copy)]
+enum ListRun<'a> {
+    /// The replies and then the points, up to a moment: `desk replay`.
+    Replay { until: Option<i64> },
+    /// The list that a perfect network would have brought: `desk straighten`.
+    Straighten,
+    /// What each place of a point has, up to a moment, and why: `desk why`.
+    Why { point: &'a str, until: Option<i64> },
+}
+
+/// Makes a run over the building and the list of these paths. It is an error where memory for the output's buffer is
+/// refused.
+fn run_list(
     rt: &HostRuntime,
     file: &str,
     deliveries: &str,
-    until: Option<i64>,
+    run: ListRun<'_>,
 ) -> io::Result<Status> {
     let alloc = rt.alloc();
     let mut out = BufWriter::new(alloc, io::writer(rt))?;
+    let fault = &mut rt.stderr();
     let building = building_at(rt, file);
     let list = Listed {
         path: deliveries,
         open: || open_list(rt, deliveries),
     };
-    Ok(replay(alloc, building, list, until, &mut out, &mut rt.stderr()))
-}
-
-fn run_why(
-    rt: &HostRuntime,
-    file: &str,
-    deliveries: &str,
-    point: &str,
-    until: Option<i64>,
-) -> io::Result<Status> {
-    let alloc = rt.alloc();
-    let mut out = BufWriter::new(alloc, io::writer(rt))?;
-    let building = building_at(rt, file);
-    let list = Listed {
-        path: deliveries,
-        open: || open_list(rt, deliveries),
-    };
-    Ok(why(
-        alloc,
-        building,
-        list,
-        point,
-        until,
-        &mut out,
-        &mut rt.stderr(),
-    ))
-}
-
-fn run_straighten(rt: &HostRuntime, file: &str, deliveries: &str) -> io::Result<Status> {
-    let alloc = rt.alloc();
-    let mut out = BufWriter::new(alloc, io::writer(rt))?;
-    let building = building_at(rt, file);
-    let list = Listed {
-        path: deliveries,
-        open: || open_list(rt, deliveries),
-    };
-    Ok(straighten(alloc, building, list, &mut out, &mut rt.stderr()))
+    Ok(match run {
+        ListRun::Replay { until } => replay(alloc, building, list, until, &mut out, fault),
+        ListRun::Straighten => straighten(alloc, building, list, &mut out, fault),
+        ListRun::Why { point, until } => {
+            why(alloc, building, list, point, until, &mut out, fault)
+        }
+    })
 }
 
 /// The status of words that ask nothing, once their text is printed.
@@ -226,7 +210,7 @@ fn run(rt: &HostRuntime, words: &[String]) -> io::Result<Status> {
                 deliveries,
                 until,
             },
-        ) => run_replay(rt, file, deliveries, until),
+        ) => run_list(rt, file, deliveries, ListRun::Replay { until }),
         Ok(
             Line::Why {
                 file,
@@ -234,8 +218,10 @@ fn run(rt: &HostRuntime, words: &[String]) -> io::Result<Status> {
                 point,
                 until,
             },
-        ) => run_why(rt, file, deliveries, point, until),
-        Ok(Line::Straighten { file, deliveries }) => run_straighten(rt, file, deliveries),
+        ) => run_list(rt, file, deliveries, ListRun::Why { point, until }),
+        Ok(Line::Straighten { file, deliveries }) => {
+            run_list(rt, file, deliveries, ListRun::Straighten)
+        }
         Ok(
             Line::Import {
                 file,

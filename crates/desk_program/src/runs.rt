@@ -56,7 +56,19 @@ where
     }
 }
 
-/// The same over the store that is opened, whose answers are remembered as long as the run lasts.
+/// The same end, with the store below the one that remembers.
+fn below_of<S: Store + Drop>(ended: Ended<Remembered<S>>) -> Ended<S> {
+    let Ended { status, store } = ended;
+    let store = match store {
+        Some(store) => Some(store.into_below()),
+        None => None,
+    };
+    Ended { status, store }
+}
+
+/// The same over the files and the store that these calls open, and over the real file of the record; what the store
+/// answers is remembered as long as the run lasts. A call that names the types of both a real store and a real record
+/// takes more steps than the prover gives one declaration.
 fn run_remembered<'a, B: Read + Drop, S: Store + Drop, I, O, W: Write, F: Write>(
     rt: &HostRuntime,
     file: &'a str,
@@ -75,42 +87,11 @@ where
 {
     let alloc = rt.alloc();
     let opener = move || remembered(alloc, opener);
-    below_of(run_kept(rt, file, input_of, opener, record, run, out, fault))
-}
-
-/// The same end, with the store below the one that remembers.
-fn below_of<S: Store + Drop>(ended: Ended<Remembered<S>>) -> Ended<S> {
-    let Ended { status, store } = ended;
-    let store = match store {
-        Some(store) => Some(store.into_below()),
-        None => None,
-    };
-    Ended { status, store }
-}
-
-/// The same over the files and the store that these calls open, and over the real file of the record. A call that names
-/// the types of both a real store and a real record takes more steps than the prover gives one declaration.
-fn run_kept<'a, B: Read + Drop, S: Store + Drop, I, O, W: Write, F: Write>(
-    rt: &HostRuntime,
-    file: &'a str,
-    input_of: I,
-    opener: O,
-    record: Option<&'a str>,
-    run: &DatabaseRun<'a>,
-    out: &mut W,
-    fault: &mut F,
-) -> Ended<S>
-where
-    I: Fn(&'a str) -> Input<'a, B>,
-    O: FnOnce() -> Result<S, OpenFault>,
-    requires reads { I.IsAlwaysCallable input_of }
-    requires opens { O.IsAlwaysCallable opener }
-{
     let recording = Recording {
         path: record,
         opener: || open_record(rt, record.unwrap_or("")),
     };
-    run_over(rt, file, input_of, opener, recording, run, out, fault)
+    below_of(run_over(rt, file, input_of, opener, recording, run, out, fault))
 }
 
 /// Makes a run over the files, the store and the record that these calls open. It is generic over them, since a call
