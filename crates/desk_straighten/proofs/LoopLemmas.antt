@@ -1,12 +1,17 @@
 -- One delivery more, and one panel more.
-use Rattle.std.proofs.Common.{◌≡◌, List, [], ◌∷◌, ◌++◌, sym, ap, ◌∙◌, append_assoc}
+use Rattle.std.proofs.Common.{◌≡◌, ℕ, ◌+◌, ◌<◌, List, [], ◌∷◌, ◌++◌, length, take, get_or, sym, ap, ◌∙◌, append_assoc}
 use Rattle.std.specs.List.{flat_map}
 use Rattle.std.proofs.lemmas.Grind.{flat_map-append}
-use Rattle.std.proofs.lemmas.List.{append-nil}
+use Rattle.std.proofs.lemmas.List.{append-nil, take_more}
 use Rattle.building.specs.Building.{Building}
 use Rattle.deliveries.specs.declared.delivery.Delivery.{Delivery}
 use Rattle.points.specs.declared.panel.Panel.{Panel}
 use Rattle.deliveries_straight.specs.StraightList.{parked_of, straightened_after, straightened_by}
+
+-- the items up to the next one
+pub taken-more : {A : Type 0} (all : List A) (at : ℕ) (item : A) → at < length all → item ≡ get_or all at item
+    → take (at + 1) all ≡ take at all ++ item ∷ []
+taken-more all at item within is = take_more all at item within ∙ ap (λ x. take at all ++ x ∷ []) (sym is)
 
 straightened_after-push : (b : Building) (E ds : List Delivery) (d : Delivery)
     → straightened_after b E (ds ++ d ∷ []) ≡ straightened_after b E ds ++ straightened_by b (E ++ ds) d

@@ -1,5 +1,5 @@
 use Rattle.std.proofs.Common.{◌≡◌, ◌∙◌, ℤ, ◌+◌, ◌++◌, ◌∷◌, [], List, take, sym, ap, subst, arith, to_z, of_z, w64, rules}
-use Rattle.std.proofs.lemmas.List.{take_more, take_all}
+use Rattle.std.proofs.lemmas.List.{take_all}
 use Rattle.deliveries.specs.declared.delivery.Delivery.{Delivery}
 use Rattle.deliveries.specs.Delivered.{Holds}
 use Rattle.deliveries.proofs.EmptyLemmas.{tables-none}
@@ -11,6 +11,7 @@ use Rattle.points.specs.Texts.{Text}
 use Rattle.desk_authors.specs.declared.author.Place.{Place}
 use Rattle.desk_authors.specs.Turns.{places_along}
 use Rattle.desk_authors.proofs.EventLemmas.{places-more, places-none, tables-places}
+use Rattle.desk_straighten.proofs.LoopLemmas.{taken-more}
 use Rattle.desk_authors.proofs.NextLemmas.{changes-held}
 use Rattle.desk_authors.proofs.walking.point_after.Goals as goal
 
@@ -23,17 +24,15 @@ loop-delivery-init c = record {
 pub loop-delivery-preserved : goal.loop-delivery-preserved
 loop-delivery-preserved c =
     let b = c.args.building.now in
-    let all = c.args.deliveries.now in
-    let at = c.loop-delivery.delivery-index in
-    let ds = take at all in
+    let ds = take c.loop-delivery.delivery-index c.args.deliveries.now in
     let d = c.delivery-item.result in
+    let more =
+    taken-more c.args.deliveries.now c.loop-delivery.delivery-index d (omega (arith, c.loop-delivery-test.true)) c.delivery-item.is in
     let so_far = c.loop-delivery.invariant in
-    let more : take (at + 1) all ≡ ds ++ d ∷ [] =
-    take_more all at d (omega (arith, c.loop-delivery-test.true)) ∙ ap (λ (x : Delivery). ds ++ x ∷ []) (sym c.delivery-item.is) in
     record {
       holds = subst (λ (E : List Delivery). Holds b E (standing_of c.follow.new.store)) (sym more)
           (c.in_ok-places-2.ensures.holds ds so_far.holds);
-      places = places-more b ds (take (at + 1) all) d c.args.point.now.name c.loop-delivery.places.items _ more so_far.places
+      places = places-more b ds _ d c.args.point.now.name c.loop-delivery.places.items _ more so_far.places
           (c.in_ok-places-2.ensures.places ds so_far.holds
           ∙ ap (λ (places : List Place). places_along b (machine b ds) (acted_on b ds d) c.args.point.now.name places)
           c.as_slice.ensures.value);

@@ -8,7 +8,7 @@ use Rattle.points.specs.declared.panel.Panel.{Panel}
 use Rattle.store.specs.Standing.{sound}
 use Rattle.deliveries_straight.specs.StraightList.{parked_of, straight_list, straightened_after}
 use Rattle.deliveries.proofs.EmptyLemmas.{tables-none}
-use Rattle.desk_straighten.proofs.LoopLemmas.{panels-more, straightened-more}
+use Rattle.desk_straighten.proofs.LoopLemmas.{panels-more, straightened-more, taken-more}
 use Rattle.deliveries_straight.specs.StraightLaws.{IsStraightOf}
 use Rattle.deliveries_straight.proofs.TablesSame.{no-tolerance, same-machine, same-tables}
 use Rattle.desk_straighten.proofs.straightening.straight_list.Goals as goal
@@ -21,20 +21,16 @@ loop-delivery-init c = record {
 
 pub loop-delivery-preserved : goal.loop-delivery-preserved
 loop-delivery-preserved c =
-    let b = c.args.building.now in
-    let all = c.args.deliveries.now in
-    let at = c.loop-delivery.delivery-index in
-    let ds = take at all in
-    let d = c.delivery-item.result in
+    let more =
+    taken-more c.args.deliveries.now c.loop-delivery.delivery-index c.delivery-item.result (omega (arith, c.loop-delivery-test.true))
+    c.delivery-item.is in
     let so_far = c.loop-delivery.invariant in
-    let more : take (at + 1) all ≡ ds ++ d ∷ [] =
-    take_more all at d (omega (arith, c.loop-delivery-test.true)) ∙ ap (λ (x : Delivery). ds ++ x ∷ []) (sym c.delivery-item.is) in
     record {
-      holds = subst (λ (E : List Delivery). Holds b E (standing_of c.straighten_one.new.store)) (sym more)
-          (c.in_ok-straighten_one.ensures.holds ds so_far.holds);
-      straightened = straightened-more b ds
-          (take (at + 1) all) d c.loop-delivery.straightened.items c.straighten_one.new.straightened.items more so_far.straightened
-          (c.in_ok-straighten_one.ensures.straightens ds so_far.holds);
+      holds = subst (λ (E : List Delivery). Holds c.args.building.now E (standing_of c.straighten_one.new.store)) (sym more)
+          (c.in_ok-straighten_one.ensures.holds _ so_far.holds);
+      straightened = straightened-more c.args.building.now _ _ c.delivery-item.result c.loop-delivery.straightened.items
+          c.straighten_one.new.straightened.items more so_far.straightened
+          (c.in_ok-straighten_one.ensures.straightens _ so_far.holds);
     }
 
 pub loop-panel-preserved : goal.loop-panel-preserved
