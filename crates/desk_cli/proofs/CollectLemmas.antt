@@ -8,7 +8,7 @@ use Rattle.delivery_json.specs.DeliveryLine.{parse_line}
 use Rattle.building_holidays.specs.declared.import_fault.ImportFault.{ImportFault}
 use Rattle.desk_cli.specs.ListLines.{Collects, TakesLine}
 use Rattle.desk_cli.specs.Replay.{deliveries_in, is_empty_line, is_past_until, lines_of, lines_until}
-use Rattle.desk_cli.proofs.LineLemmas.{deliveries_in-append, parsed_by-append, until-none, until-past, until-within}
+use Rattle.desk_cli.proofs.LineLemmas.{deliveries_in-append, lines-more, parsed_by-append, until-none, until-past}
 
 -- ---- one line
 
@@ -71,10 +71,7 @@ Collecting-line b until bytes line left after old new p takes within more =
       passed = p.passed ++ line ∷ [];
       rest = next.0;
       left_is = next.1;
-      lines_are =
-          p.lines_are
-          ∙ ap (λ ls. p.passed ++ ls) (ap (lines_until b until) next.2 ∙ until-within b until line (lines_of next.0) within)
-          ∙ sym (append_assoc p.passed (line ∷ []) (lines_until b until (lines_of next.0)));
+      lines_are = lines-more b until bytes line p.passed p.rest next.0 p.lines_are next.2 within;
       collects = Collects-Collects b p.passed (line ∷ []) [] old new p.collects more;
     }
 

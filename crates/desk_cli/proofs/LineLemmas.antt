@@ -1,7 +1,7 @@
 -- The lines of a list, one after another.
 use Rattle.std.proofs.Common.{◌≡◌, ℕ, ℤ, suc, ◌-◌, ◌<◌, ◌==◌, ◌&&◌, ◌++◌, Bool, true, false, List, [], ◌∷◌}
 use Rattle.std.proofs.Common.{length, take, get_or, Option, Some, None, IfSome, option_map, option_and_then}
-use Rattle.std.proofs.Common.{cond, lt-ltb, refl, sym, ap, subst, ◌∙◌, arith}
+use Rattle.std.proofs.Common.{append_assoc, cond, lt-ltb, refl, sym, ap, subst, ◌∙◌, arith}
 use Rattle.std.proofs.lemmas.Option.{same_Some}
 use Rattle.std.specs.Io.KnownBytes.{IsAtEnd}
 use Rattle.std.specs.Io.BufRead.{DropsThrough, drop_through, strip_last, take_through}
@@ -119,3 +119,12 @@ pub takes_none : (left after : Option (List ℕ)) (bytes line : List ℕ) → le
 takes_none left after bytes line left_is end =
     let at_end : bytes ≡ [] = subst IsAtEnd left_is end in
     ap lines_of at_end
+
+-- the lines so far with one more, and those of the rest
+pub lines-more : (b : Building) (until : Option ℤ) (bytes line : List ℕ) (passed : List (List ℕ)) (rest next : List ℕ)
+    → lines_until b until (lines_of bytes) ≡ passed ++ lines_until b until (lines_of rest) → lines_of rest ≡ line ∷ lines_of next
+    → is_past_until b until line ≡ false
+    → lines_until b until (lines_of bytes) ≡ (passed ++ line ∷ []) ++ lines_until b until (lines_of next)
+lines-more b until bytes line passed rest next are takes within =
+    are ∙ ap (λ ls. passed ++ ls) (ap (lines_until b until) takes ∙ until-within b until line (lines_of next) within)
+    ∙ sym (append_assoc passed (line ∷ []) (lines_until b until (lines_of next)))

@@ -22,7 +22,7 @@ use Rattle.cli_common.proofs.PrintedLemmas.{Appends-Appends, Appends-Keeps, Appe
 use Rattle.desk_cli.specs.ListLines.{TakesLine}
 use Rattle.desk_cli.specs.Replay.{Prints, Replays, answers_to, deliveries_in, is_past_until, line_of_point, lines_of, lines_until}
 use Rattle.desk_cli.specs.Replay.{point_lines, state_line}
-use Rattle.desk_cli.proofs.LineLemmas.{deliveries_in-append, parsed_by-append, until-none, until-past, until-within}
+use Rattle.desk_cli.proofs.LineLemmas.{deliveries_in-append, lines-more, parsed_by-append, until-none, until-past}
 use Rattle.delivery_json.specs.ReplyText.{refusal_line, reply_line}
 
 -- ---- answers, one part after another
@@ -116,10 +116,7 @@ Progress-line b until E bytes line left after old mid new now then p takes withi
       passed = p.passed ++ line ∷ [];
       rest = next.0;
       left_is = next.1;
-      lines_are =
-          p.lines_are
-          ∙ ap (λ ls. p.passed ++ ls) (ap (lines_until b until) next.2 ∙ until-within b until line (lines_of next.0) within)
-          ∙ sym (append_assoc p.passed (line ∷ []) (lines_until b until (lines_of next.0)));
+      lines_are = lines-more b until bytes line p.passed p.rest next.0 p.lines_are next.2 within;
       prints = Prints-Prints b E p.passed (line ∷ []) old mid new now then p.prints
           (prints (E ++ deliveries_in p.prints.parsed) p.prints.holds);
     }

@@ -5,7 +5,8 @@ ghost use Rattle.deliveries.specs.declared.delivery.Delivery.{Delivery as a_deli
 ghost use Rattle.deliveries.specs.declared.delivery.Delivery.TheVariants as delivery_of;
 ghost use Rattle.deliveries.specs.Delivered.{Delivers, Holds};
 ghost use Rattle.deliveries.specs.Reply.{refused_record};
-ghost use Rattle.desk_settling.specs.Kept.{AreSpans, AreToday};
+ghost use Rattle.desk_clock.specs.Today.{KeepsToday};
+ghost use Rattle.desk_settling.specs.Kept.{AreSpans};
 ghost use Rattle.store.specs.Standing.{ChangesOnce, Goes, IsOpen};
 
 use crate::adding::added_items;
@@ -35,9 +36,7 @@ fn import<S: Store>(
         → (S.standing store.new).is_honest → Holds building.now earlier (S.standing store.old)
         → Delivers building.now earlier (delivery_of.Import rows.now) result (S.standing store.new) }
     ensures spans { AreSpans building.now kept.new }
-    ensures today { (S.standing store.new).is_honest → (S.standing store.new).is_shut ≡ false
-        → AreToday building.now (S.standing store.old).content.tables.imported kept.old
-        → AreToday building.now (S.standing store.new).content.tables.imported kept.new }
+    ensures today { KeepsToday building.now kept.old kept.new (S.standing store.old) (S.standing store.new) }
 {
     // so that schedules which have settled write nothing more
     building.names_are_distinct();
@@ -80,9 +79,7 @@ pub fn deliver_import_after<S: Store>(
     ensures delivers { (earlier : List a_delivery) → (S.standing store.new).is_honest → Holds building.now earlier (S.standing store.old)
         → Delivers building.now earlier (delivery_of.Import rows.now) result (S.standing store.new) }
     ensures spans { AreSpans building.now kept.new }
-    ensures today { (S.standing store.new).is_honest → (S.standing store.new).is_shut ≡ false
-        → AreToday building.now (S.standing store.old).content.tables.imported kept.old
-        → AreToday building.now (S.standing store.new).content.tables.imported kept.new }
+    ensures today { KeepsToday building.now kept.old kept.new (S.standing store.old) (S.standing store.new) }
 {
     let last = store.last_tick()?;
     match refused_record(building, rows) {

@@ -6,6 +6,7 @@ ghost use Rattle.deliveries.specs.declared.delivery.Delivery.TheVariants as deli
 ghost use Rattle.deliveries.specs.Delivered.{Delivers, Holds};
 ghost use Rattle.deliveries.specs.Events.{is_later, last_tick_of};
 ghost use Rattle.local_times.specs.LocalTimes.{local_at};
+ghost use Rattle.desk_clock.specs.Today.{KeepsToday};
 ghost use Rattle.desk_settling.specs.Kept.{AreSpans, AreToday};
 ghost use Rattle.store.specs.Standing.{ChangesOnce, Goes, IsOpen};
 
@@ -48,9 +49,7 @@ fn tick_at<S: Store>(
         → Holds building.now earlier (S.standing store.old)
         → Delivers building.now earlier (delivery_of.Tick moment) result (S.standing store.new) }
     ensures spans { AreSpans building.now kept.new }
-    ensures today { (S.standing store.new).is_honest → (S.standing store.new).is_shut ≡ false
-        → AreToday building.now (S.standing store.old).content.tables.imported kept.old
-        → AreToday building.now (S.standing store.new).content.tables.imported kept.new }
+    ensures today { KeepsToday building.now kept.old kept.new (S.standing store.old) (S.standing store.new) }
 {
     // so that schedules which have settled write nothing more
     building.names_are_distinct();
@@ -82,9 +81,7 @@ pub fn deliver_tick_after<S: Store>(
         → Holds building.now earlier (S.standing store.old)
         → Delivers building.now earlier (delivery_of.Tick moment) result (S.standing store.new) }
     ensures spans { AreSpans building.now kept.new }
-    ensures today { (S.standing store.new).is_honest → (S.standing store.new).is_shut ≡ false
-        → AreToday building.now (S.standing store.old).content.tables.imported kept.old
-        → AreToday building.now (S.standing store.new).content.tables.imported kept.new }
+    ensures today { KeepsToday building.now kept.old kept.new (S.standing store.old) (S.standing store.new) }
 {
     let last = store.last_tick()?;
     let Some(local) = local_time(building.zone(), moment) else {

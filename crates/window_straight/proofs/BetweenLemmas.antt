@@ -13,7 +13,7 @@ use Rattle.window.proofs.AppliedLemmas.{content_at-take_command, content_at-take
 use Rattle.window.proofs.FrontLemmas.{EndsInWindow, IsFront-front, IsWithin-accepted, take-refused}
 use Rattle.window_straight.specs.Between.{asks_between, skip_to}
 use Rattle.window_straight.specs.Straightened.{command_under, skip_upto, straightened, straightened_at, straightened_from}
-use Rattle.window_straight.proofs.WalkLemmas.{none_of, upto-take}
+use Rattle.window_straight.proofs.WalkLemmas.{none_of, skip-none, upto-take}
 
 record IsPast (now : Taken) (first next n : ℕ) : Type 0 where
   least : first ≤ next
@@ -53,14 +53,6 @@ skip-straightened now first next n is ends = elim (cases_eq next n) [
     quiet : next ≡ n → (first < n) ⊎ (n ≤ first) → skip_upto first now n ≡ []
     quiet at (inl above) = rw (is.closed at above) (none (nat_lt first n))
     quiet at (inr low) = let not_above : nat_lt first n ≡ false = grind (arith, nat_tests) in rw not_above refl
-
-skip-none : (now : Taken) (first n : ℕ) → (is_key now n || n == front now) ≡ false → skip_upto first now n ≡ []
-skip-none now first n open_gap = rw open_gap (none (nat_lt first n) (not (is_key now (n - 1))))
-  where
-    none : (a b : Bool) → cond (a && (b && false)) (Skip n ∷ []) [] ≡ []
-    none true true = refl
-    none true false = refl
-    none false b = refl
 
 asks_between-from : (c : ℕ) (now : Taken) (first next n : ℕ) → IsPast now first next n → n + c ≡ front now
     → straightened_from (suc c) first now n ≡ asks_between next (contents_from c now n) (front now)

@@ -209,7 +209,7 @@ skip-step s now first n is near ends = elim (cases_eq (front s) n) [
     quiet at (inr low) = let not_above : nat_lt first n ≡ false = grind (arith, nat_tests) in rw not_above refl
 
 -- where none can, none comes
-skip-none : (now : Taken) (first n : ℕ) → (is_key now n || n == front now) ≡ false → skip_upto first now n ≡ []
+pub skip-none : (now : Taken) (first n : ℕ) → (is_key now n || n == front now) ≡ false → skip_upto first now n ≡ []
 skip-none now first n open_gap = rw open_gap (none (nat_lt first n) (not (is_key now (n - 1))))
   where
     none : (a b : Bool) → cond (a && (b && false)) (Skip n ∷ []) [] ≡ []
