@@ -1,14 +1,16 @@
 -- What a statement in a transaction keeps.
-use Rattle.std.proofs.Common.{◌≡◌, ◌∙◌, inl, inr, ℕ, List, IsTrue, true, false, Ok, Err, Result, refl, sym, subst}
+use Rattle.std.proofs.Common.{◌≡◌, ◌∙◌, inl, inr, ℕ, List, IfOk, IsTrue, true, false, Ok, Err, Result, refl, sym, subst}
 use Rattle.std.proofs.lemmas.Bool.{cases_Bool}
 use Rattle.sqlite_schema.specs.declared.schema.Constraint.TheVariants.{Unique}
 use Rattle.sqlite_value.specs.Order.{Row}
 use Rattle.sqlite.specs.declared.error.Error.{Error}
 use Rattle.sqlite.specs.declared.error.Error.TheVariants.{SqliteFailure}
 use Rattle.sqlite.specs.declared.error.ErrorCode.TheVariants.{ConstraintViolation}
-use Rattle.sqlite.specs.State.{ExecutesIn, ExecutesInside, Fails, IsNotRun, IsRolledBack, IsUnchanged, KeepsCommit, Shows, State, shows_rows, store_error}
+use Rattle.sqlite.specs.State.{ExecutesIn, ExecutesInside, Fails, HasCleanDisk, IsNotRun, IsRolledBack, IsUnchanged, KeepsCommit, Shows, State, Survives, shows_rows, store_error}
 use Rattle.sqlite_trees.specs.declared.error.StoreError.{StoreError}
 use Rattle.sqlite_trees.specs.declared.error.StoreError.TheVariants.{Broken, Corrupt, Full, Io, OutOfMemory, Unstorable}
+use Rattle.store_sql_rows.specs.Ours.{IsInside}
+use Rattle.store_sql_rows.specs.Steps.{StepsBy}
 
 unchanged_keeps : (old new : State) → IsUnchanged old new → KeepsCommit old new
 unchanged_keeps old new same = record { was_open = λ _. same.0.was_open; committed = λ _. same.0.committed_is }
@@ -25,6 +27,12 @@ inside_keeps sql params old new (Err e) (inr h) = unchanged_keeps old new h.2
 
 pub same_keeps : (old new : State) → new ≡ old → KeepsCommit old new
 same_keeps old new same = subst (KeepsCommit old) (sym same) (record { was_open = λ stands. stands; committed = λ _. refl })
+
+-- a statement that did this, and commits nothing
+pub steps_made : {A : Type 0} {Does : A → State → State → Type 0} {old new : State} {r : Result A Error}
+    → (HasCleanDisk new → KeepsCommit old new) → Survives old new (λ _. ⊥)
+    → (HasCleanDisk new → IsInside old → IfOk r (λ it. Does it old new)) → StepsBy Does old new r
+steps_made kept survives done = record { done = done; kept = kept; survives = survives }
 
 -- ---- a key that another row has
 

@@ -10,7 +10,7 @@ use Rattle.store.specs.Tables.{Tables}
 use Rattle.store_sql_rows.specs.Broken.{Keeps}
 use Rattle.store_sql_rows.specs.Stored.{Kept, is_sound_in, tables_in}
 use Rattle.store_sql_rows.specs.Ours.{Changes, IsInside, Makes, kept_in}
-use Rattle.store_sql_rows.specs.Steps.{Steps, Turns}
+use Rattle.store_sql_rows.specs.Steps.{Steps, StepsBy, Turns}
 
 pub survives_on : (a b c : State) → Survives a b (λ _. ⊥) → Survives b c (λ _. ⊥) → Survives a c (λ _. ⊥)
 survives_on a b c one two = survives_then a b c (λ _. ⊥) (λ _. ⊥) (λ _. ⊥) (λ _ db none. none) (λ _ db none. none) one two
@@ -44,34 +44,34 @@ pub inside_after : (P : Kept → Kept → Type 0) (a b : State) → Changes P a 
 inside_after P a b one = record { in_transaction = one.seen.mode; ours = one.ours }
 
 -- one statement turns the tables
-pub one_statement : {A : Type 0} (P : Kept → Kept → Type 0) (f : Tables → Tables) (a b : State) (z : A)
-    → ((k l : Kept) → P k l → Makes f k l)
-    → (HasCleanDisk b → IsInside a → Changes P a b) → (HasCleanDisk b → KeepsCommit a b) → Survives a b (λ _. ⊥)
+pub one_statement : {A B : Type 0} {x : A} (P : A → Kept → Kept → Type 0) (f : Tables → Tables) (a b : State) (z : B)
+    → StepsBy (λ it. Changes (P it)) a b (Ok x)
+    → ((k l : Kept) → P x k l → Makes f k l)
     → Steps (Turns f) a b (Ok z)
-one_statement P f a b z makes done kept survives = record {
-  done =
-      λ clean at. let one =
-      done clean at in record { inside = inside_after P a b one; makes = makes (kept_in a.now.trees) (kept_in b.now.trees) one.change };
-  kept = kept;
-  survives = survives;
+one_statement {x} P f a b z step makes = record {
+  done = λ clean at.
+      let one = step.done clean at in
+      record { inside = inside_after (P x) a b one; makes = makes (kept_in a.now.trees) (kept_in b.now.trees) one.change };
+  kept = step.kept;
+  survives = step.survives;
 }
 
 -- two statements do
-pub two_statements : {A : Type 0} (P Q : Kept → Kept → Type 0) (f : Tables → Tables) (a b c : State) (z : A)
-    → ((k l m : Kept) → P k l → Q l m → Makes f k m)
-    → (HasCleanDisk b → IsInside a → Changes P a b) → (HasCleanDisk b → KeepsCommit a b) → Survives a b (λ _. ⊥)
-    → (HasCleanDisk c → IsInside b → Changes Q b c) → (HasCleanDisk c → KeepsCommit b c) → Survives b c (λ _. ⊥)
+pub two_statements : {A B C : Type 0} {x : A} {y : B} (P : A → Kept → Kept → Type 0) (Q : B → Kept → Kept → Type 0) (f : Tables → Tables)
+    (a b c : State) (z : C)
+    → StepsBy (λ it. Changes (P it)) a b (Ok x) → StepsBy (λ it. Changes (Q it)) b c (Ok y)
+    → ((k l m : Kept) → P x k l → Q y l m → Makes f k m)
     → Steps (Turns f) a c (Ok z)
-two_statements P Q f a b c z makes done kept survives done' kept' survives' = record {
+two_statements {x} {y} P Q f a b c z first second makes = record {
   done = λ clean at.
-      let one = done (clean_before b c _ survives' clean) at in
-      let two = done' clean (inside_after P a b one) in
+      let one = first.done (clean_before b c _ second.survives clean) at in
+      let two = second.done clean (inside_after (P x) a b one) in
       record {
-        inside = inside_after Q b c two;
+        inside = inside_after (Q y) b c two;
         makes = makes (kept_in a.now.trees) (kept_in b.now.trees) (kept_in c.now.trees) one.change two.change;
       };
-  kept = λ clean. keeps_then a b c (kept (clean_before b c _ survives' clean)) (kept' clean);
-  survives = survives_on a b c survives survives';
+  kept = λ clean. keeps_then a b c (first.kept (clean_before b c _ second.survives clean)) (second.kept clean);
+  survives = survives_on a b c first.survives second.survives;
 }
 
 -- one turn after the other

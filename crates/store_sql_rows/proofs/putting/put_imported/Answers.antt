@@ -7,6 +7,6 @@ use Rattle.store_sql_rows.proofs.putting.put_imported.Goals as goal
 pub returns-in-Ok-clause-steps : goal.returns-in-Ok-clause-steps
 returns-in-Ok-clause-steps g c =
     one_statement _ _ (state g.S.Store c.args.transaction.now.conn.now) (state g.S.Store c.add.new.transaction.conn.now) _
+    c.in-Ok.ensures.steps
     (imported_added c.args.item.now c.as_str-text.result.now (c.as_str-text.ensures.value ∙ c.in_ok-entry.ensures.value)
     c.as_str-name.ensures.is_name c.in_ok-entry.ensures.range)
-    c.in-Ok.ensures.done c.in-Ok.ensures.kept c.in-Ok.ensures.survives

@@ -10,20 +10,20 @@ returns-in_ok-add-clause-steps g c =
     let whole : to_z w64 (of_z w64 c.in-Some.value) ≡ c.in-Some.value = search rules in
     two_statements _ _ _ (state g.S.Store c.args.transaction.now.conn.now) (state g.S.Store c.set.new.transaction.conn.now)
     (state g.S.Store c.add.new.transaction.conn.now) _
+    (rw whole at c.in_ok-set.ensures.steps) (rw whole at c.in_ok-add.ensures.steps)
     (place_added c.args.item.now c.in-Some.value c.in-Some.is c.as_str-name.ensures.is_name c.requires c.in_ok-set.field-0
     c.if-branch-eq0.true)
-    (rw whole at c.in_ok-set.ensures.done) c.in_ok-set.ensures.kept c.in_ok-set.ensures.survives
-    (rw whole at c.in_ok-add.ensures.done) c.in_ok-add.ensures.kept c.in_ok-add.ensures.survives
 
 pub returns-else-branch-eq0-clause-steps : goal.returns-else-branch-eq0-clause-steps
 returns-else-branch-eq0-clause-steps g c =
     let whole : to_z w64 (of_z w64 c.in-Some.value) ≡ c.in-Some.value = search rules in
     one_statement _ _ (state g.S.Store c.args.transaction.now.conn.now) (state g.S.Store c.set.new.transaction.conn.now) _
+    (rw whole at c.in_ok-set.ensures.steps)
     (place_set c.args.item.now c.in-Some.value c.in-Some.is c.as_str-name.ensures.is_name c.requires c.in_ok-set.field-0
     c.if-branch-eq0.false)
-    (rw whole at c.in_ok-set.ensures.done) c.in_ok-set.ensures.kept c.in_ok-set.ensures.survives
 
 pub returns-in_default-clause-steps : goal.returns-in_default-clause-steps
 returns-in_default-clause-steps g c =
-    one_statement _ _ _ _ _ (λ k l. place_cleared k l c.args.item.now c.in_default.is)
-    c.in_ok-clear.ensures.done c.in_ok-clear.ensures.kept c.in_ok-clear.ensures.survives
+    one_statement _ _ _ _ _
+    c.in_ok-clear.ensures.steps
+    (λ k l. place_cleared k l c.args.item.now c.in_default.is)

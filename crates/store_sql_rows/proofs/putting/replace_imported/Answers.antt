@@ -7,6 +7,5 @@ pub returns-clause-steps : goal.returns-clause-steps
 returns-clause-steps g c = λ in_range.
     two_statements _ _ _ (state g.S.Store c.args.transaction.now.conn.now) (state g.S.Store c.clear.new.transaction.conn.now)
     (state g.S.Store c.add.new.transaction.conn.now) _
+    c.in_ok-clear.ensures.steps c.in_ok-add.ensures.steps
     (imported_made c.args.item.now c.args.text.now c.requires c.as_str-name.ensures.is_name in_range)
-    c.in_ok-clear.ensures.done c.in_ok-clear.ensures.kept c.in_ok-clear.ensures.survives
-    c.in_ok-add.ensures.done c.in_ok-add.ensures.kept c.in_ok-add.ensures.survives
