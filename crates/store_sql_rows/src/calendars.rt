@@ -1,12 +1,12 @@
 //! The statements on the imported entries.
-ghost use Rattle.std.specs.Prelude.{◌≡◌, ◌<◌, ◌&&◌, [], ◌∷◌};
+ghost use Rattle.std.specs.Prelude.{◌<◌, ◌&&◌, [], ◌∷◌};
 ghost use Rattle.sqlite.specs.Held.{state};
 ghost use Rattle.sqlite_value.specs.declared.value.Value.TheVariants.{Text};
 ghost use Rattle.sqlite_value.specs.Order.{column};
 ghost use Rattle.store_sql_rows.specs.Looking.{FindsLeast, Reads, is_from_text};
 ghost use Rattle.store_sql_rows.specs.Ours.{Adds, Changes, Loses};
 ghost use Rattle.store_sql_rows.specs.Slot.{On, imported_slot};
-ghost use Rattle.store_sql_rows.specs.Steps.{StaysIfTaken, Steps};
+ghost use Rattle.store_sql_rows.specs.Steps.{Moves, StaysIfTaken};
 ghost use Rattle.store_sql_rows.specs.Cells.{is_text};
 ghost use Rattle.store_sql_rows.specs.Rows.{of_entry};
 
@@ -22,9 +22,8 @@ pub fn clear<S: Alter>(
     calendar: &Name,
     entry: &str,
 ) -> Result<usize, Error>
-    ensures same_reference { transaction.new.conn.ghost_name ≡ transaction.old.conn.ghost_name }
-    ensures steps { Steps (Changes (On imported_slot (Loses (of_entry calendar.now entry.now))))
-        (state S.Store transaction.old.conn.now) (state S.Store transaction.new.conn.now) result }
+    ensures moves { Moves S.Store (Changes (On imported_slot (Loses (of_entry calendar.now entry.now))))
+        transaction.old.conn transaction.new.conn result }
 {
     run(
         transaction,
@@ -39,10 +38,9 @@ pub fn add<S: Alter>(
     calendar: &Name,
     entry: &str,
 ) -> Result<usize, Error>
-    ensures same_reference { transaction.new.conn.ghost_name ≡ transaction.old.conn.ghost_name }
     ensures refused { StaysIfTaken (state S.Store transaction.old.conn.now) (state S.Store transaction.new.conn.now) result }
-    ensures steps { Steps (Changes (On imported_slot (Adds (of_entry calendar.now entry.now) (Text calendar.now ∷ Text entry.now ∷ []))))
-        (state S.Store transaction.old.conn.now) (state S.Store transaction.new.conn.now) result }
+    ensures moves { Moves S.Store (Changes (On imported_slot (Adds (of_entry calendar.now entry.now) (Text calendar.now ∷ Text entry.now ∷ []))))
+        transaction.old.conn transaction.new.conn result }
 {
     run(
         transaction,

@@ -1,12 +1,12 @@
 //! The statements on the rows of commands.
-ghost use Rattle.std.specs.Prelude.{◌≡◌, ◌<◌, ◌^◌, ◌&&◌, pos, [], ◌∷◌};
+ghost use Rattle.std.specs.Prelude.{◌<◌, ◌^◌, ◌&&◌, pos, [], ◌∷◌};
 ghost use Rattle.sqlite.specs.Held.{state};
 ghost use Rattle.sqlite_value.specs.declared.value.Value.TheVariants.{Int, Text};
 ghost use Rattle.sqlite_value.specs.Order.{column};
 ghost use Rattle.store_sql_rows.specs.Looking.{Finds, FindsLeast, Reads, is_from, is_from_text};
 ghost use Rattle.store_sql_rows.specs.Ours.{Adds, Changes, Loses};
 ghost use Rattle.store_sql_rows.specs.Slot.{On, command_slot};
-ghost use Rattle.store_sql_rows.specs.Steps.{StaysIfTaken, Steps};
+ghost use Rattle.store_sql_rows.specs.Steps.{Moves, StaysIfTaken};
 ghost use Rattle.store_sql_rows.specs.Cells.{cell_of, is_text};
 ghost use Rattle.store_sql_rows.specs.Rows.{of_command, of_lower_command};
 
@@ -24,9 +24,8 @@ pub fn clear<S: Alter>(
     number: u64,
 ) -> Result<usize, Error>
     requires { number < 2 ^ 63 }
-    ensures same_reference { transaction.new.conn.ghost_name ≡ transaction.old.conn.ghost_name }
-    ensures steps { Steps (Changes (On command_slot (Loses (of_command panel.now number))))
-        (state S.Store transaction.old.conn.now) (state S.Store transaction.new.conn.now) result }
+    ensures moves { Moves S.Store (Changes (On command_slot (Loses (of_command panel.now number))))
+        transaction.old.conn transaction.new.conn result }
 {
     run(
         transaction,
@@ -44,12 +43,10 @@ pub fn add<S: Alter>(
     cells: &StateCells,
 ) -> Result<usize, Error>
     requires { number < 2 ^ 63 }
-    ensures same_reference { transaction.new.conn.ghost_name ≡ transaction.old.conn.ghost_name }
     ensures refused { StaysIfTaken (state S.Store transaction.old.conn.now) (state S.Store transaction.new.conn.now) result }
-    ensures steps { Steps (Changes (On command_slot (Adds (of_command panel.now number)
+    ensures moves { Moves S.Store (Changes (On command_slot (Adds (of_command panel.now number)
         (Text panel.now ∷ Int (pos number) ∷ Text content.now.point ∷ Int content.now.priority ∷ cell_of content.now.value
-        ∷ Int cells.now.code ∷ cell_of cells.now.a ∷ cell_of cells.now.b ∷ []))))
-        (state S.Store transaction.old.conn.now) (state S.Store transaction.new.conn.now) result }
+        ∷ Int cells.now.code ∷ cell_of cells.now.a ∷ cell_of cells.now.b ∷ [])))) transaction.old.conn transaction.new.conn result }
 {
     run(
         transaction,
@@ -74,9 +71,8 @@ pub fn drop_below<S: Alter>(
     number: u64,
 ) -> Result<usize, Error>
     requires { number < 2 ^ 63 }
-    ensures same_reference { transaction.new.conn.ghost_name ≡ transaction.old.conn.ghost_name }
-    ensures steps { Steps (Changes (On command_slot (Loses (of_lower_command panel.now number))))
-        (state S.Store transaction.old.conn.now) (state S.Store transaction.new.conn.now) result }
+    ensures moves { Moves S.Store (Changes (On command_slot (Loses (of_lower_command panel.now number))))
+        transaction.old.conn transaction.new.conn result }
 {
     run(
         transaction,

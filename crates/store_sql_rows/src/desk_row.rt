@@ -1,11 +1,11 @@
 //! The statements on the one row of `desk`.
-ghost use Rattle.std.specs.Prelude.{◌≡◌, true, [], ◌∷◌};
+ghost use Rattle.std.specs.Prelude.{true, [], ◌∷◌};
 ghost use Rattle.sqlite.specs.Held.{state};
 ghost use Rattle.sqlite_value.specs.declared.value.Value.TheVariants.{Int};
 ghost use Rattle.sqlite_value.specs.Order.{column};
 ghost use Rattle.store_sql_rows.specs.Looking.{Finds, Reads};
 ghost use Rattle.store_sql_rows.specs.Ours.{Changes, SetsDesk};
-ghost use Rattle.store_sql_rows.specs.Steps.{Steps};
+ghost use Rattle.store_sql_rows.specs.Steps.{Moves};
 
 use crate::looking::ask;
 use crate::parameters::whole;
@@ -14,9 +14,7 @@ use sqlite::{Alter, Connection, Error, Row, Transaction};
 
 /// Sets the moment of the last tick.
 pub fn set_last<S: Alter>(transaction: &mut Transaction<'_, S>, moment: i64) -> Result<usize, Error>
-    ensures same_reference { transaction.new.conn.ghost_name ≡ transaction.old.conn.ghost_name }
-    ensures steps { Steps (Changes (SetsDesk (λ _. Int moment)))
-        (state S.Store transaction.old.conn.now) (state S.Store transaction.new.conn.now) result }
+    ensures moves { Moves S.Store (Changes (SetsDesk (λ _. Int moment))) transaction.old.conn transaction.new.conn result }
 {
     run(transaction, "UPDATE desk SET last = ?1", &[whole(moment)])
 }

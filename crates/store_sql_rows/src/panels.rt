@@ -1,12 +1,12 @@
 //! The statements on the next numbers of panels.
-ghost use Rattle.std.specs.Prelude.{◌≡◌, ◌<◌, ◌^◌, pos, [], ◌∷◌};
+ghost use Rattle.std.specs.Prelude.{◌<◌, ◌^◌, pos, [], ◌∷◌};
 ghost use Rattle.sqlite.specs.Held.{state};
 ghost use Rattle.sqlite_value.specs.declared.value.Value.TheVariants.{Int, Text};
 ghost use Rattle.sqlite_value.specs.Order.{column};
 ghost use Rattle.store_sql_rows.specs.Looking.{Finds, FindsLeast, Reads, is_from_text};
 ghost use Rattle.store_sql_rows.specs.Ours.{Changes, Gains, Rewrites};
 ghost use Rattle.store_sql_rows.specs.Slot.{On, panel_slot};
-ghost use Rattle.store_sql_rows.specs.Steps.{Steps, StepsBy};
+ghost use Rattle.store_sql_rows.specs.Steps.{Moves, MovesBy};
 ghost use Rattle.store_sql_rows.specs.Rows.{of_panel};
 
 use crate::looking::ask;
@@ -22,9 +22,8 @@ pub fn add<S: Alter>(
     next: u64,
 ) -> Result<usize, Error>
     requires { next < 2 ^ 63 }
-    ensures same_reference { transaction.new.conn.ghost_name ≡ transaction.old.conn.ghost_name }
-    ensures steps { Steps (Changes (On panel_slot (Gains (Text panel.now ∷ Int (pos next) ∷ []))))
-        (state S.Store transaction.old.conn.now) (state S.Store transaction.new.conn.now) result }
+    ensures moves { Moves S.Store (Changes (On panel_slot (Gains (Text panel.now ∷ Int (pos next) ∷ []))))
+        transaction.old.conn transaction.new.conn result }
 {
     run(
         transaction,
@@ -40,9 +39,8 @@ pub fn set<S: Alter>(
     next: u64,
 ) -> Result<usize, Error>
     requires { next < 2 ^ 63 }
-    ensures same_reference { transaction.new.conn.ghost_name ≡ transaction.old.conn.ghost_name }
-    ensures steps { StepsBy (λ count. Changes (On panel_slot (Rewrites (of_panel panel.now) (Text panel.now ∷ Int (pos next) ∷ []) count)))
-        (state S.Store transaction.old.conn.now) (state S.Store transaction.new.conn.now) result }
+    ensures moves { MovesBy S.Store (λ count. Changes (On panel_slot (Rewrites (of_panel panel.now) (Text panel.now ∷ Int (pos next) ∷ []) count)))
+        transaction.old.conn transaction.new.conn result }
 {
     run(
         transaction,

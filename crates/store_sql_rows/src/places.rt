@@ -1,12 +1,12 @@
 //! The statements on the values in places.
-ghost use Rattle.std.specs.Prelude.{◌≡◌, ◌<◌, pos, [], ◌∷◌};
+ghost use Rattle.std.specs.Prelude.{◌<◌, pos, [], ◌∷◌};
 ghost use Rattle.sqlite.specs.Held.{state};
 ghost use Rattle.sqlite_value.specs.declared.value.Value.TheVariants.{Int, Text};
 ghost use Rattle.sqlite_value.specs.Order.{column};
 ghost use Rattle.store_sql_rows.specs.Looking.{Finds, FindsLeast, Reads, is_from_text};
 ghost use Rattle.store_sql_rows.specs.Ours.{Changes, Gains, Loses, Rewrites};
 ghost use Rattle.store_sql_rows.specs.Slot.{On, place_slot};
-ghost use Rattle.store_sql_rows.specs.Steps.{Steps, StepsBy};
+ghost use Rattle.store_sql_rows.specs.Steps.{Moves, MovesBy};
 ghost use Rattle.store_sql_rows.specs.Cells.{is_text};
 ghost use Rattle.store_sql_rows.specs.Rows.{of_place};
 
@@ -22,9 +22,8 @@ pub fn clear<S: Alter>(
     point: &Name,
     priority: u8,
 ) -> Result<usize, Error>
-    ensures same_reference { transaction.new.conn.ghost_name ≡ transaction.old.conn.ghost_name }
-    ensures steps { Steps (Changes (On place_slot (Loses (of_place point.now priority))))
-        (state S.Store transaction.old.conn.now) (state S.Store transaction.new.conn.now) result }
+    ensures moves { Moves S.Store (Changes (On place_slot (Loses (of_place point.now priority))))
+        transaction.old.conn transaction.new.conn result }
 {
     run(
         transaction,
@@ -40,9 +39,8 @@ pub fn add<S: Alter>(
     priority: u8,
     value: i64,
 ) -> Result<usize, Error>
-    ensures same_reference { transaction.new.conn.ghost_name ≡ transaction.old.conn.ghost_name }
-    ensures steps { Steps (Changes (On place_slot (Gains (Text point.now ∷ Int (pos priority) ∷ Int value ∷ []))))
-        (state S.Store transaction.old.conn.now) (state S.Store transaction.new.conn.now) result }
+    ensures moves { Moves S.Store (Changes (On place_slot (Gains (Text point.now ∷ Int (pos priority) ∷ Int value ∷ []))))
+        transaction.old.conn transaction.new.conn result }
 {
     run(
         transaction,
@@ -58,10 +56,9 @@ pub fn set<S: Alter>(
     priority: u8,
     value: i64,
 ) -> Result<usize, Error>
-    ensures same_reference { transaction.new.conn.ghost_name ≡ transaction.old.conn.ghost_name }
-    ensures steps { StepsBy (λ count. Changes
+    ensures moves { MovesBy S.Store (λ count. Changes
         (On place_slot (Rewrites (of_place point.now priority) (Text point.now ∷ Int (pos priority) ∷ Int value ∷ []) count)))
-        (state S.Store transaction.old.conn.now) (state S.Store transaction.new.conn.now) result }
+        transaction.old.conn transaction.new.conn result }
 {
     run(
         transaction,

@@ -1,12 +1,12 @@
 //! The statements on the values that schedules show.
-ghost use Rattle.std.specs.Prelude.{◌≡◌, ◌<◌, [], ◌∷◌};
+ghost use Rattle.std.specs.Prelude.{◌<◌, [], ◌∷◌};
 ghost use Rattle.sqlite.specs.Held.{state};
 ghost use Rattle.sqlite_value.specs.declared.value.Value.TheVariants.{Text};
 ghost use Rattle.sqlite_value.specs.Order.{column};
 ghost use Rattle.store_sql_rows.specs.Looking.{Finds, FindsLeast, Reads, is_from_text};
 ghost use Rattle.store_sql_rows.specs.Ours.{Changes, Gains, Loses, Rewrites};
 ghost use Rattle.store_sql_rows.specs.Slot.{On, shown_slot};
-ghost use Rattle.store_sql_rows.specs.Steps.{Steps, StepsBy};
+ghost use Rattle.store_sql_rows.specs.Steps.{Moves, MovesBy};
 ghost use Rattle.store_sql_rows.specs.Cells.{cell_of};
 ghost use Rattle.store_sql_rows.specs.Rows.{of_schedule};
 
@@ -21,9 +21,8 @@ pub fn clear<S: Alter>(
     transaction: &mut Transaction<'_, S>,
     schedule: &Name,
 ) -> Result<usize, Error>
-    ensures same_reference { transaction.new.conn.ghost_name ≡ transaction.old.conn.ghost_name }
-    ensures steps { Steps (Changes (On shown_slot (Loses (of_schedule schedule.now))))
-        (state S.Store transaction.old.conn.now) (state S.Store transaction.new.conn.now) result }
+    ensures moves { Moves S.Store (Changes (On shown_slot (Loses (of_schedule schedule.now))))
+        transaction.old.conn transaction.new.conn result }
 {
     run(
         transaction,
@@ -38,9 +37,8 @@ pub fn add<S: Alter>(
     schedule: &Name,
     value: Option<i64>,
 ) -> Result<usize, Error>
-    ensures same_reference { transaction.new.conn.ghost_name ≡ transaction.old.conn.ghost_name }
-    ensures steps { Steps (Changes (On shown_slot (Gains (Text schedule.now ∷ cell_of value ∷ []))))
-        (state S.Store transaction.old.conn.now) (state S.Store transaction.new.conn.now) result }
+    ensures moves { Moves S.Store (Changes (On shown_slot (Gains (Text schedule.now ∷ cell_of value ∷ []))))
+        transaction.old.conn transaction.new.conn result }
 {
     run(
         transaction,
@@ -55,10 +53,9 @@ pub fn set<S: Alter>(
     schedule: &Name,
     value: Option<i64>,
 ) -> Result<usize, Error>
-    ensures same_reference { transaction.new.conn.ghost_name ≡ transaction.old.conn.ghost_name }
-    ensures steps { StepsBy (λ count. Changes
+    ensures moves { MovesBy S.Store (λ count. Changes
         (On shown_slot (Rewrites (of_schedule schedule.now) (Text schedule.now ∷ cell_of value ∷ []) count)))
-        (state S.Store transaction.old.conn.now) (state S.Store transaction.new.conn.now) result }
+        transaction.old.conn transaction.new.conn result }
 {
     run(
         transaction,
