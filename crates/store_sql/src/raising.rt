@@ -4,7 +4,7 @@ ghost use Rattle.sqlite.specs.Held.{state};
 ghost use Rattle.sqlite.specs.State.{HasCleanDisk, Survives};
 ghost use Rattle.store.specs.Change.{CanStand, with_change};
 ghost use Rattle.store_sql_rows.specs.Ours.{IsOurs};
-ghost use Rattle.store_sql_rows.specs.Steps.{Steps};
+ghost use Rattle.store_sql_rows.specs.Steps.{Moves};
 ghost use Rattle.store_sql.specs.Opening.{IsChangedBy, IsWritten, Raises, SetsVersion};
 ghost use Rattle.store_sql_writes.specs.Committed.{ShowsCommitted};
 
@@ -15,8 +15,7 @@ use store_sql_writes::write;
 
 // Sets the version to 2.
 fn set_version<S: Alter>(transaction: &mut Transaction<'_, S>) -> Result<usize, Error>
-    ensures same_reference { transaction.new.conn.ghost_name ≡ transaction.old.conn.ghost_name }
-    ensures steps { Steps SetsVersion (state S.Store transaction.old.conn.now) (state S.Store transaction.new.conn.now) result }
+    ensures moves { Moves S.Store SetsVersion transaction.old.conn transaction.new.conn result }
 {
     transaction.execute("UPDATE desk SET version = 2", &[])
 }
@@ -28,8 +27,7 @@ fn raise<S: Alter>(
     change: &Change,
 ) -> Result<(), Error>
     requires { CanStand change.now }
-    ensures same_reference { transaction.new.conn.ghost_name ≡ transaction.old.conn.ghost_name }
-    ensures steps { Steps (Raises change.now) (state S.Store transaction.old.conn.now) (state S.Store transaction.new.conn.now) result }
+    ensures moves { Moves S.Store (Raises change.now) transaction.old.conn transaction.new.conn result }
 {
     write(alloc, transaction, change)?;
     set_version(transaction)?;

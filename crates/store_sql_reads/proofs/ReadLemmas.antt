@@ -4,6 +4,7 @@ use Rattle.std.specs.Result.{result_err}
 use Rattle.sqlite_trees.specs.View.{doubt}
 use Rattle.sqlite.specs.State.{HasCleanDisk, IsUnchanged, State, Survives}
 use Rattle.sqlite.proofs.StateLemmas.{survives_then}
+use Rattle.store_sql_rows.specs.Looking.{Reads}
 use Rattle.store_sql_rows.specs.Ours.{IsOurs, kept_in}
 use Rattle.store_sql_rows.specs.Stored.{Kept}
 use Rattle.store_sql_reads.specs.Asking.{Answers, Asks, HasRead, Sees, is_sql}
@@ -42,12 +43,14 @@ pub read_as : {Known More : Kept → Type 0} {a b : State} → HasRead Known a b
 read_as one more =
     record { mode = one.mode; sees = one.sees; known = λ clean ours. more ours (one.known clean ours); survives = one.survives }
 
--- an answer to one question
-pub read_found : {Found : Type 0} {a b : State} → (a.in_transaction ≡ false → b.in_transaction ≡ false)
-    → (HasCleanDisk b → IsOurs a.now → IsUnchanged a b) → (HasCleanDisk b → IsOurs a.now → Found)
-    → Survives a b (λ _. IsOurs a.now → ⊥) → HasRead (λ _. Found) a b
-read_found {a} {b} mode same known survives =
-    record { mode = mode; sees = λ clean ours. sees_unchanged a b (same clean ours); known = known; survives = survives }
+-- a query that was answered
+pub read_found : {A : Type 0} {Found : Kept → A → Type 0} {a b : State} {x : A} → Reads Found a b (Ok x) → HasRead (λ kept. Found kept x) a b
+read_found {a} {b} one = record {
+  mode = one.leaves.mode;
+  sees = λ clean ours. sees_unchanged a b (one.leaves.same clean ours);
+  known = one.found;
+  survives = one.leaves.survives;
+}
 
 module _ {A : Type 0} {Known : Kept → Type 0} {Tells : Kept → A → Type 0} {Worse : Kept → Type 0} {a b c : State} (one : HasRead Known a b) where
   clean_mid : {r : Result A ReadFault} → Answers Tells Worse b c r → HasCleanDisk c → HasCleanDisk b

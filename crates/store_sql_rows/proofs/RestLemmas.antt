@@ -9,15 +9,16 @@ use Rattle.sqlite.specs.Clock.{timed}
 use Rattle.sqlite.specs.declared.error.Error.{Error}
 use Rattle.sqlite.specs.Given.{IsPlain}
 use Rattle.sqlite.specs.Listing.{reads_listing, understood}
-use Rattle.sqlite.specs.State.{CommitsShowing, FailsToQuery, FailsToShow, IsNotRun, IsRolledBack, IsUnchanged, Shown, ShowsRows, State, Survives}
+use Rattle.sqlite.specs.State.{CommitsShowing, FailsToQuery, FailsToShow, HasCleanDisk, IsNotRun, IsRolledBack, IsUnchanged, Shown, ShowsRows, State, Survives}
 use Rattle.sqlite.proofs.Callers.{command_of, never_commits, reads_as}
 use Rattle.sqlite.proofs.StateLemmas.{survives_weaker}
 use Rattle.store_sql_create.specs.Schema.{desk_schema}
-use Rattle.store_sql_rows.specs.Looking.{Finds, FindsLeast, Rests, is_from_text}
+use Rattle.store_sql_rows.specs.Looking.{Finds, FindsLeast, Leaves, Reads, Rests, is_from_text}
 use Rattle.store_sql_rows.specs.Meanings.{compared_with, least, passes, selection, shows}
 use Rattle.sqlite_rules.specs.Lists.{Has}
 use Rattle.std.specs.List.Sorted.{IsPermutation}
-use Rattle.store_sql_rows.specs.Ours.{IsOurs}
+use Rattle.store_sql_rows.specs.Ours.{IsOurs, kept_in}
+use Rattle.store_sql_rows.specs.Stored.{Kept}
 use Rattle.store_sql_rows.proofs.RowLemmas.{filter_same}
 use Rattle.store_sql_rows.proofs.AnswerLemmas.{plain_program}
 use Rattle.store_sql_rows.proofs.CellLemmas.{and_true, from_text}
@@ -126,6 +127,11 @@ least_name items sql tree names runs from old new (Ok v) ours named shown =
     (λ row h. let cell = named row h in rw (from_text from (column row 1) cell.of cell.filled, and_true) refl)
     (finds_least sql runs.plain runs.unlisted tree (compared_with Ge 1 0 ∷ []) 1 names runs.is old new (Text from ∷ []) (items v)
     ours.schema_is shown)
+
+-- a query of the six tables that was answered so
+pub reads_made : {A : Type 0} {Found : Kept → A → Type 0} {old new : State} {r : Result A Error} → Leaves old new r
+    → (HasCleanDisk new → IsOurs old.now → IfOk r (Found (kept_in old.now.trees))) → Reads Found old new r
+reads_made leaves found = record { leaves = leaves; found = found }
 
 -- what is known of the schema
 pub plain_here : (sql : List ℕ) (old : State) → IsOurs old.now → IsPlain (understood desk_schema sql)

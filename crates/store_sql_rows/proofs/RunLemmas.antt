@@ -1,14 +1,19 @@
 -- What a statement in a transaction keeps.
-use Rattle.std.proofs.Common.{◌≡◌, ◌∙◌, inl, inr, ℕ, List, IsTrue, true, false, Ok, Err, Result, refl, sym, subst}
+use Rattle.std.proofs.Common.{◌≡◌, ◌∙◌, inl, inr, ℕ, List, IfOk, IsTrue, true, false, Ok, Err, Result, refl, sym, subst}
 use Rattle.std.proofs.lemmas.Bool.{cases_Bool}
 use Rattle.sqlite_schema.specs.declared.schema.Constraint.TheVariants.{Unique}
 use Rattle.sqlite_value.specs.Order.{Row}
 use Rattle.sqlite.specs.declared.error.Error.{Error}
 use Rattle.sqlite.specs.declared.error.Error.TheVariants.{SqliteFailure}
 use Rattle.sqlite.specs.declared.error.ErrorCode.TheVariants.{ConstraintViolation}
-use Rattle.sqlite.specs.State.{ExecutesIn, ExecutesInside, Fails, IsNotRun, IsRolledBack, IsUnchanged, KeepsCommit, Shows, State, shows_rows, store_error}
+use Rattle.std.specs.Borrow.{MutBor}
+use Rattle.sqlite_trees.specs.declared.store.Store.{Ghosts}
+use Rattle.sqlite.specs.Held.{Held, state}
+use Rattle.sqlite.specs.State.{ExecutesIn, ExecutesInside, Fails, HasCleanDisk, IsNotRun, IsRolledBack, IsUnchanged, KeepsCommit, Shows, State, Survives, shows_rows, store_error}
 use Rattle.sqlite_trees.specs.declared.error.StoreError.{StoreError}
 use Rattle.sqlite_trees.specs.declared.error.StoreError.TheVariants.{Broken, Corrupt, Full, Io, OutOfMemory, Unstorable}
+use Rattle.store_sql_rows.specs.Ours.{IsInside}
+use Rattle.store_sql_rows.specs.Steps.{MovesBy}
 
 unchanged_keeps : (old new : State) → IsUnchanged old new → KeepsCommit old new
 unchanged_keeps old new same = record { was_open = λ _. same.0.was_open; committed = λ _. same.0.committed_is }
@@ -25,6 +30,16 @@ inside_keeps sql params old new (Err e) (inr h) = unchanged_keeps old new h.2
 
 pub same_keeps : (old new : State) → new ≡ old → KeepsCommit old new
 same_keeps old new same = subst (KeepsCommit old) (sym same) (record { was_open = λ stands. stands; committed = λ _. refl })
+
+-- a statement that did this, stays on its connection and commits nothing
+pub moves_made : {S A : Type 0} {g : Ghosts S} {Does : A → State → State → Type 0} {old new : MutBor (Held S)} {r : Result A Error}
+    → new.ghost_name ≡ old.ghost_name
+    → (HasCleanDisk (state g new.now) → KeepsCommit (state g old.now) (state g new.now))
+    → Survives (state g old.now) (state g new.now) (λ _. ⊥)
+    → (HasCleanDisk (state g new.now) → IsInside (state g old.now) → IfOk r (λ it. Does it (state g old.now) (state g new.now)))
+    → MovesBy g Does old new r
+moves_made same kept survives done =
+    record { same_reference = same; steps = record { done = done; kept = kept; survives = survives } }
 
 -- ---- a key that another row has
 

@@ -2,6 +2,9 @@
 use Rattle.std.proofs.Common.{◌≡◌, true, ℕ, suc, ◌+◌, ◌<◌, List, [], ◌∷◌, drop, length, get_or, Ok, Err, Result, OnOk, sym, ap, ◌∙◌, arith, add-one, drop-cons}
 use Rattle.sqlite_trees.specs.Tree.{Trees}
 use Rattle.sqlite.specs.declared.error.Error.{Error}
+use Rattle.std.specs.Borrow.{MutBor}
+use Rattle.sqlite_trees.specs.declared.store.Store.{Ghosts}
+use Rattle.sqlite.specs.Held.{Held, state}
 use Rattle.sqlite.specs.State.{HasCleanDisk, KeepsCommit, State, Survives}
 use Rattle.sqlite.proofs.InsideLemmas.{keeps_then}
 use Rattle.sqlite.proofs.StateLemmas.{survives_then}
@@ -10,7 +13,7 @@ use Rattle.store.specs.Tables.{Tables}
 use Rattle.store_sql_rows.specs.Broken.{Keeps}
 use Rattle.store_sql_rows.specs.Stored.{Kept, is_sound_in, tables_in}
 use Rattle.store_sql_rows.specs.Ours.{Changes, IsInside, Makes, kept_in}
-use Rattle.store_sql_rows.specs.Steps.{Steps, Turns}
+use Rattle.store_sql_rows.specs.Steps.{Moves, MovesBy, Steps, Turns}
 
 pub survives_on : (a b c : State) → Survives a b (λ _. ⊥) → Survives b c (λ _. ⊥) → Survives a c (λ _. ⊥)
 survives_on a b c one two = survives_then a b c (λ _. ⊥) (λ _. ⊥) (λ _. ⊥) (λ _ db none. none) (λ _ db none. none) one two
@@ -44,50 +47,68 @@ pub inside_after : (P : Kept → Kept → Type 0) (a b : State) → Changes P a 
 inside_after P a b one = record { in_transaction = one.seen.mode; ours = one.ours }
 
 -- one statement turns the tables
-pub one_statement : {A : Type 0} (P : Kept → Kept → Type 0) (f : Tables → Tables) (a b : State) (z : A)
-    → ((k l : Kept) → P k l → Makes f k l)
-    → (HasCleanDisk b → IsInside a → Changes P a b) → (HasCleanDisk b → KeepsCommit a b) → Survives a b (λ _. ⊥)
-    → Steps (Turns f) a b (Ok z)
-one_statement P f a b z makes done kept survives = record {
-  done =
-      λ clean at. let one =
-      done clean at in record { inside = inside_after P a b one; makes = makes (kept_in a.now.trees) (kept_in b.now.trees) one.change };
-  kept = kept;
-  survives = survives;
+pub one_statement : {S A B : Type 0} {g : Ghosts S} {x : A} {old new : MutBor (Held S)} (P : A → Kept → Kept → Type 0) (f : Tables → Tables)
+    (z : B) → MovesBy g (λ it. Changes (P it)) old new (Ok x)
+    → ((k l : Kept) → P x k l → Makes f k l)
+    → Moves g (Turns f) old new (Ok z)
+one_statement {g} {x} {old} {new} P f z step makes = record {
+  same_reference = step.same_reference;
+  steps = record {
+    done = λ clean at.
+        let one = step.steps.done clean at in
+        record {
+          inside = inside_after (P x) (state g old.now) (state g new.now) one;
+          makes = makes (kept_in (state g old.now).now.trees) (kept_in (state g new.now).now.trees) one.change;
+        };
+    kept = step.steps.kept;
+    survives = step.steps.survives;
+  };
 }
 
 -- two statements do
-pub two_statements : {A : Type 0} (P Q : Kept → Kept → Type 0) (f : Tables → Tables) (a b c : State) (z : A)
-    → ((k l m : Kept) → P k l → Q l m → Makes f k m)
-    → (HasCleanDisk b → IsInside a → Changes P a b) → (HasCleanDisk b → KeepsCommit a b) → Survives a b (λ _. ⊥)
-    → (HasCleanDisk c → IsInside b → Changes Q b c) → (HasCleanDisk c → KeepsCommit b c) → Survives b c (λ _. ⊥)
-    → Steps (Turns f) a c (Ok z)
-two_statements P Q f a b c z makes done kept survives done' kept' survives' = record {
-  done = λ clean at.
-      let one = done (clean_before b c _ survives' clean) at in
-      let two = done' clean (inside_after P a b one) in
-      record {
-        inside = inside_after Q b c two;
-        makes = makes (kept_in a.now.trees) (kept_in b.now.trees) (kept_in c.now.trees) one.change two.change;
+pub two_statements : {S A B C : Type 0} {g : Ghosts S} {x : A} {y : B} {old mid new : MutBor (Held S)} (P : A → Kept → Kept → Type 0)
+    (Q : B → Kept → Kept → Type 0) (f : Tables → Tables) (z : C)
+    → MovesBy g (λ it. Changes (P it)) old mid (Ok x) → MovesBy g (λ it. Changes (Q it)) mid new (Ok y)
+    → ((k l m : Kept) → P x k l → Q y l m → Makes f k m)
+    → Moves g (Turns f) old new (Ok z)
+two_statements {g} {x} {y} {old} {mid} {new} P Q f z first second makes =
+    let a = state g old.now in
+    let b = state g mid.now in
+    let c = state g new.now in
+    record {
+      same_reference = second.same_reference ∙ first.same_reference;
+      steps = record {
+        done = λ clean at.
+            let one = first.steps.done (clean_before b c _ second.steps.survives clean) at in
+            let two = second.steps.done clean (inside_after (P x) a b one) in
+            record {
+              inside = inside_after (Q y) b c two;
+              makes = makes (kept_in a.now.trees) (kept_in b.now.trees) (kept_in c.now.trees) one.change two.change;
+            };
+        kept =
+            λ clean. keeps_then a b c (first.steps.kept (clean_before b c _ second.steps.survives clean)) (second.steps.kept clean);
+        survives = survives_on a b c first.steps.survives second.steps.survives;
       };
-  kept = λ clean. keeps_then a b c (kept (clean_before b c _ survives' clean)) (kept' clean);
-  survives = survives_on a b c survives survives';
-}
+    }
 
 -- one turn after the other
-pub turns_then : {A B : Type 0} (f g h : Tables → Tables) (a b c : State) (x : A) (outcome : Result B Error) → ((t : Tables) → g (f t) ≡ h t)
-    → Steps (Turns f) a b (Ok x) → Steps (Turns g) b c outcome → Steps (Turns h) a c outcome
-turns_then f g h a b c x outcome same one two =
-    then (Turns f) (Turns g) (Turns h) a b c x outcome (λ first. first.inside)
-    (λ first second. record {
-      inside = second.inside;
-      makes = record {
-        tables = second.makes.tables ∙ ap g first.makes.tables ∙ same (tables_in (kept_in a.now.trees));
-        is_sound = λ is. second.makes.is_sound (first.makes.is_sound is);
-        stands = λ asked stood. second.makes.stands asked (first.makes.stands asked stood);
-      };
-    })
-    one two
+pub turns_then : {S A B : Type 0} {g : Ghosts S} {x : A} {outcome : Result B Error} {old mid new : MutBor (Held S)}
+    (first second both : Tables → Tables) → ((t : Tables) → second (first t) ≡ both t)
+    → Moves g (Turns first) old mid (Ok x) → Moves g (Turns second) mid new outcome → Moves g (Turns both) old new outcome
+turns_then {g} {x} {outcome} {old} {mid} {new} first second both same one two = record {
+  same_reference = two.same_reference ∙ one.same_reference;
+  steps =
+      then (Turns first) (Turns second) (Turns both) (state g old.now) (state g mid.now) (state g new.now) x outcome (λ done. done.inside)
+      (λ done then_done. record {
+        inside = then_done.inside;
+        makes = record {
+          tables = then_done.makes.tables ∙ ap second done.makes.tables ∙ same (tables_in (kept_in (state g old.now).now.trees));
+          is_sound = λ is. then_done.makes.is_sound (done.makes.is_sound is);
+          stands = λ asked stood. then_done.makes.stands asked (done.makes.stands asked stood);
+        };
+      })
+      one.steps two.steps;
+}
 
 -- ---- the steps of a list
 

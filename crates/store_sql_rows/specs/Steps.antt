@@ -1,7 +1,13 @@
 -- What a step of a transaction does.
-use Rattle.std.specs.Prelude.{Option, Result, OnOk, ℤ}
+use Rattle.std.specs.Prelude.{◌≡◌, Option, Result, Err, IfOk, true, ℤ}
+use Rattle.std.specs.Borrow.{MutBor}
 use Rattle.sqlite.specs.declared.error.Error.{Error}
-use Rattle.sqlite.specs.State.{HasCleanDisk, KeepsCommit, State, Survives}
+use Rattle.sqlite.specs.declared.error.Error.TheVariants.{SqliteFailure}
+use Rattle.sqlite.specs.declared.error.ErrorCode.TheVariants.{ConstraintViolation}
+use Rattle.sqlite.specs.Held.{Held, state}
+use Rattle.sqlite.specs.State.{HasCleanDisk, KeepsCommit, Shows, State, Survives}
+use Rattle.sqlite_trees.specs.declared.store.Store.{Ghosts}
+use Rattle.sqlite_schema.specs.declared.schema.Constraint.TheVariants.{Unique}
 use Rattle.store.specs.declared.change.Change.{Change}
 use Rattle.store.specs.declared.change.ImportedEntry.{ImportedEntry}
 use Rattle.store.specs.declared.change.KeptRow.{KeptRow}
@@ -18,11 +24,32 @@ pub record Turns (f : Tables → Tables) (old new : State) : Type 0 where
   pub inside : IsInside new
   pub makes : Makes f (kept_in old.now.trees) (kept_in new.now.trees)
 
--- A step of a transaction: what it does where it succeeds; and whatever it answered, it commits nothing.
-pub record Steps {A : Type 0} (Does : State → State → Type 0) (old new : State) (outcome : Result A Error) : Type 0 where
-  pub done : HasCleanDisk new → IsInside old → OnOk outcome (Does old new)
+-- A step of a transaction: what it does where it succeeds, by its answer; and whatever it answered, it commits nothing.
+pub record StepsBy {A : Type 0} (Does : A → State → State → Type 0) (old new : State) (outcome : Result A Error) : Type 0 where
+  pub done : HasCleanDisk new → IsInside old → IfOk outcome (λ it. Does it old new)
   pub kept : HasCleanDisk new → KeepsCommit old new
   pub survives : Survives old new (λ trees. ⊥)
+
+-- a step that does the same whatever its answer is
+abbrev pub Steps : {A : Type 0} → (State → State → Type 0) → State → State → Result A Error → Type 0
+Steps Does = StepsBy (λ _. Does)
+
+-- A step of a transaction, which stays on its connection.
+pub record MovesBy {S A : Type 0} (g : Ghosts S) (Does : A → State → State → Type 0) (old new : MutBor (Held S))
+    (outcome : Result A Error) : Type 0 where
+  pub same_reference : new.ghost_name ≡ old.ghost_name
+  pub steps : StepsBy Does (state g old.now) (state g new.now) outcome
+
+-- the same of a step that does the same whatever its answer is
+abbrev pub Moves : {S A : Type 0} → Ghosts S → (State → State → Type 0) → MutBor (Held S) → MutBor (Held S) → Result A Error
+    → Type 0
+Moves g Does = MovesBy g (λ _. Does)
+
+-- a statement that is refused as not unique leaves all as it was, and the transaction goes on
+abbrev pub StaysIfTaken : {A : Type 0} → State → State → Result A Error → Type 0
+StaysIfTaken old new outcome =
+    HasCleanDisk new → IsInside old → outcome ≡ Err (SqliteFailure (ConstraintViolation Unique))
+    → Shows old new old.now old.committed true
 
 -- ---- the tables with one item more
 

@@ -1,15 +1,12 @@
 //! The statements on the imported entries.
-ghost use Rattle.std.specs.Prelude.{◌≡◌, ◌<◌, ◌^◌, ◌&&◌, true, false, Err, IfOk, OnOk, pos, [], ◌∷◌};
+ghost use Rattle.std.specs.Prelude.{◌<◌, ◌&&◌, [], ◌∷◌};
 ghost use Rattle.sqlite.specs.Held.{state};
-ghost use Rattle.sqlite.specs.declared.error.Error.TheVariants.{SqliteFailure};
-ghost use Rattle.sqlite.specs.declared.error.ErrorCode.TheVariants.{ConstraintViolation};
-ghost use Rattle.sqlite_schema.specs.declared.schema.Constraint.TheVariants.{Unique};
-ghost use Rattle.sqlite.specs.State.{HasCleanDisk, IsUnchanged, KeepsCommit, Shows, Survives};
-ghost use Rattle.sqlite_value.specs.declared.value.Value.TheVariants.{Int, Text};
+ghost use Rattle.sqlite_value.specs.declared.value.Value.TheVariants.{Text};
 ghost use Rattle.sqlite_value.specs.Order.{column};
-ghost use Rattle.store_sql_rows.specs.Looking.{Finds, FindsLeast, Rests, is_from_text, is_from};
-ghost use Rattle.store_sql_rows.specs.Ours.{Adds, Changes, IsInside, IsOurs, Loses, kept_in};
+ghost use Rattle.store_sql_rows.specs.Looking.{FindsLeast, Reads, is_from_text};
+ghost use Rattle.store_sql_rows.specs.Ours.{Adds, Changes, Loses};
 ghost use Rattle.store_sql_rows.specs.Slot.{On, imported_slot};
+ghost use Rattle.store_sql_rows.specs.Steps.{Moves, StaysIfTaken};
 ghost use Rattle.store_sql_rows.specs.Cells.{is_text};
 ghost use Rattle.store_sql_rows.specs.Rows.{of_entry};
 
@@ -25,13 +22,8 @@ pub fn clear<S: Alter>(
     calendar: &Name,
     entry: &str,
 ) -> Result<usize, Error>
-    ensures same_reference { transaction.new.conn.ghost_name ≡ transaction.old.conn.ghost_name }
-    ensures done { HasCleanDisk (state S.Store transaction.new.conn.now) → IsInside (state S.Store transaction.old.conn.now)
-        → OnOk result (Changes (On imported_slot (Loses (of_entry calendar.now entry.now)))
-        (state S.Store transaction.old.conn.now) (state S.Store transaction.new.conn.now)) }
-    ensures kept { HasCleanDisk (state S.Store transaction.new.conn.now)
-        → KeepsCommit (state S.Store transaction.old.conn.now) (state S.Store transaction.new.conn.now) }
-    ensures survives { Survives (state S.Store transaction.old.conn.now) (state S.Store transaction.new.conn.now) (λ _. ⊥) }
+    ensures moves { Moves S.Store (Changes (On imported_slot (Loses (of_entry calendar.now entry.now))))
+        transaction.old.conn transaction.new.conn result }
 {
     run(
         transaction,
@@ -46,17 +38,9 @@ pub fn add<S: Alter>(
     calendar: &Name,
     entry: &str,
 ) -> Result<usize, Error>
-    ensures same_reference { transaction.new.conn.ghost_name ≡ transaction.old.conn.ghost_name }
-    ensures refused { HasCleanDisk (state S.Store transaction.new.conn.now) → IsInside (state S.Store transaction.old.conn.now)
-        → result ≡ Err (SqliteFailure (ConstraintViolation Unique))
-        → Shows (state S.Store transaction.old.conn.now) (state S.Store transaction.new.conn.now)
-        (state S.Store transaction.old.conn.now).now (state S.Store transaction.old.conn.now).committed true }
-    ensures done { HasCleanDisk (state S.Store transaction.new.conn.now) → IsInside (state S.Store transaction.old.conn.now)
-        → OnOk result (Changes (On imported_slot (Adds (of_entry calendar.now entry.now) (Text calendar.now ∷ Text entry.now ∷ [])))
-        (state S.Store transaction.old.conn.now) (state S.Store transaction.new.conn.now)) }
-    ensures kept { HasCleanDisk (state S.Store transaction.new.conn.now)
-        → KeepsCommit (state S.Store transaction.old.conn.now) (state S.Store transaction.new.conn.now) }
-    ensures survives { Survives (state S.Store transaction.old.conn.now) (state S.Store transaction.new.conn.now) (λ _. ⊥) }
+    ensures refused { StaysIfTaken (state S.Store transaction.old.conn.now) (state S.Store transaction.new.conn.now) result }
+    ensures moves { Moves S.Store (Changes (On imported_slot (Adds (of_entry calendar.now entry.now) (Text calendar.now ∷ Text entry.now ∷ []))))
+        transaction.old.conn transaction.new.conn result }
 {
     run(
         transaction,
@@ -69,16 +53,8 @@ pub fn add<S: Alter>(
 
 /// The least name from a text on, if there is one.
 pub fn next_name<S: Alter>(connection: &mut Connection<S>, from: &str) -> Result<Vec<Row>, Error>
-    ensures mode { connection.old.in_transaction ≡ false → connection.new.in_transaction ≡ false }
-    ensures same { HasCleanDisk (state S.Store connection.new) → IsOurs (state S.Store connection.old).now
-        → OnOk result (IsUnchanged (state S.Store connection.old) (state S.Store connection.new)) }
-    ensures rests { HasCleanDisk (state S.Store connection.new) → IsOurs (state S.Store connection.old).now
-        → Rests (state S.Store connection.old) (state S.Store connection.new) }
-    ensures found { HasCleanDisk (state S.Store connection.new) → IsOurs (state S.Store connection.old).now
-        → IfOk result (λ rows. FindsLeast (λ row. is_from_text from.now (column row 1)) 1
-        (kept_in (state S.Store connection.old).now.trees).imported rows.items) }
-    ensures survives { Survives (state S.Store connection.old) (state S.Store connection.new)
-        (λ _. IsOurs (state S.Store connection.old).now → ⊥) }
+    ensures reads { Reads (λ kept rows. FindsLeast (λ row. is_from_text from.now (column row 1)) 1 kept.imported rows.items)
+        (state S.Store connection.old) (state S.Store connection.new) result }
 {
     ask(
         connection,
@@ -93,16 +69,9 @@ pub fn next_entry<S: Alter>(
     calendar: &Name,
     from: &str,
 ) -> Result<Vec<Row>, Error>
-    ensures mode { connection.old.in_transaction ≡ false → connection.new.in_transaction ≡ false }
-    ensures same { HasCleanDisk (state S.Store connection.new) → IsOurs (state S.Store connection.old).now
-        → OnOk result (IsUnchanged (state S.Store connection.old) (state S.Store connection.new)) }
-    ensures rests { HasCleanDisk (state S.Store connection.new) → IsOurs (state S.Store connection.old).now
-        → Rests (state S.Store connection.old) (state S.Store connection.new) }
-    ensures found { HasCleanDisk (state S.Store connection.new) → IsOurs (state S.Store connection.old).now
-        → IfOk result (λ rows. FindsLeast (λ row. is_text calendar.now (column row 1) && is_from_text from.now (column row 2)) 2
-        (kept_in (state S.Store connection.old).now.trees).imported rows.items) }
-    ensures survives { Survives (state S.Store connection.old) (state S.Store connection.new)
-        (λ _. IsOurs (state S.Store connection.old).now → ⊥) }
+    ensures reads { Reads (λ kept rows. FindsLeast
+        (λ row. is_text calendar.now (column row 1) && is_from_text from.now (column row 2)) 2 kept.imported rows.items)
+        (state S.Store connection.old) (state S.Store connection.new) result }
 {
     ask(
         connection,

@@ -1,15 +1,12 @@
 //! The statements on the rows of commands.
-ghost use Rattle.std.specs.Prelude.{◌≡◌, ◌<◌, ◌^◌, ◌&&◌, true, false, Err, IfOk, OnOk, pos, [], ◌∷◌};
+ghost use Rattle.std.specs.Prelude.{◌<◌, ◌^◌, ◌&&◌, pos, [], ◌∷◌};
 ghost use Rattle.sqlite.specs.Held.{state};
-ghost use Rattle.sqlite.specs.declared.error.Error.TheVariants.{SqliteFailure};
-ghost use Rattle.sqlite.specs.declared.error.ErrorCode.TheVariants.{ConstraintViolation};
-ghost use Rattle.sqlite_schema.specs.declared.schema.Constraint.TheVariants.{Unique};
-ghost use Rattle.sqlite.specs.State.{HasCleanDisk, IsUnchanged, KeepsCommit, Shows, Survives};
 ghost use Rattle.sqlite_value.specs.declared.value.Value.TheVariants.{Int, Text};
 ghost use Rattle.sqlite_value.specs.Order.{column};
-ghost use Rattle.store_sql_rows.specs.Looking.{Finds, FindsLeast, Rests, is_from_text, is_from};
-ghost use Rattle.store_sql_rows.specs.Ours.{Adds, Changes, IsInside, IsOurs, Loses, kept_in};
+ghost use Rattle.store_sql_rows.specs.Looking.{Finds, FindsLeast, Reads, is_from, is_from_text};
+ghost use Rattle.store_sql_rows.specs.Ours.{Adds, Changes, Loses};
 ghost use Rattle.store_sql_rows.specs.Slot.{On, command_slot};
+ghost use Rattle.store_sql_rows.specs.Steps.{Moves, StaysIfTaken};
 ghost use Rattle.store_sql_rows.specs.Cells.{cell_of, is_text};
 ghost use Rattle.store_sql_rows.specs.Rows.{of_command, of_lower_command};
 
@@ -27,13 +24,8 @@ pub fn clear<S: Alter>(
     number: u64,
 ) -> Result<usize, Error>
     requires { number < 2 ^ 63 }
-    ensures same_reference { transaction.new.conn.ghost_name ≡ transaction.old.conn.ghost_name }
-    ensures done { HasCleanDisk (state S.Store transaction.new.conn.now) → IsInside (state S.Store transaction.old.conn.now)
-        → OnOk result (Changes (On command_slot (Loses (of_command panel.now number))) (state S.Store transaction.old.conn.now)
-        (state S.Store transaction.new.conn.now)) }
-    ensures kept { HasCleanDisk (state S.Store transaction.new.conn.now)
-        → KeepsCommit (state S.Store transaction.old.conn.now) (state S.Store transaction.new.conn.now) }
-    ensures survives { Survives (state S.Store transaction.old.conn.now) (state S.Store transaction.new.conn.now) (λ _. ⊥) }
+    ensures moves { Moves S.Store (Changes (On command_slot (Loses (of_command panel.now number))))
+        transaction.old.conn transaction.new.conn result }
 {
     run(
         transaction,
@@ -51,19 +43,10 @@ pub fn add<S: Alter>(
     cells: &StateCells,
 ) -> Result<usize, Error>
     requires { number < 2 ^ 63 }
-    ensures same_reference { transaction.new.conn.ghost_name ≡ transaction.old.conn.ghost_name }
-    ensures refused { HasCleanDisk (state S.Store transaction.new.conn.now) → IsInside (state S.Store transaction.old.conn.now)
-        → result ≡ Err (SqliteFailure (ConstraintViolation Unique))
-        → Shows (state S.Store transaction.old.conn.now) (state S.Store transaction.new.conn.now)
-        (state S.Store transaction.old.conn.now).now (state S.Store transaction.old.conn.now).committed true }
-    ensures done { HasCleanDisk (state S.Store transaction.new.conn.now) → IsInside (state S.Store transaction.old.conn.now)
-        → OnOk result (Changes (On command_slot (Adds (of_command panel.now number)
+    ensures refused { StaysIfTaken (state S.Store transaction.old.conn.now) (state S.Store transaction.new.conn.now) result }
+    ensures moves { Moves S.Store (Changes (On command_slot (Adds (of_command panel.now number)
         (Text panel.now ∷ Int (pos number) ∷ Text content.now.point ∷ Int content.now.priority ∷ cell_of content.now.value
-        ∷ Int cells.now.code ∷ cell_of cells.now.a ∷ cell_of cells.now.b ∷ [])))
-        (state S.Store transaction.old.conn.now) (state S.Store transaction.new.conn.now)) }
-    ensures kept { HasCleanDisk (state S.Store transaction.new.conn.now)
-        → KeepsCommit (state S.Store transaction.old.conn.now) (state S.Store transaction.new.conn.now) }
-    ensures survives { Survives (state S.Store transaction.old.conn.now) (state S.Store transaction.new.conn.now) (λ _. ⊥) }
+        ∷ Int cells.now.code ∷ cell_of cells.now.a ∷ cell_of cells.now.b ∷ [])))) transaction.old.conn transaction.new.conn result }
 {
     run(
         transaction,
@@ -88,13 +71,8 @@ pub fn drop_below<S: Alter>(
     number: u64,
 ) -> Result<usize, Error>
     requires { number < 2 ^ 63 }
-    ensures same_reference { transaction.new.conn.ghost_name ≡ transaction.old.conn.ghost_name }
-    ensures done { HasCleanDisk (state S.Store transaction.new.conn.now) → IsInside (state S.Store transaction.old.conn.now)
-        → OnOk result (Changes (On command_slot (Loses (of_lower_command panel.now number)))
-        (state S.Store transaction.old.conn.now) (state S.Store transaction.new.conn.now)) }
-    ensures kept { HasCleanDisk (state S.Store transaction.new.conn.now)
-        → KeepsCommit (state S.Store transaction.old.conn.now) (state S.Store transaction.new.conn.now) }
-    ensures survives { Survives (state S.Store transaction.old.conn.now) (state S.Store transaction.new.conn.now) (λ _. ⊥) }
+    ensures moves { Moves S.Store (Changes (On command_slot (Loses (of_lower_command panel.now number))))
+        transaction.old.conn transaction.new.conn result }
 {
     run(
         transaction,
@@ -112,17 +90,10 @@ pub fn find<S: Alter>(
     number: u64,
 ) -> Result<Vec<Row>, Error>
     requires { number < 2 ^ 63 }
-    ensures mode { connection.old.in_transaction ≡ false → connection.new.in_transaction ≡ false }
-    ensures same { HasCleanDisk (state S.Store connection.new) → IsOurs (state S.Store connection.old).now
-        → OnOk result (IsUnchanged (state S.Store connection.old) (state S.Store connection.new)) }
-    ensures rests { HasCleanDisk (state S.Store connection.new) → IsOurs (state S.Store connection.old).now
-        → Rests (state S.Store connection.old) (state S.Store connection.new) }
-    ensures found { HasCleanDisk (state S.Store connection.new) → IsOurs (state S.Store connection.old).now
-        → IfOk result (λ rows. Finds (of_command panel.now number)
+    ensures reads { Reads (λ kept rows. Finds (of_command panel.now number)
         (λ row. column row 3 ∷ column row 4 ∷ column row 5 ∷ column row 6 ∷ column row 7 ∷ column row 8 ∷ [])
-        (kept_in (state S.Store connection.old).now.trees).command rows.items) }
-    ensures survives { Survives (state S.Store connection.old) (state S.Store connection.new)
-        (λ _. IsOurs (state S.Store connection.old).now → ⊥) }
+        kept.command rows.items)
+        (state S.Store connection.old) (state S.Store connection.new) result }
 {
     ask(
         connection,
@@ -138,16 +109,8 @@ pub fn below<S: Alter>(
     number: u64,
 ) -> Result<Vec<Row>, Error>
     requires { number < 2 ^ 63 }
-    ensures mode { connection.old.in_transaction ≡ false → connection.new.in_transaction ≡ false }
-    ensures same { HasCleanDisk (state S.Store connection.new) → IsOurs (state S.Store connection.old).now
-        → OnOk result (IsUnchanged (state S.Store connection.old) (state S.Store connection.new)) }
-    ensures rests { HasCleanDisk (state S.Store connection.new) → IsOurs (state S.Store connection.old).now
-        → Rests (state S.Store connection.old) (state S.Store connection.new) }
-    ensures found { HasCleanDisk (state S.Store connection.new) → IsOurs (state S.Store connection.old).now
-        → IfOk result (λ rows. Finds (of_lower_command panel.now number) (λ row. column row 2 ∷ [])
-        (kept_in (state S.Store connection.old).now.trees).command rows.items) }
-    ensures survives { Survives (state S.Store connection.old) (state S.Store connection.new)
-        (λ _. IsOurs (state S.Store connection.old).now → ⊥) }
+    ensures reads { Reads (λ kept rows. Finds (of_lower_command panel.now number) (λ row. column row 2 ∷ []) kept.command rows.items)
+        (state S.Store connection.old) (state S.Store connection.new) result }
 {
     ask(
         connection,
@@ -158,16 +121,8 @@ pub fn below<S: Alter>(
 
 /// The least name of a panel from a text on, if there is one.
 pub fn next_panel<S: Alter>(connection: &mut Connection<S>, from: &str) -> Result<Vec<Row>, Error>
-    ensures mode { connection.old.in_transaction ≡ false → connection.new.in_transaction ≡ false }
-    ensures same { HasCleanDisk (state S.Store connection.new) → IsOurs (state S.Store connection.old).now
-        → OnOk result (IsUnchanged (state S.Store connection.old) (state S.Store connection.new)) }
-    ensures rests { HasCleanDisk (state S.Store connection.new) → IsOurs (state S.Store connection.old).now
-        → Rests (state S.Store connection.old) (state S.Store connection.new) }
-    ensures found { HasCleanDisk (state S.Store connection.new) → IsOurs (state S.Store connection.old).now
-        → IfOk result (λ rows. FindsLeast (λ row. is_from_text from.now (column row 1)) 1
-        (kept_in (state S.Store connection.old).now.trees).command rows.items) }
-    ensures survives { Survives (state S.Store connection.old) (state S.Store connection.new)
-        (λ _. IsOurs (state S.Store connection.old).now → ⊥) }
+    ensures reads { Reads (λ kept rows. FindsLeast (λ row. is_from_text from.now (column row 1)) 1 kept.command rows.items)
+        (state S.Store connection.old) (state S.Store connection.new) result }
 {
     ask(
         connection,
@@ -183,16 +138,9 @@ pub fn next_number<S: Alter>(
     from: u64,
 ) -> Result<Vec<Row>, Error>
     requires { from < 2 ^ 63 }
-    ensures mode { connection.old.in_transaction ≡ false → connection.new.in_transaction ≡ false }
-    ensures same { HasCleanDisk (state S.Store connection.new) → IsOurs (state S.Store connection.old).now
-        → OnOk result (IsUnchanged (state S.Store connection.old) (state S.Store connection.new)) }
-    ensures rests { HasCleanDisk (state S.Store connection.new) → IsOurs (state S.Store connection.old).now
-        → Rests (state S.Store connection.old) (state S.Store connection.new) }
-    ensures found { HasCleanDisk (state S.Store connection.new) → IsOurs (state S.Store connection.old).now
-        → IfOk result (λ rows. FindsLeast (λ row. is_text panel.now (column row 1) && is_from from (column row 2)) 2
-        (kept_in (state S.Store connection.old).now.trees).command rows.items) }
-    ensures survives { Survives (state S.Store connection.old) (state S.Store connection.new)
-        (λ _. IsOurs (state S.Store connection.old).now → ⊥) }
+    ensures reads { Reads (λ kept rows. FindsLeast
+        (λ row. is_text panel.now (column row 1) && is_from from (column row 2)) 2 kept.command rows.items)
+        (state S.Store connection.old) (state S.Store connection.new) result }
 {
     ask(
         connection,

@@ -6,8 +6,7 @@ ghost use Rattle.sqlite.specs.Listing.{understood};
 ghost use Rattle.sqlite.specs.State.{HasCleanDisk, IsUnchanged, Shown, Survives};
 ghost use Rattle.sqlite.specs.Values.{bound};
 ghost use Rattle.store_sql_create.specs.Schema.{desk_schema};
-ghost use Rattle.store_sql_rows.specs.Looking.{Rests};
-ghost use Rattle.store_sql_rows.specs.Ours.{IsOurs};
+ghost use Rattle.store_sql_rows.specs.Looking.{Leaves, Rests};
 
 use sqlite::types::ValueRef;
 use sqlite::{Alter, Connection, Error, Row};
@@ -42,16 +41,10 @@ pub(crate) fn ask<S: Alter>(
     params: &[ValueRef<'_>],
 ) -> Result<Vec<Row>, Error>
     requires { IsPlain (understood desk_schema sql.now) }
-    ensures mode { connection.old.in_transaction ≡ false → connection.new.in_transaction ≡ false }
     ensures shown { HasCleanDisk (state S.Store connection.new)
         → IfOk result
         (λ rows. Shown sql.now (bound params.now) (state S.Store connection.old) (state S.Store connection.new) rows.items) }
-    ensures same { HasCleanDisk (state S.Store connection.new) → IsOurs (state S.Store connection.old).now
-        → OnOk result (IsUnchanged (state S.Store connection.old) (state S.Store connection.new)) }
-    ensures rests { HasCleanDisk (state S.Store connection.new) → IsOurs (state S.Store connection.old).now
-        → Rests (state S.Store connection.old) (state S.Store connection.new) }
-    ensures survives { Survives (state S.Store connection.old) (state S.Store connection.new)
-        (λ _. IsOurs (state S.Store connection.old).now → ⊥) }
+    ensures leaves { Leaves (state S.Store connection.old) (state S.Store connection.new) result }
 {
     look(connection, sql, params)
 }

@@ -1,13 +1,12 @@
 //! The statements on the next numbers of panels.
-ghost use Rattle.std.specs.Prelude.{◌≡◌, ◌<◌, ◌^◌, ◌&&◌, false, IfOk, OnOk, pos, [], ◌∷◌};
+ghost use Rattle.std.specs.Prelude.{◌<◌, ◌^◌, pos, [], ◌∷◌};
 ghost use Rattle.sqlite.specs.Held.{state};
-ghost use Rattle.sqlite.specs.State.{HasCleanDisk, IsUnchanged, KeepsCommit, Survives};
 ghost use Rattle.sqlite_value.specs.declared.value.Value.TheVariants.{Int, Text};
 ghost use Rattle.sqlite_value.specs.Order.{column};
-ghost use Rattle.store_sql_rows.specs.Looking.{Finds, FindsLeast, Rests, is_from_text, is_from};
-ghost use Rattle.store_sql_rows.specs.Ours.{Changes, Gains, IsInside, IsOurs, Rewrites, kept_in};
+ghost use Rattle.store_sql_rows.specs.Looking.{Finds, FindsLeast, Reads, is_from_text};
+ghost use Rattle.store_sql_rows.specs.Ours.{Changes, Gains, Rewrites};
 ghost use Rattle.store_sql_rows.specs.Slot.{On, panel_slot};
-ghost use Rattle.store_sql_rows.specs.Cells.{is_text};
+ghost use Rattle.store_sql_rows.specs.Steps.{Moves, MovesBy};
 ghost use Rattle.store_sql_rows.specs.Rows.{of_panel};
 
 use crate::looking::ask;
@@ -23,13 +22,8 @@ pub fn add<S: Alter>(
     next: u64,
 ) -> Result<usize, Error>
     requires { next < 2 ^ 63 }
-    ensures same_reference { transaction.new.conn.ghost_name ≡ transaction.old.conn.ghost_name }
-    ensures done { HasCleanDisk (state S.Store transaction.new.conn.now) → IsInside (state S.Store transaction.old.conn.now)
-        → OnOk result (Changes (On panel_slot (Gains (Text panel.now ∷ Int (pos next) ∷ [])))
-        (state S.Store transaction.old.conn.now) (state S.Store transaction.new.conn.now)) }
-    ensures kept { HasCleanDisk (state S.Store transaction.new.conn.now)
-        → KeepsCommit (state S.Store transaction.old.conn.now) (state S.Store transaction.new.conn.now) }
-    ensures survives { Survives (state S.Store transaction.old.conn.now) (state S.Store transaction.new.conn.now) (λ _. ⊥) }
+    ensures moves { Moves S.Store (Changes (On panel_slot (Gains (Text panel.now ∷ Int (pos next) ∷ []))))
+        transaction.old.conn transaction.new.conn result }
 {
     run(
         transaction,
@@ -45,14 +39,8 @@ pub fn set<S: Alter>(
     next: u64,
 ) -> Result<usize, Error>
     requires { next < 2 ^ 63 }
-    ensures same_reference { transaction.new.conn.ghost_name ≡ transaction.old.conn.ghost_name }
-    ensures done { HasCleanDisk (state S.Store transaction.new.conn.now) → IsInside (state S.Store transaction.old.conn.now)
-        → IfOk result (λ count. Changes
-        (On panel_slot (Rewrites (of_panel panel.now) (Text panel.now ∷ Int (pos next) ∷ []) count))
-        (state S.Store transaction.old.conn.now) (state S.Store transaction.new.conn.now)) }
-    ensures kept { HasCleanDisk (state S.Store transaction.new.conn.now)
-        → KeepsCommit (state S.Store transaction.old.conn.now) (state S.Store transaction.new.conn.now) }
-    ensures survives { Survives (state S.Store transaction.old.conn.now) (state S.Store transaction.new.conn.now) (λ _. ⊥) }
+    ensures moves { MovesBy S.Store (λ count. Changes (On panel_slot (Rewrites (of_panel panel.now) (Text panel.now ∷ Int (pos next) ∷ []) count)))
+        transaction.old.conn transaction.new.conn result }
 {
     run(
         transaction,
@@ -65,16 +53,8 @@ pub fn set<S: Alter>(
 
 /// The cell `next` of a panel.
 pub fn find<S: Alter>(connection: &mut Connection<S>, panel: &Name) -> Result<Vec<Row>, Error>
-    ensures mode { connection.old.in_transaction ≡ false → connection.new.in_transaction ≡ false }
-    ensures same { HasCleanDisk (state S.Store connection.new) → IsOurs (state S.Store connection.old).now
-        → OnOk result (IsUnchanged (state S.Store connection.old) (state S.Store connection.new)) }
-    ensures rests { HasCleanDisk (state S.Store connection.new) → IsOurs (state S.Store connection.old).now
-        → Rests (state S.Store connection.old) (state S.Store connection.new) }
-    ensures found { HasCleanDisk (state S.Store connection.new) → IsOurs (state S.Store connection.old).now
-        → IfOk result (λ rows. Finds (of_panel panel.now) (λ row. column row 2 ∷ [])
-        (kept_in (state S.Store connection.old).now.trees).panel rows.items) }
-    ensures survives { Survives (state S.Store connection.old) (state S.Store connection.new)
-        (λ _. IsOurs (state S.Store connection.old).now → ⊥) }
+    ensures reads { Reads (λ kept rows. Finds (of_panel panel.now) (λ row. column row 2 ∷ []) kept.panel rows.items)
+        (state S.Store connection.old) (state S.Store connection.new) result }
 {
     ask(
         connection,
@@ -85,16 +65,8 @@ pub fn find<S: Alter>(connection: &mut Connection<S>, panel: &Name) -> Result<Ve
 
 /// The least name from a text on, if there is one.
 pub fn next_name<S: Alter>(connection: &mut Connection<S>, from: &str) -> Result<Vec<Row>, Error>
-    ensures mode { connection.old.in_transaction ≡ false → connection.new.in_transaction ≡ false }
-    ensures same { HasCleanDisk (state S.Store connection.new) → IsOurs (state S.Store connection.old).now
-        → OnOk result (IsUnchanged (state S.Store connection.old) (state S.Store connection.new)) }
-    ensures rests { HasCleanDisk (state S.Store connection.new) → IsOurs (state S.Store connection.old).now
-        → Rests (state S.Store connection.old) (state S.Store connection.new) }
-    ensures found { HasCleanDisk (state S.Store connection.new) → IsOurs (state S.Store connection.old).now
-        → IfOk result (λ rows. FindsLeast (λ row. is_from_text from.now (column row 1)) 1
-        (kept_in (state S.Store connection.old).now.trees).panel rows.items) }
-    ensures survives { Survives (state S.Store connection.old) (state S.Store connection.new)
-        (λ _. IsOurs (state S.Store connection.old).now → ⊥) }
+    ensures reads { Reads (λ kept rows. FindsLeast (λ row. is_from_text from.now (column row 1)) 1 kept.panel rows.items)
+        (state S.Store connection.old) (state S.Store connection.new) result }
 {
     ask(
         connection,

@@ -1,12 +1,12 @@
 //! The statements on the values in places.
-ghost use Rattle.std.specs.Prelude.{◌≡◌, ◌<◌, ◌^◌, ◌&&◌, false, IfOk, OnOk, pos, [], ◌∷◌};
+ghost use Rattle.std.specs.Prelude.{◌<◌, pos, [], ◌∷◌};
 ghost use Rattle.sqlite.specs.Held.{state};
-ghost use Rattle.sqlite.specs.State.{HasCleanDisk, IsUnchanged, KeepsCommit, Survives};
 ghost use Rattle.sqlite_value.specs.declared.value.Value.TheVariants.{Int, Text};
 ghost use Rattle.sqlite_value.specs.Order.{column};
-ghost use Rattle.store_sql_rows.specs.Looking.{Finds, FindsLeast, Rests, is_from_text, is_from};
-ghost use Rattle.store_sql_rows.specs.Ours.{Changes, Gains, IsInside, IsOurs, Loses, Rewrites, kept_in};
+ghost use Rattle.store_sql_rows.specs.Looking.{Finds, FindsLeast, Reads, is_from_text};
+ghost use Rattle.store_sql_rows.specs.Ours.{Changes, Gains, Loses, Rewrites};
 ghost use Rattle.store_sql_rows.specs.Slot.{On, place_slot};
+ghost use Rattle.store_sql_rows.specs.Steps.{Moves, MovesBy};
 ghost use Rattle.store_sql_rows.specs.Cells.{is_text};
 ghost use Rattle.store_sql_rows.specs.Rows.{of_place};
 
@@ -22,13 +22,8 @@ pub fn clear<S: Alter>(
     point: &Name,
     priority: u8,
 ) -> Result<usize, Error>
-    ensures same_reference { transaction.new.conn.ghost_name ≡ transaction.old.conn.ghost_name }
-    ensures done { HasCleanDisk (state S.Store transaction.new.conn.now) → IsInside (state S.Store transaction.old.conn.now)
-        → OnOk result (Changes (On place_slot (Loses (of_place point.now priority))) (state S.Store transaction.old.conn.now)
-        (state S.Store transaction.new.conn.now)) }
-    ensures kept { HasCleanDisk (state S.Store transaction.new.conn.now)
-        → KeepsCommit (state S.Store transaction.old.conn.now) (state S.Store transaction.new.conn.now) }
-    ensures survives { Survives (state S.Store transaction.old.conn.now) (state S.Store transaction.new.conn.now) (λ _. ⊥) }
+    ensures moves { Moves S.Store (Changes (On place_slot (Loses (of_place point.now priority))))
+        transaction.old.conn transaction.new.conn result }
 {
     run(
         transaction,
@@ -44,13 +39,8 @@ pub fn add<S: Alter>(
     priority: u8,
     value: i64,
 ) -> Result<usize, Error>
-    ensures same_reference { transaction.new.conn.ghost_name ≡ transaction.old.conn.ghost_name }
-    ensures done { HasCleanDisk (state S.Store transaction.new.conn.now) → IsInside (state S.Store transaction.old.conn.now)
-        → OnOk result (Changes (On place_slot (Gains (Text point.now ∷ Int (pos priority) ∷ Int value ∷ [])))
-        (state S.Store transaction.old.conn.now) (state S.Store transaction.new.conn.now)) }
-    ensures kept { HasCleanDisk (state S.Store transaction.new.conn.now)
-        → KeepsCommit (state S.Store transaction.old.conn.now) (state S.Store transaction.new.conn.now) }
-    ensures survives { Survives (state S.Store transaction.old.conn.now) (state S.Store transaction.new.conn.now) (λ _. ⊥) }
+    ensures moves { Moves S.Store (Changes (On place_slot (Gains (Text point.now ∷ Int (pos priority) ∷ Int value ∷ []))))
+        transaction.old.conn transaction.new.conn result }
 {
     run(
         transaction,
@@ -66,14 +56,9 @@ pub fn set<S: Alter>(
     priority: u8,
     value: i64,
 ) -> Result<usize, Error>
-    ensures same_reference { transaction.new.conn.ghost_name ≡ transaction.old.conn.ghost_name }
-    ensures done { HasCleanDisk (state S.Store transaction.new.conn.now) → IsInside (state S.Store transaction.old.conn.now)
-        → IfOk result (λ count. Changes
-        (On place_slot (Rewrites (of_place point.now priority) (Text point.now ∷ Int (pos priority) ∷ Int value ∷ []) count))
-        (state S.Store transaction.old.conn.now) (state S.Store transaction.new.conn.now)) }
-    ensures kept { HasCleanDisk (state S.Store transaction.new.conn.now)
-        → KeepsCommit (state S.Store transaction.old.conn.now) (state S.Store transaction.new.conn.now) }
-    ensures survives { Survives (state S.Store transaction.old.conn.now) (state S.Store transaction.new.conn.now) (λ _. ⊥) }
+    ensures moves { MovesBy S.Store (λ count. Changes
+        (On place_slot (Rewrites (of_place point.now priority) (Text point.now ∷ Int (pos priority) ∷ Int value ∷ []) count)))
+        transaction.old.conn transaction.new.conn result }
 {
     run(
         transaction,
@@ -86,16 +71,8 @@ pub fn set<S: Alter>(
 
 /// The least name of a point from a text on, if there is one.
 pub fn next_point<S: Alter>(connection: &mut Connection<S>, from: &str) -> Result<Vec<Row>, Error>
-    ensures mode { connection.old.in_transaction ≡ false → connection.new.in_transaction ≡ false }
-    ensures same { HasCleanDisk (state S.Store connection.new) → IsOurs (state S.Store connection.old).now
-        → OnOk result (IsUnchanged (state S.Store connection.old) (state S.Store connection.new)) }
-    ensures rests { HasCleanDisk (state S.Store connection.new) → IsOurs (state S.Store connection.old).now
-        → Rests (state S.Store connection.old) (state S.Store connection.new) }
-    ensures found { HasCleanDisk (state S.Store connection.new) → IsOurs (state S.Store connection.old).now
-        → IfOk result (λ rows. FindsLeast (λ row. is_from_text from.now (column row 1)) 1
-        (kept_in (state S.Store connection.old).now.trees).place rows.items) }
-    ensures survives { Survives (state S.Store connection.old) (state S.Store connection.new)
-        (λ _. IsOurs (state S.Store connection.old).now → ⊥) }
+    ensures reads { Reads (λ kept rows. FindsLeast (λ row. is_from_text from.now (column row 1)) 1 kept.place rows.items)
+        (state S.Store connection.old) (state S.Store connection.new) result }
 {
     ask(
         connection,
@@ -106,16 +83,9 @@ pub fn next_point<S: Alter>(connection: &mut Connection<S>, from: &str) -> Resul
 
 /// The cells `priority` and `value` of the places of a point.
 pub fn of_point<S: Alter>(connection: &mut Connection<S>, point: &Name) -> Result<Vec<Row>, Error>
-    ensures mode { connection.old.in_transaction ≡ false → connection.new.in_transaction ≡ false }
-    ensures same { HasCleanDisk (state S.Store connection.new) → IsOurs (state S.Store connection.old).now
-        → OnOk result (IsUnchanged (state S.Store connection.old) (state S.Store connection.new)) }
-    ensures rests { HasCleanDisk (state S.Store connection.new) → IsOurs (state S.Store connection.old).now
-        → Rests (state S.Store connection.old) (state S.Store connection.new) }
-    ensures found { HasCleanDisk (state S.Store connection.new) → IsOurs (state S.Store connection.old).now
-        → IfOk result (λ rows. Finds (λ row. is_text point.now (column row 1)) (λ row. column row 2 ∷ column row 3 ∷ [])
-        (kept_in (state S.Store connection.old).now.trees).place rows.items) }
-    ensures survives { Survives (state S.Store connection.old) (state S.Store connection.new)
-        (λ _. IsOurs (state S.Store connection.old).now → ⊥) }
+    ensures reads { Reads (λ kept rows. Finds (λ row. is_text point.now (column row 1))
+        (λ row. column row 2 ∷ column row 3 ∷ []) kept.place rows.items)
+        (state S.Store connection.old) (state S.Store connection.new) result }
 {
     ask(
         connection,

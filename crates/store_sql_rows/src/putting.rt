@@ -6,7 +6,7 @@ ghost use Rattle.sqlite_value.specs.declared.value.Value.TheVariants.{Int};
 ghost use Rattle.store.specs.Change.{IsKeptRow, IsNext, IsPlace};
 ghost use Rattle.store_sql_rows.specs.Cells.{cell_of};
 ghost use Rattle.store_sql_rows.specs.Rows.{state_in};
-ghost use Rattle.store_sql_rows.specs.Steps.{Steps, Turns, imported_put, last_put, next_put, place_put, row_put, rows_dropped, shown_put};
+ghost use Rattle.store_sql_rows.specs.Steps.{Moves, Steps, Turns, imported_put, last_put, next_put, place_put, row_put, rows_dropped, shown_put};
 
 use crate::command_cells::{StateCells, cells_of};
 use crate::{calendars, commands, desk_row, panels, places, schedules};
@@ -23,9 +23,7 @@ pub fn put_next<S: Alter>(
     item: &NextNumber,
 ) -> Result<(), Error>
     requires { IsNext item.now }
-    ensures same_reference { transaction.new.conn.ghost_name ≡ transaction.old.conn.ghost_name }
-    ensures steps { Steps (Turns (next_put item.now)) (state S.Store transaction.old.conn.now)
-        (state S.Store transaction.new.conn.now) result }
+    ensures moves { Moves S.Store (Turns (next_put item.now)) transaction.old.conn transaction.new.conn result }
 {
     let _name = item.panel.as_str();
     if panels::set(transaction, &item.panel, item.next)? == 0 {
@@ -62,9 +60,7 @@ fn replace_row<S: Alter>(
 /// that is refused.
 pub fn put_row<S: Alter>(transaction: &mut Transaction<'_, S>, item: &KeptRow) -> Result<(), Error>
     requires { IsKeptRow item.now }
-    ensures same_reference { transaction.new.conn.ghost_name ≡ transaction.old.conn.ghost_name }
-    ensures steps { Steps (Turns (row_put item.now)) (state S.Store transaction.old.conn.now)
-        (state S.Store transaction.new.conn.now) result }
+    ensures moves { Moves S.Store (Turns (row_put item.now)) transaction.old.conn transaction.new.conn result }
 {
     let _name = item.panel.as_str();
     let _point = item.row.content.point.as_str();
@@ -88,9 +84,7 @@ pub fn drop_rows<S: Alter>(
     transaction: &mut Transaction<'_, S>,
     item: &RowsBelow,
 ) -> Result<(), Error>
-    ensures same_reference { transaction.new.conn.ghost_name ≡ transaction.old.conn.ghost_name }
-    ensures steps { Steps (Turns (rows_dropped item.now)) (state S.Store transaction.old.conn.now)
-        (state S.Store transaction.new.conn.now) result }
+    ensures moves { Moves S.Store (Turns (rows_dropped item.now)) transaction.old.conn transaction.new.conn result }
 {
     if item.number == 0 {
         return Ok(());
@@ -110,9 +104,7 @@ pub fn put_place<S: Alter>(
     item: &PlaceValue,
 ) -> Result<(), Error>
     requires { IsPlace item.now }
-    ensures same_reference { transaction.new.conn.ghost_name ≡ transaction.old.conn.ghost_name }
-    ensures steps { Steps (Turns (place_put item.now)) (state S.Store transaction.old.conn.now)
-        (state S.Store transaction.new.conn.now) result }
+    ensures moves { Moves S.Store (Turns (place_put item.now)) transaction.old.conn transaction.new.conn result }
 {
     let _name = item.point.as_str();
     let Some(value) = item.value else {
@@ -130,9 +122,7 @@ pub fn put_shown<S: Alter>(
     transaction: &mut Transaction<'_, S>,
     item: &ShownValue,
 ) -> Result<(), Error>
-    ensures same_reference { transaction.new.conn.ghost_name ≡ transaction.old.conn.ghost_name }
-    ensures steps { Steps (Turns (shown_put item.now)) (state S.Store transaction.old.conn.now)
-        (state S.Store transaction.new.conn.now) result }
+    ensures moves { Moves S.Store (Turns (shown_put item.now)) transaction.old.conn transaction.new.conn result }
 {
     let _name = item.schedule.as_str();
     let Some(value) = item.shown else {
@@ -169,9 +159,7 @@ pub fn put_imported<S: Alter>(
     transaction: &mut Transaction<'_, S>,
     item: &ImportedEntry,
 ) -> Result<(), Error>
-    ensures same_reference { transaction.new.conn.ghost_name ≡ transaction.old.conn.ghost_name }
-    ensures steps { Steps (Turns (imported_put item.now)) (state S.Store transaction.old.conn.now)
-        (state S.Store transaction.new.conn.now) result }
+    ensures moves { Moves S.Store (Turns (imported_put item.now)) transaction.old.conn transaction.new.conn result }
 {
     let _name = item.calendar.as_str();
     let entry = item.entry.write(alloc)?;
@@ -189,8 +177,7 @@ pub fn put_last<S: Alter>(
     transaction: &mut Transaction<'_, S>,
     last: Option<i64>,
 ) -> Result<(), Error>
-    ensures same_reference { transaction.new.conn.ghost_name ≡ transaction.old.conn.ghost_name }
-    ensures steps { Steps (Turns (last_put last)) (state S.Store transaction.old.conn.now) (state S.Store transaction.new.conn.now) result }
+    ensures moves { Moves S.Store (Turns (last_put last)) transaction.old.conn transaction.new.conn result }
 {
     if let Some(moment) = last {
         desk_row::set_last(transaction, moment)?;

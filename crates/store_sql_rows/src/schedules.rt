@@ -1,13 +1,13 @@
 //! The statements on the values that schedules show.
-ghost use Rattle.std.specs.Prelude.{◌≡◌, ◌<◌, ◌^◌, ◌&&◌, false, IfOk, OnOk, pos, [], ◌∷◌};
+ghost use Rattle.std.specs.Prelude.{◌<◌, [], ◌∷◌};
 ghost use Rattle.sqlite.specs.Held.{state};
-ghost use Rattle.sqlite.specs.State.{HasCleanDisk, IsUnchanged, KeepsCommit, Survives};
-ghost use Rattle.sqlite_value.specs.declared.value.Value.TheVariants.{Int, Text};
+ghost use Rattle.sqlite_value.specs.declared.value.Value.TheVariants.{Text};
 ghost use Rattle.sqlite_value.specs.Order.{column};
-ghost use Rattle.store_sql_rows.specs.Looking.{Finds, FindsLeast, Rests, is_from_text, is_from};
-ghost use Rattle.store_sql_rows.specs.Ours.{Changes, Gains, IsInside, IsOurs, Loses, Rewrites, kept_in};
+ghost use Rattle.store_sql_rows.specs.Looking.{Finds, FindsLeast, Reads, is_from_text};
+ghost use Rattle.store_sql_rows.specs.Ours.{Changes, Gains, Loses, Rewrites};
 ghost use Rattle.store_sql_rows.specs.Slot.{On, shown_slot};
-ghost use Rattle.store_sql_rows.specs.Cells.{cell_of, is_text};
+ghost use Rattle.store_sql_rows.specs.Steps.{Moves, MovesBy};
+ghost use Rattle.store_sql_rows.specs.Cells.{cell_of};
 ghost use Rattle.store_sql_rows.specs.Rows.{of_schedule};
 
 use crate::looking::ask;
@@ -21,13 +21,8 @@ pub fn clear<S: Alter>(
     transaction: &mut Transaction<'_, S>,
     schedule: &Name,
 ) -> Result<usize, Error>
-    ensures same_reference { transaction.new.conn.ghost_name ≡ transaction.old.conn.ghost_name }
-    ensures done { HasCleanDisk (state S.Store transaction.new.conn.now) → IsInside (state S.Store transaction.old.conn.now)
-        → OnOk result (Changes (On shown_slot (Loses (of_schedule schedule.now))) (state S.Store transaction.old.conn.now)
-        (state S.Store transaction.new.conn.now)) }
-    ensures kept { HasCleanDisk (state S.Store transaction.new.conn.now)
-        → KeepsCommit (state S.Store transaction.old.conn.now) (state S.Store transaction.new.conn.now) }
-    ensures survives { Survives (state S.Store transaction.old.conn.now) (state S.Store transaction.new.conn.now) (λ _. ⊥) }
+    ensures moves { Moves S.Store (Changes (On shown_slot (Loses (of_schedule schedule.now))))
+        transaction.old.conn transaction.new.conn result }
 {
     run(
         transaction,
@@ -42,13 +37,8 @@ pub fn add<S: Alter>(
     schedule: &Name,
     value: Option<i64>,
 ) -> Result<usize, Error>
-    ensures same_reference { transaction.new.conn.ghost_name ≡ transaction.old.conn.ghost_name }
-    ensures done { HasCleanDisk (state S.Store transaction.new.conn.now) → IsInside (state S.Store transaction.old.conn.now)
-        → OnOk result (Changes (On shown_slot (Gains (Text schedule.now ∷ cell_of value ∷ [])))
-        (state S.Store transaction.old.conn.now) (state S.Store transaction.new.conn.now)) }
-    ensures kept { HasCleanDisk (state S.Store transaction.new.conn.now)
-        → KeepsCommit (state S.Store transaction.old.conn.now) (state S.Store transaction.new.conn.now) }
-    ensures survives { Survives (state S.Store transaction.old.conn.now) (state S.Store transaction.new.conn.now) (λ _. ⊥) }
+    ensures moves { Moves S.Store (Changes (On shown_slot (Gains (Text schedule.now ∷ cell_of value ∷ []))))
+        transaction.old.conn transaction.new.conn result }
 {
     run(
         transaction,
@@ -63,14 +53,9 @@ pub fn set<S: Alter>(
     schedule: &Name,
     value: Option<i64>,
 ) -> Result<usize, Error>
-    ensures same_reference { transaction.new.conn.ghost_name ≡ transaction.old.conn.ghost_name }
-    ensures done { HasCleanDisk (state S.Store transaction.new.conn.now) → IsInside (state S.Store transaction.old.conn.now)
-        → IfOk result (λ count. Changes
-        (On shown_slot (Rewrites (of_schedule schedule.now) (Text schedule.now ∷ cell_of value ∷ []) count))
-        (state S.Store transaction.old.conn.now) (state S.Store transaction.new.conn.now)) }
-    ensures kept { HasCleanDisk (state S.Store transaction.new.conn.now)
-        → KeepsCommit (state S.Store transaction.old.conn.now) (state S.Store transaction.new.conn.now) }
-    ensures survives { Survives (state S.Store transaction.old.conn.now) (state S.Store transaction.new.conn.now) (λ _. ⊥) }
+    ensures moves { MovesBy S.Store (λ count. Changes
+        (On shown_slot (Rewrites (of_schedule schedule.now) (Text schedule.now ∷ cell_of value ∷ []) count)))
+        transaction.old.conn transaction.new.conn result }
 {
     run(
         transaction,
@@ -83,16 +68,8 @@ pub fn set<S: Alter>(
 
 /// The cell `value` of a schedule.
 pub fn find<S: Alter>(connection: &mut Connection<S>, schedule: &Name) -> Result<Vec<Row>, Error>
-    ensures mode { connection.old.in_transaction ≡ false → connection.new.in_transaction ≡ false }
-    ensures same { HasCleanDisk (state S.Store connection.new) → IsOurs (state S.Store connection.old).now
-        → OnOk result (IsUnchanged (state S.Store connection.old) (state S.Store connection.new)) }
-    ensures rests { HasCleanDisk (state S.Store connection.new) → IsOurs (state S.Store connection.old).now
-        → Rests (state S.Store connection.old) (state S.Store connection.new) }
-    ensures found { HasCleanDisk (state S.Store connection.new) → IsOurs (state S.Store connection.old).now
-        → IfOk result (λ rows. Finds (of_schedule schedule.now) (λ row. column row 2 ∷ [])
-        (kept_in (state S.Store connection.old).now.trees).shown rows.items) }
-    ensures survives { Survives (state S.Store connection.old) (state S.Store connection.new)
-        (λ _. IsOurs (state S.Store connection.old).now → ⊥) }
+    ensures reads { Reads (λ kept rows. Finds (of_schedule schedule.now) (λ row. column row 2 ∷ []) kept.shown rows.items)
+        (state S.Store connection.old) (state S.Store connection.new) result }
 {
     ask(
         connection,
@@ -103,16 +80,8 @@ pub fn find<S: Alter>(connection: &mut Connection<S>, schedule: &Name) -> Result
 
 /// The least name from a text on, if there is one.
 pub fn next_name<S: Alter>(connection: &mut Connection<S>, from: &str) -> Result<Vec<Row>, Error>
-    ensures mode { connection.old.in_transaction ≡ false → connection.new.in_transaction ≡ false }
-    ensures same { HasCleanDisk (state S.Store connection.new) → IsOurs (state S.Store connection.old).now
-        → OnOk result (IsUnchanged (state S.Store connection.old) (state S.Store connection.new)) }
-    ensures rests { HasCleanDisk (state S.Store connection.new) → IsOurs (state S.Store connection.old).now
-        → Rests (state S.Store connection.old) (state S.Store connection.new) }
-    ensures found { HasCleanDisk (state S.Store connection.new) → IsOurs (state S.Store connection.old).now
-        → IfOk result (λ rows. FindsLeast (λ row. is_from_text from.now (column row 1)) 1
-        (kept_in (state S.Store connection.old).now.trees).shown rows.items) }
-    ensures survives { Survives (state S.Store connection.old) (state S.Store connection.new)
-        (λ _. IsOurs (state S.Store connection.old).now → ⊥) }
+    ensures reads { Reads (λ kept rows. FindsLeast (λ row. is_from_text from.now (column row 1)) 1 kept.shown rows.items)
+        (state S.Store connection.old) (state S.Store connection.new) result }
 {
     ask(
         connection,

@@ -1,9 +1,7 @@
 //! Lists of items put into the tables, in a transaction.
-ghost use Rattle.std.specs.Prelude.{◌≡◌};
 ghost use Rattle.std.specs.List.{All};
-ghost use Rattle.sqlite.specs.Held.{state};
 ghost use Rattle.store.specs.Change.{CanStand, IsKeptRow, IsNext, IsPlace, with_change, with_each};
-ghost use Rattle.store_sql_rows.specs.Steps.{Steps, Turns, imported_put, next_put, place_put, row_put, rows_dropped, shown_put, with_commands, with_values};
+ghost use Rattle.store_sql_rows.specs.Steps.{Moves, Turns, imported_put, next_put, place_put, row_put, rows_dropped, shown_put, with_commands, with_values};
 
 use sqlite::{Alter, Error, Transaction};
 use std::alloc::Global;
@@ -18,9 +16,7 @@ fn put_nexts<S: Alter>(
     items: &[NextNumber],
 ) -> Result<(), Error>
     requires { All IsNext items.now }
-    ensures same_reference { transaction.new.conn.ghost_name ≡ transaction.old.conn.ghost_name }
-    ensures steps { Steps (Turns (with_each next_put items.now)) (state S.Store transaction.old.conn.now)
-        (state S.Store transaction.new.conn.now) result }
+    ensures moves { Moves S.Store (Turns (with_each next_put items.now)) transaction.old.conn transaction.new.conn result }
 {
     for item in items {
         put_next(transaction, item)?;
@@ -31,9 +27,7 @@ fn put_nexts<S: Alter>(
 // Puts rows, one after the other.
 fn put_rows<S: Alter>(transaction: &mut Transaction<'_, S>, items: &[KeptRow]) -> Result<(), Error>
     requires { All IsKeptRow items.now }
-    ensures same_reference { transaction.new.conn.ghost_name ≡ transaction.old.conn.ghost_name }
-    ensures steps { Steps (Turns (with_each row_put items.now)) (state S.Store transaction.old.conn.now)
-        (state S.Store transaction.new.conn.now) result }
+    ensures moves { Moves S.Store (Turns (with_each row_put items.now)) transaction.old.conn transaction.new.conn result }
 {
     for item in items {
         put_row(transaction, item)?;
@@ -46,9 +40,7 @@ fn drop_all<S: Alter>(
     transaction: &mut Transaction<'_, S>,
     items: &[RowsBelow],
 ) -> Result<(), Error>
-    ensures same_reference { transaction.new.conn.ghost_name ≡ transaction.old.conn.ghost_name }
-    ensures steps { Steps (Turns (with_each rows_dropped items.now)) (state S.Store transaction.old.conn.now)
-        (state S.Store transaction.new.conn.now) result }
+    ensures moves { Moves S.Store (Turns (with_each rows_dropped items.now)) transaction.old.conn transaction.new.conn result }
 {
     for item in items {
         drop_rows(transaction, item)?;
@@ -62,9 +54,7 @@ fn put_places<S: Alter>(
     items: &[PlaceValue],
 ) -> Result<(), Error>
     requires { All IsPlace items.now }
-    ensures same_reference { transaction.new.conn.ghost_name ≡ transaction.old.conn.ghost_name }
-    ensures steps { Steps (Turns (with_each place_put items.now)) (state S.Store transaction.old.conn.now)
-        (state S.Store transaction.new.conn.now) result }
+    ensures moves { Moves S.Store (Turns (with_each place_put items.now)) transaction.old.conn transaction.new.conn result }
 {
     for item in items {
         put_place(transaction, item)?;
@@ -77,9 +67,7 @@ fn put_all_shown<S: Alter>(
     transaction: &mut Transaction<'_, S>,
     items: &[ShownValue],
 ) -> Result<(), Error>
-    ensures same_reference { transaction.new.conn.ghost_name ≡ transaction.old.conn.ghost_name }
-    ensures steps { Steps (Turns (with_each shown_put items.now)) (state S.Store transaction.old.conn.now)
-        (state S.Store transaction.new.conn.now) result }
+    ensures moves { Moves S.Store (Turns (with_each shown_put items.now)) transaction.old.conn transaction.new.conn result }
 {
     for item in items {
         put_shown(transaction, item)?;
@@ -93,9 +81,7 @@ fn put_all_imported<S: Alter>(
     transaction: &mut Transaction<'_, S>,
     items: &[ImportedEntry],
 ) -> Result<(), Error>
-    ensures same_reference { transaction.new.conn.ghost_name ≡ transaction.old.conn.ghost_name }
-    ensures steps { Steps (Turns (with_each imported_put items.now)) (state S.Store transaction.old.conn.now)
-        (state S.Store transaction.new.conn.now) result }
+    ensures moves { Moves S.Store (Turns (with_each imported_put items.now)) transaction.old.conn transaction.new.conn result }
 {
     for item in items {
         put_imported(alloc, transaction, item)?;
@@ -109,9 +95,7 @@ fn write_commands<S: Alter>(
     change: &Change,
 ) -> Result<(), Error>
     requires { CanStand change.now }
-    ensures same_reference { transaction.new.conn.ghost_name ≡ transaction.old.conn.ghost_name }
-    ensures steps { Steps (Turns (with_commands change.now)) (state S.Store transaction.old.conn.now)
-        (state S.Store transaction.new.conn.now) result }
+    ensures moves { Moves S.Store (Turns (with_commands change.now)) transaction.old.conn transaction.new.conn result }
 {
     put_nexts(transaction, &change.nexts)?;
     put_rows(transaction, &change.rows)?;
@@ -125,9 +109,7 @@ fn write_values<S: Alter>(
     change: &Change,
 ) -> Result<(), Error>
     requires { CanStand change.now }
-    ensures same_reference { transaction.new.conn.ghost_name ≡ transaction.old.conn.ghost_name }
-    ensures steps { Steps (Turns (with_values change.now)) (state S.Store transaction.old.conn.now)
-        (state S.Store transaction.new.conn.now) result }
+    ensures moves { Moves S.Store (Turns (with_values change.now)) transaction.old.conn transaction.new.conn result }
 {
     put_places(transaction, &change.places)?;
     put_all_shown(transaction, &change.shown)?;
@@ -142,9 +124,7 @@ pub fn write<S: Alter>(
     change: &Change,
 ) -> Result<(), Error>
     requires { CanStand change.now }
-    ensures same_reference { transaction.new.conn.ghost_name ≡ transaction.old.conn.ghost_name }
-    ensures steps { Steps (Turns (with_change change.now)) (state S.Store transaction.old.conn.now)
-        (state S.Store transaction.new.conn.now) result }
+    ensures moves { Moves S.Store (Turns (with_change change.now)) transaction.old.conn transaction.new.conn result }
 {
     write_commands(transaction, change)?;
     write_values(alloc, transaction, change)

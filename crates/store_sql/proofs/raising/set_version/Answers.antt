@@ -1,19 +1,19 @@
 use Rattle.sqlite.specs.Held.{state}
 use Rattle.store_sql_create.proofs.CreateLemmas.{execution_keeps}
 use Rattle.store_sql_rows.proofs.DeskTexts.{set_version_text}
+use Rattle.store_sql_rows.proofs.RunLemmas.{moves_made}
 use Rattle.store_sql.proofs.VersionLemmas.{sets_version}
 use Rattle.store_sql.proofs.raising.set_version.Goals as goal
 
-pub returns-clause-steps : goal.returns-clause-steps
-returns-clause-steps g c =
+pub returns : goal.returns
+returns g c =
     let old = c.args.transaction.now.conn.now in
     let new = c.execute.new.self.conn.now in
     record {
-      done =
-          λ clean inside. sets_version (state g.S.Store old) (state g.S.Store new) c.execute.result inside
-          (c.execute.ensures.runs clean inside.in_transaction);
-      kept =
-          λ clean. execution_keeps g.S.Store old new set_version_text _ c.execute.result c.execute.ensures.ended
-          (c.execute.ensures.runs clean);
-      survives = c.execute.ensures.survives;
+      moves = moves_made c.execute.ensures.same_reference
+          (λ clean. execution_keeps g.S.Store old new set_version_text _ c.execute.result c.execute.ensures.ended
+          (c.execute.ensures.runs clean))
+          c.execute.ensures.survives
+          (λ clean inside. sets_version (state g.S.Store old) (state g.S.Store new) c.execute.result inside
+          (c.execute.ensures.runs clean inside.in_transaction));
     }

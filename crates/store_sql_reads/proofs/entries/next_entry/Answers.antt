@@ -7,6 +7,6 @@ pub returns : goal.returns
 returns g c =
     let kept = kept_in (state g.S.Store c.args.connection.now).now.trees in
     record {
-      answers = answers_made (read_found c.next_entry.ensures.mode c.in_ok-rows.ensures.same c.in_ok-rows.ensures.found c.next_entry.ensures.survives)
+      answers = answers_made (read_found c.in_ok-rows.ensures.reads)
           c.parsed_entry.ensures.fault (λ _ found. c.parsed_entry.ensures.value kept found) (λ _ found is. rw is at (c.parsed_entry.ensures.bad kept found));
     }

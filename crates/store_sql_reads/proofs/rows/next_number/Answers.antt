@@ -7,6 +7,6 @@ use Rattle.store_sql_reads.proofs.rows.next_number.Goals as goal
 pub returns-clause-answers : goal.returns-clause-answers
 returns-clause-answers g c =
     let kept = kept_in (state g.S.Store c.args.connection.now).now.trees in
-    answers_ok (read_found c.next_number.ensures.mode c.in_ok-rows.ensures.same c.in_ok-rows.ensures.found c.next_number.ensures.survives)
+    answers_ok (read_found c.in_ok-rows.ensures.reads)
     (λ _ found. from_least kept c.args.panel.now c.args.from c.at_least_1-least.result c.parsed_number.result c.at_least_1-least.ensures.up
     c.at_least_1-least.ensures.near (c.parsed_number.ensures.value kept found))

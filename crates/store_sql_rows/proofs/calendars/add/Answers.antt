@@ -1,13 +1,14 @@
 use Rattle.sqlite.specs.Held.{state}
 use Rattle.store_sql_rows.proofs.ImportedLemmas.{adds}
-use Rattle.store_sql_rows.proofs.RunLemmas.{refused_inside}
+use Rattle.store_sql_rows.proofs.RunLemmas.{refused_inside, moves_made}
 use Rattle.store_sql_rows.proofs.calendars.add.Goals as goal
 
-pub returns-clause-done : goal.returns-clause-done
-returns-clause-done g c clean inside =
+pub returns-clause-moves : goal.returns-clause-moves
+returns-clause-moves g c =
+    moves_made c.run.ensures.same_reference c.run.ensures.kept c.run.ensures.survives (λ clean inside.
     adds c.args.calendar.now c.args.entry.now (state g.S.Store c.args.transaction.now.conn.now)
     (state g.S.Store c.run.new.transaction.conn.now) c.run.result inside
-    (rw (c.text.ensures, c.words.ensures) at (c.run.ensures.runs clean inside.in_transaction))
+    (rw (c.text.ensures, c.words.ensures) at (c.run.ensures.runs clean inside.in_transaction)))
 
 pub returns-clause-refused : goal.returns-clause-refused
 returns-clause-refused g c clean inside is =

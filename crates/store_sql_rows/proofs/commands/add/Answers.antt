@@ -3,13 +3,14 @@ use Rattle.std.specs.Int.{cast_signed as to_z, cast_unsigned as of_z}
 use Rattle.sqlite.specs.Held.{state}
 use Rattle.store_sql_rows.proofs.CellLemmas.{bound_cell}
 use Rattle.store_sql_rows.proofs.CommandLemmas.{adds}
-use Rattle.store_sql_rows.proofs.RunLemmas.{refused_inside}
+use Rattle.store_sql_rows.proofs.RunLemmas.{refused_inside, moves_made}
 use Rattle.store_sql_rows.proofs.commands.add.Goals as goal
 
-pub returns-clause-done : goal.returns-clause-done
-returns-clause-done g c clean inside =
+pub returns-clause-moves : goal.returns-clause-moves
+returns-clause-moves g c =
     let priority : to_z w64 (of_z w64 c.args.content.now.priority) ≡ c.args.content.now.priority = search rules in
     let code : to_z w64 (of_z w64 c.args.cells.now.code) ≡ c.args.cells.now.code = search rules in
+    moves_made c.run.ensures.same_reference c.run.ensures.kept c.run.ensures.survives (λ clean inside.
     adds c.args.panel.now c.args.number c.args.content.now.point c.args.content.now.priority c.args.content.now.value
     c.args.cells.now.code c.args.cells.now.a c.args.cells.now.b
     (state g.S.Store c.args.transaction.now.conn.now) (state g.S.Store c.run.new.transaction.conn.now) c.run.result inside
@@ -27,7 +28,7 @@ returns-clause-done g c clean inside =
       bound_cell c.args.content.now.value,
       bound_cell c.args.cells.now.a,
       bound_cell c.args.cells.now.b,
-    ) at (c.run.ensures.runs clean inside.in_transaction))
+    ) at (c.run.ensures.runs clean inside.in_transaction)))
 
 pub returns-clause-refused : goal.returns-clause-refused
 returns-clause-refused g c clean inside is =

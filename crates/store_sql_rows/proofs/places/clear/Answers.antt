@@ -1,9 +1,12 @@
 use Rattle.sqlite.specs.Held.{state}
 use Rattle.store_sql_rows.proofs.PlaceLemmas.{clears}
+use Rattle.store_sql_rows.proofs.RunLemmas.{moves_made}
 use Rattle.store_sql_rows.proofs.places.clear.Goals as goal
 
-pub returns-clause-done : goal.returns-clause-done
-returns-clause-done g c clean inside =
-    clears c.args.point.now c.args.priority (state g.S.Store c.args.transaction.now.conn.now)
-    (state g.S.Store c.run.new.transaction.conn.now) c.run.result inside
-    (rw (c.text.ensures, c.count.ensures, c.from.ensures) at (c.run.ensures.runs clean inside.in_transaction))
+pub returns : goal.returns
+returns g c = record {
+  moves = moves_made c.run.ensures.same_reference c.run.ensures.kept c.run.ensures.survives (λ clean inside.
+      clears c.args.point.now c.args.priority (state g.S.Store c.args.transaction.now.conn.now)
+      (state g.S.Store c.run.new.transaction.conn.now) c.run.result inside
+      (rw (c.text.ensures, c.count.ensures, c.from.ensures) at (c.run.ensures.runs clean inside.in_transaction)));
+}

@@ -1,25 +1,22 @@
 use Rattle.std.proofs.Common.{◌≡◌, refl, rules}
-use Rattle.sqlite.specs.Held.{state}
 use Rattle.store.specs.Change.{with_each}
 use Rattle.store.specs.Tables.{Tables}
 use Rattle.store_sql_rows.specs.Steps.{next_put, row_put, rows_dropped, with_commands}
 use Rattle.store_sql_rows.proofs.StepLemmas.{turns_then}
 use Rattle.store_sql_writes.proofs.writing.write_commands.Goals as goal
 
-pub returns-clause-steps : goal.returns-clause-steps
-returns-clause-steps g c =
+pub returns : goal.returns
+returns g c =
     let same_nexts : c.deref.result.now ≡ c.args.change.now.nexts.items = search rules in
     let same_rows : c.deref-2.result.now ≡ c.args.change.now.rows.items = search rules in
     let same_dropped : c.deref-3.result.now ≡ c.args.change.now.dropped.items = search rules in
     let change = c.args.change.now in
-    let old = state g.S.Store c.args.transaction.now.conn.now in
-    let mid = state g.S.Store c.put_nexts.new.transaction.conn.now in
-    let last = state g.S.Store c.put_rows.new.transaction.conn.now in
-    let new = state g.S.Store c.drop_all.new.transaction.conn.now in
     let first = with_each next_put change.nexts.items in
     let second = with_each row_put change.rows.items in
     let both = λ (t : Tables). second (first t) in
-    turns_then both (with_each rows_dropped change.dropped.items) (with_commands change) old last new _ _ (λ t. refl)
-    (turns_then first second both old mid last _ _ (λ t. refl) (rw same_nexts at c.in_ok-put_nexts.ensures.steps)
-    (rw same_rows at c.in_ok-put_rows.ensures.steps))
-    (rw same_dropped at c.drop_all.ensures.steps)
+    record {
+      moves = turns_then both (with_each rows_dropped change.dropped.items) (with_commands change) (λ t. refl)
+          (turns_then first second both (λ t. refl) (rw same_nexts at c.in_ok-put_nexts.ensures.moves)
+          (rw same_rows at c.in_ok-put_rows.ensures.moves))
+          (rw same_dropped at c.drop_all.ensures.moves);
+    }
