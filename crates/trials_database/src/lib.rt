@@ -4,18 +4,4 @@
 #![tactic(auto)]
 
 #[cfg(test)]
-mod contents;
-#[cfg(test)]
-mod databases;
-#[cfg(test)]
-mod disks;
-#[cfg(test)]
-mod faulty_disk;
-#[cfg(test)]
-mod scripts;
-#[cfg(test)]
-mod stop_each;
-#[cfg(test)]
-mod version_1;
-#[cfg(test)]
-mod worked_script;
+mod trials;

@@ -7,24 +7,4 @@
 #![tactic(auto)]
 
 #[cfg(test)]
-mod asking;
-#[cfg(test)]
-mod desks;
-#[cfg(test)]
-mod ends;
-#[cfg(test)]
-mod ends_each;
-#[cfg(test)]
-mod evaluations;
-#[cfg(test)]
-mod gathered;
-#[cfg(test)]
-mod loopback;
-#[cfg(test)]
-mod members;
-#[cfg(test)]
-mod runs;
-#[cfg(test)]
-mod torn_replays;
-#[cfg(test)]
-mod worked_request;
+mod trials;

@@ -4,12 +4,4 @@
 #![tactic(auto)]
 
 #[cfg(test)]
-mod exchange;
-#[cfg(test)]
-mod journals;
-#[cfg(test)]
-mod lines;
-#[cfg(test)]
-mod panels;
-#[cfg(test)]
-mod windows;
+mod trials;

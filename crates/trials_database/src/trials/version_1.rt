@@ -1,7 +1,7 @@
 //! A database of version 1, which other statements made, and a disk that meets trouble while it is opened.
-use crate::disks::{File, Image, Left, Place, run_on_disk, run_statements};
-use crate::faulty_disk::Trouble;
-use crate::scripts::{Outcome, RUN, Script, assert_holds, assert_same};
+use crate::trials::disks::{File, Image, Left, Place, run_on_disk, run_statements};
+use crate::trials::faulty_disk::Trouble;
+use crate::trials::scripts::{Outcome, RUN, Script, assert_holds, assert_same};
 use std::alloc::{AllocError, Global};
 use std::process::Abort;
 use std::test::Fail;

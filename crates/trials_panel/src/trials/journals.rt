@@ -1,5 +1,5 @@
 //! What the journal has is due, and is taken up after a restart.
-use crate::panels::{content, due, new_end};
+use crate::trials::panels::{content, due, new_end};
 use deliveries::Reply;
 use panel::Move;
 use points::{Answer, Rule};

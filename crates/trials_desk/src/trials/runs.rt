@@ -1,5 +1,5 @@
 //! A run of a list of deliveries, with ample memory.
-use crate::desks::desk;
+use crate::trials::desks::desk;
 use deliveries::{Delivery, Reply};
 use desk::Desk;
 use points::{Answer, Content, Name, Rule};

@@ -1,7 +1,7 @@
 //! The worked request, whose reader fails at each of its reads.
-use crate::asking::{Got, ask, assert_got, command, point_before, serve};
-use crate::desks::desk;
-use crate::ends::Pieces;
+use crate::trials::asking::{Got, ask, assert_got, command, point_before, serve};
+use crate::trials::desks::desk;
+use crate::trials::ends::Pieces;
 use desk::Desk;
 use panel_http::{Served, StatusCode};
 use std::alloc::Global;

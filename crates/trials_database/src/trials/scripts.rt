@@ -1,5 +1,5 @@
 //! Lines that are delivered to a desk over a store, and what is printed of it.
-use crate::contents::push_content;
+use crate::trials::contents::push_content;
 use building::Building;
 use deliveries::{Delivery, Reply};
 use delivery_json::LineFault;

@@ -1,9 +1,11 @@
 //! A disk that stops at each call of a worked list, or of which each call fails once: what stands then, and how the
 //! list goes on.
-use crate::disks::{File, Image, Left, Place, run_on_disk};
-use crate::faulty_disk::Trouble;
-use crate::scripts::{Outcome, RUN, RUN_SHUT, Script, assert_holds, assert_same, run_in_memory};
-use crate::worked_script::{
+use crate::trials::disks::{File, Image, Left, Place, run_on_disk};
+use crate::trials::faulty_disk::Trouble;
+use crate::trials::scripts::{
+    Outcome, RUN, RUN_SHUT, Script, assert_holds, assert_same, run_in_memory,
+};
+use crate::trials::worked_script::{
     COUNT, deliveries, first_lines, first_replies, lines_after, replies_after,
 };
 use std::alloc::Global;

@@ -1,6 +1,6 @@
 //! The worked request over the loopback.
-use crate::asking::{Got, assert_got, command, done, served};
-use crate::desks::desk;
+use crate::trials::asking::{Got, assert_got, command, done, served};
+use crate::trials::desks::desk;
 use desk::Desk;
 use panel_http::{Counted, Served, StatusCode};
 use std::alloc::Global;

@@ -1,5 +1,5 @@
 //! The exchange over a bad network of `docs/PANELS.md`.
-use crate::panels::{due, new_end, press_kept};
+use crate::trials::panels::{due, new_end, press_kept};
 use deliveries::Reply;
 use panel::PanelEnd;
 use points::Answer;

@@ -1,7 +1,7 @@
 //! Databases in two files that are kept in memory, and disks that meet trouble at a call.
-use crate::contents::push_content;
-use crate::faulty_disk::{Faulty, Trouble};
-use crate::scripts::{Outcome, Script, push_fault, run};
+use crate::trials::contents::push_content;
+use crate::trials::faulty_disk::{Faulty, Trouble};
+use crate::trials::scripts::{Outcome, Script, push_fault, run};
 use sqlite::{Alter, Connection, FileStore, Options, Row};
 use sqlite_disk::{Crash, Disk, Files, Memory};
 use std::alloc::{AllocError, Global};

@@ -1,7 +1,7 @@
 //! The worked request, gathered from an input that has nothing yet before each piece, and served.
-use crate::asking::{Got, assert_got, command, done};
-use crate::desks::desk_over;
-use crate::ends::Halting;
+use crate::trials::asking::{Got, assert_got, command, done};
+use crate::trials::desks::desk_over;
+use crate::trials::ends::Halting;
 use desk::Desk;
 use desk_record::NoRecord;
 use panel_http::{Counted, Gathered, Routes, Served, StatusCode, gather, serve_come};

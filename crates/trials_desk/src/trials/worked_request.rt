@@ -1,8 +1,8 @@
 //! The worked request over tables in memory: in two reads, cut inside its body, and with a reply that is lost after
 //! each byte.
-use crate::asking::{Got, HEAD, ask, assert_got, command, done, point_before, serve};
-use crate::desks::desk_over;
-use crate::ends::Pieces;
+use crate::trials::asking::{Got, HEAD, ask, assert_got, command, done, point_before, serve};
+use crate::trials::desks::desk_over;
+use crate::trials::ends::Pieces;
 use panel_http::{Served, StatusCode};
 use std::alloc::Global;
 use std::process::Abort;

@@ -1,5 +1,5 @@
 //! How often schedules are evaluated: once for each span of a day over which the value stands.
-use crate::desks::desk;
+use crate::trials::desks::desk;
 use dates::Entry;
 use deliveries::{Delivery, Reply};
 use desk::Desk;

@@ -1,5 +1,5 @@
 //! The lines of a journal, and the replies of the desk as `docs/PANELS.md` has them.
-use crate::panels::content;
+use crate::trials::panels::content;
 use deliveries::Reply;
 use panel_journal::{Entry, content_of, entry_of, line_of, reply_of};
 use points::{Answer, Name, Rule};

@@ -1,5 +1,5 @@
 //! The window of 64, a lost journal, a desk that fell back, and the last number.
-use crate::panels::{content, due, new_end, press_kept, resumed_end};
+use crate::trials::panels::{content, due, new_end, press_kept, resumed_end};
 use deliveries::Reply;
 use panel::{PanelEnd, PressFault};
 use points::Answer;

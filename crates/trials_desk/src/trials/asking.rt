@@ -1,6 +1,6 @@
 //! The worked request, and how a desk is asked. A long text, a call with a long contract and an assertion are dear to
 //! prove beside other code, so each of them stands in a function of its own.
-use crate::ends::{Page, Pieces};
+use crate::trials::ends::{Page, Pieces};
 use desk::Desk;
 use desk_record::NoRecord;
 use panel_http::{Counted, Routes, Served, serve_one};

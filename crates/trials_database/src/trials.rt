@@ -1,0 +1,9 @@
+//! The trials.
+mod contents;
+mod databases;
+mod disks;
+mod faulty_disk;
+mod scripts;
+mod stop_each;
+mod version_1;
+mod worked_script;

@@ -1,0 +1,12 @@
+//! The trials.
+mod asking;
+mod desks;
+mod ends;
+mod ends_each;
+mod evaluations;
+mod gathered;
+mod loopback;
+mod members;
+mod runs;
+mod torn_replays;
+mod worked_request;

@@ -1,0 +1,6 @@
+//! The trials.
+mod exchange;
+mod journals;
+mod lines;
+mod panels;
+mod windows;
