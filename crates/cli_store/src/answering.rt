@@ -1,25 +1,27 @@
 //! One delivery to a store, answered.
-ghost use Rattle.std.specs.Prelude.{◌≡◌, List, None, Some, IfOk, IsSome, OnOk, string_bytes};
+ghost use Rattle.std.specs.Prelude.{◌≡◌, ℕ, List, None, Some, IfOk, IsSome, OnOk, string_bytes};
 ghost use Rattle.std.specs.Bool.{IsTrue};
 ghost use Rattle.std.specs.Io.KnownBytes.{Appends};
+ghost use Rattle.cli_common.specs.Input.{bytes_of};
 ghost use Rattle.delivery_json.specs.ReplyText.{reply_line};
 ghost use Rattle.deliveries.specs.declared.delivery.Delivery.{Delivery as a_delivery};
 ghost use Rattle.deliveries.specs.Delivered.{Holds};
 ghost use Rattle.desk_record.specs.Recorded.{InStep, IsBehind, listed};
-ghost use Rattle.cli_store.specs.Answered.{Answers, Opens};
-ghost use Rattle.cli_store.specs.Recorded.{Adds, Records};
+ghost use Rattle.cli_store.specs.Answered.{Answers, Asks, IsAnswered, Opens};
+ghost use Rattle.cli_store.specs.Recorded.{Adds, IsRecorded, Records};
 
+use crate::asked::{Asked, read_asked};
 use crate::ended::Stopped;
-use crate::keeper::{Recording, resume_at};
+use crate::keeper::{Opening, Recording, resume_at};
 use building::Building;
-use cli_common::{RunFault, print_whole};
+use cli_common::{Input, RunFault, print_whole, read_building};
 use deliveries::{Delivery, Reply};
 use delivery_json::ReplyText;
 use desk::Desk;
 use desk_record::{NoRecord, Recorder, Undelivered};
 use sqlite_disk::Disk;
 use std::alloc::{AllocError, Global};
-use std::io::Write;
+use std::io::{Read, Write};
 use store::{OpenFault, Store, StoreFault};
 
 /// What was answered, the store as it stands then, and the disk of the record, if one is kept.
@@ -180,35 +182,46 @@ where
     })
 }
 
-/// Delivers to the store that is opened, and prints the reply as a line.
-pub(crate) fn answer<'a, S: Store + Drop, D: Disk + Drop, O, Q, W: Write>(
+/// Delivers what is asked to the store that is opened, over the building of a file, and prints the reply as a line.
+pub(crate) fn answer<
+    'a,
+    B: Read + Drop,
+    L: Read + Drop,
+    S: Store + Drop,
+    D: Disk + Drop,
+    O,
+    Q,
+    W: Write,
+>(
     alloc: Global,
-    building: Building,
-    opener: O,
-    recording: Recording<'a, Q>,
-    delivery: &Delivery,
+    file: Input<'a, B>,
+    asked: Asked<'a, L>,
+    opening: Opening<'a, O, Q>,
     out: &mut W,
 ) -> Result<Answered<S, D>, Stopped<'a, S>>
 where
     O: FnOnce() -> Result<S, OpenFault>,
     Q: FnOnce() -> Result<D, OpenFault>,
     Q: Drop,
-    requires opens { O.IsAlwaysCallable opener }
-    requires records { Q.IsAlwaysCallable recording.opener }
-    ensures answers { recording.entry.path ≡ None → IfOk result (λ answered. (earlier : List a_delivery)
-        → Opens (O.post opener) (λ store. Holds building earlier (S.standing store))
-        → (S.standing answered.store).is_honest
-        → Answers building earlier delivery.now (S.standing answered.store) (W.contents out.old) (W.contents out.new)) }
-    ensures recorded { IsSome recording.entry.path → IfOk result (λ answered. (disk : D) × (answered.disk ≡ Some disk)
-        × ((earlier : List a_delivery)
-        → Opens (Q.post recording.entry.opener) (λ opened. listed building (D.Disk.seen opened) ≡ earlier)
-        → Opens (O.post opener) (λ store. IsBehind building earlier (S.standing store))
-        → (S.standing answered.store).is_honest → IsTrue (D.Disk.is_clean disk)
-        → Records building earlier delivery.now (S.standing answered.store) (D.Disk.seen disk) (D.Disk.may_leave disk)
-        (W.contents out.old) (W.contents out.new))) }
+    requires { O.IsAlwaysCallable opening.store × Q.IsAlwaysCallable opening.recording.opener }
+    ensures answered { opening.entry.recording.path ≡ None → IfOk result (λ answered. (file_bytes : List ℕ)
+        → bytes_of B.remaining file.entry.reader ≡ Some file_bytes
+        → IsAnswered S.standing (O.post opening.entry.store) (Asks L.remaining asked.entry) file_bytes answered.store
+        (W.contents out.old) (W.contents out.new)) }
+    ensures recorded { IsSome opening.entry.recording.path → IfOk result (λ answered. (file_bytes : List ℕ)
+        → bytes_of B.remaining file.entry.reader ≡ Some file_bytes → (disk : D) × (answered.disk ≡ Some disk)
+        × IsRecorded S.standing D.Disk.seen D.Disk.may_leave D.Disk.is_clean (O.post opening.entry.store)
+        (Q.post opening.entry.recording.opener) (Asks L.remaining asked.entry) file_bytes answered.store disk
+        (W.contents out.old) (W.contents out.new)) }
 {
+    let Opening {
+        store: opener,
+        recording,
+    } = opening;
+    let building = read_building(alloc, file)?;
+    let delivery = read_asked(alloc, &building, asked)?;
     let mut desk = open_desk(alloc, building, opener)?;
-    let answered = deliver(alloc, &mut desk, recording, delivery, out);
+    let answered = deliver(alloc, &mut desk, recording, &delivery, out);
     let store = desk.into_store();
     match answered {
         Ok(Delivered { reply, disk }) => Ok(Answered { reply, store, disk }),

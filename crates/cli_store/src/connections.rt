@@ -33,6 +33,7 @@ const LISTENER: Token = Token(usize::MAX);
 /// The connections of a server: those that are held, since their peers have more to send or to take, and those to come.
 #[derive(Drop)]
 pub(crate) struct Connections {
+    routes: Routes,
     listener: TcpListener,
     poll: Poll,
     held: Held,
@@ -63,11 +64,13 @@ impl Connections {
         requests: u64,
         clock: bool,
     ) -> io::Result<Connections> {
+        let routes = Routes::new(rt.alloc())?;
         let poll = Poll::new(rt)?;
         let descriptor = listener.as_raw_fd();
         poll.registry()
             .register(&mut SourceFd(&descriptor), LISTENER, Interest::READABLE)?;
         Ok(Connections {
+            routes,
             listener,
             poll,
             held: Held::new(rt.alloc())?,
@@ -84,7 +87,6 @@ impl Connections {
     pub(crate) fn serve<S: Store + Drop, R: Recorder>(
         &mut self,
         rt: &HostRuntime,
-        routes: &Routes,
         desk: &mut Desk<S>,
         recorder: &mut R,
         events: &mut Events<Global>,
@@ -94,9 +96,9 @@ impl Connections {
                 return Status::Done;
             }
             let goes = if self.held.connections.is_empty() {
-                self.wait_for_one(rt, routes, desk, recorder)
+                self.wait_for_one(rt, desk, recorder)
             } else {
-                self.serve_held(rt, routes, desk, recorder, events)
+                self.serve_held(rt, desk, recorder, events)
             };
             if goes == Goes::Ends {
                 return Status::Store;
@@ -119,7 +121,6 @@ impl Connections {
     fn wait_for_one<S: Store + Drop, R: Recorder>(
         &mut self,
         rt: &HostRuntime,
-        routes: &Routes,
         desk: &mut Desk<S>,
         recorder: &mut R,
     ) -> Goes {
@@ -128,7 +129,7 @@ impl Connections {
         }
         self.left = self.left.saturating_sub(1);
         match self.listener.accept() {
-            Ok((stream, _peer)) => self.begin(rt, routes, desk, recorder, stream),
+            Ok((stream, _peer)) => self.begin(rt, desk, recorder, stream),
             Err(_) => Goes::On,
         }
     }
@@ -137,7 +138,6 @@ impl Connections {
     fn serve_held<S: Store + Drop, R: Recorder>(
         &mut self,
         rt: &HostRuntime,
-        routes: &Routes,
         desk: &mut Desk<S>,
         recorder: &mut R,
         events: &mut Events<Global>,
@@ -154,11 +154,11 @@ impl Connections {
             let token = event.token();
             if token == LISTENER {
                 self.comes = true;
-            } else if self.go_on(rt, routes, desk, recorder, token.0) == Goes::Ends {
+            } else if self.go_on(rt, desk, recorder, token.0) == Goes::Ends {
                 return Goes::Ends;
             }
         }
-        self.take(rt, routes, desk, recorder)
+        self.take(rt, desk, recorder)
     }
 
     /// How long to wait at most: not at all where a connection may be there to be taken.
@@ -184,7 +184,6 @@ impl Connections {
     fn take<S: Store + Drop, R: Recorder>(
         &mut self,
         rt: &HostRuntime,
-        routes: &Routes,
         desk: &mut Desk<S>,
         recorder: &mut R,
     ) -> Goes {
@@ -195,7 +194,7 @@ impl Connections {
             match self.listener.accept() {
                 Ok((stream, _peer)) => {
                     self.left = self.left.saturating_sub(1);
-                    if self.begin(rt, routes, desk, recorder, stream) == Goes::Ends {
+                    if self.begin(rt, desk, recorder, stream) == Goes::Ends {
                         return Goes::Ends;
                     }
                 }
@@ -222,7 +221,6 @@ impl Connections {
     fn begin<S: Store + Drop, R: Recorder>(
         &mut self,
         rt: &HostRuntime,
-        routes: &Routes,
         desk: &mut Desk<S>,
         recorder: &mut R,
         stream: TcpStream,
@@ -237,7 +235,7 @@ impl Connections {
             return Goes::On;
         }
         let mut connection = Connection::new(rt.alloc(), stream, taken);
-        match connection.turn(rt.alloc(), routes, desk, recorder) {
+        match connection.turn(rt.alloc(), &self.routes, desk, recorder) {
             Turn::Over => Goes::On,
             Turn::Failed => last(rt, &connection),
             Turn::WaitsToWrite => self.hold(connection, Interest::WRITABLE),
@@ -278,7 +276,6 @@ impl Connections {
     fn go_on<S: Store + Drop, R: Recorder>(
         &mut self,
         rt: &HostRuntime,
-        routes: &Routes,
         desk: &mut Desk<S>,
         recorder: &mut R,
         key: usize,
@@ -287,7 +284,7 @@ impl Connections {
             return Goes::On;
         };
         let before = connection.memory();
-        let turn = connection.turn(rt.alloc(), routes, desk, recorder);
+        let turn = connection.turn(rt.alloc(), &self.routes, desk, recorder);
         let has_grown = connection.memory() > before;
         let descriptor = connection.stream.as_raw_fd();
         match turn {

@@ -24,6 +24,15 @@ pub struct Recording<'a, Q> {
     pub opener: Q,
 }
 
+/// What a run opens, once the file of its building is read: the store, and then its record, if it keeps one.
+#[derive(Clone, Copy)]
+pub struct Opening<'a, O, Q> {
+    /// Opens the store.
+    pub store: O,
+    /// Where its deliveries are written down.
+    pub recording: Recording<'a, Q>,
+}
+
 /// The record of a run, if it keeps one.
 #[derive(Drop)]
 pub(crate) struct Keeper<R> {

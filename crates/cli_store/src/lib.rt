@@ -1,23 +1,25 @@
 //! What do `desk tick`, `desk import`, `desk report` and `desk serve` print, and what do they leave?
 //!
-//! Each reads the building of a file and opens a store. `tick` and `import` deliver one delivery to a desk over it, and
-//! print the reply as a line; `report` prints the report of a day. `serve` listens on an address and holds many
+//! Each reads the building of a file and opens a store. `deliver` makes one delivery to a desk over it, a tick or an
+//! import, and prints the reply as a line; `report` prints the report of a day. `serve` listens on an address and holds many
 //! connections at once, in one thread: the request of each is answered (`panel_http`) as soon as it is whole, and no
 //! client holds the others up. A connection is let go 5 seconds after it was taken. Each hands back the store that it
 //! opened, as it stands then, also where a fault ended it; `finish` closes it, and gives the status of the whole run.
-//! `tick` and `import` hand back the disk of their record too, if they keep one and were answered.
+//! `deliver` hands back the disk of its record too, if it keeps one and was answered.
 #![tactic(auto)]
 
-pub use clock_run::{import, tick};
+pub use asked::Asked;
+pub use delivery_run::deliver;
 pub use ended::{Delivered, Ended, finish};
-pub use keeper::Recording;
+pub use keeper::{Opening, Recording};
 pub use report_run::report;
 pub use server_run::{Serving, serve};
 
 mod answering;
-mod clock_run;
+mod asked;
 mod connection;
 mod connections;
+mod delivery_run;
 mod ended;
 mod held;
 mod keeper;

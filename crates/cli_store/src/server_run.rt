@@ -7,12 +7,11 @@ ghost use Rattle.cli_store.specs.Listening.{listening_line};
 use crate::answering::open_desk;
 use crate::connections::{Connections, EVENTS};
 use crate::ended::{Ended, Stopped};
-use crate::keeper::{Keeper, Recording, take_up};
+use crate::keeper::{Keeper, Opening, Recording, take_up};
 use cli_common::{Input, RunFault, Status, print_whole, read_building};
 use desk::Desk;
 use desk_record::Recorder;
 use mio::Events;
-use panel_http::Routes;
 use sqlite_disk::Disk;
 use std::alloc::{AllocError, Global};
 use std::io::{self, ErrorKind, Read, Write};
@@ -38,8 +37,7 @@ pub struct Serving<'a> {
 pub fn serve<'a, B: Read + Drop, S: Store + Drop, D: Disk + Drop, O, Q, W: Write, F: Write>(
     rt: &HostRuntime,
     file: Input<'a, B>,
-    opener: O,
-    recording: Recording<'a, Q>,
+    opening: Opening<'a, O, Q>,
     serving: &Serving<'a>,
     out: &mut W,
     fault: &mut F,
@@ -48,13 +46,12 @@ where
     O: FnOnce() -> Result<S, OpenFault>,
     Q: FnOnce() -> Result<D, OpenFault>,
     Q: Drop,
-    requires opens { O.IsAlwaysCallable opener }
-    requires records { Q.IsAlwaysCallable recording.opener }
+    requires { O.IsAlwaysCallable opening.store × Q.IsAlwaysCallable opening.recording.opener }
     ensures held { result.status ≡ Status.Done → IsSome result.store }
     ensures listening { result.status ≡ Status.Done → Appends (W.contents out.old) (W.contents out.new) (listening_line serving.now.address.now) }
     ensures quiet { result.status ≡ Status.Done → Keeps (F.contents fault.old) (F.contents fault.new) }
 {
-    match serve_over(rt, file, opener, recording, serving, out) {
+    match serve_over(rt, file, opening, serving, out) {
         Ok(ended) => ended,
         Err(end) => end.tell(rt.alloc(), fault),
     }
@@ -63,8 +60,7 @@ where
 fn serve_over<'a, B: Read + Drop, S: Store + Drop, D: Disk + Drop, O, Q, W: Write>(
     rt: &HostRuntime,
     file: Input<'a, B>,
-    opener: O,
-    recording: Recording<'a, Q>,
+    opening: Opening<'a, O, Q>,
     serving: &Serving<'a>,
     out: &mut W,
 ) -> Result<Ended<S>, Stopped<'a, S>>
@@ -72,15 +68,14 @@ where
     O: FnOnce() -> Result<S, OpenFault>,
     Q: FnOnce() -> Result<D, OpenFault>,
     Q: Drop,
-    requires opens { O.IsAlwaysCallable opener }
-    requires records { Q.IsAlwaysCallable recording.opener }
+    requires { O.IsAlwaysCallable opening.store × Q.IsAlwaysCallable opening.recording.opener }
     ensures held { IfOk result (λ ended. IsSome ended.store) }
     ensures listening { OnOk result (Appends (W.contents out.old) (W.contents out.new) (listening_line serving.now.address.now)) }
 {
     let alloc = rt.alloc();
     let building = read_building(alloc, file)?;
-    let mut desk = open_desk(alloc, building, opener)?;
-    let answered = keep_and_listen(rt, &mut desk, recording, serving, out);
+    let mut desk = open_desk(alloc, building, opening.store)?;
+    let answered = keep_and_listen(rt, &mut desk, opening.recording, serving, out);
     let store = Some(desk.into_store());
     match answered {
         Ok(status) => Ok(Ended { status, store }),
@@ -122,12 +117,11 @@ fn listen<'a, S: Store + Drop, R: Recorder, W: Write>(
 ) -> Result<Status, RunFault<'a>>
     ensures { OnOk result (Appends (W.contents out.old) (W.contents out.new) (listening_line serving.now.address.now)) }
 {
-    let routes = Routes::new(rt.alloc())?;
     let mut events = Events::with_capacity(rt.alloc(), EVENTS)?;
     let mut connections = bound(rt, serving)?;
     let line = listening_line(rt.alloc(), serving.address)?;
     print_whole(out, line.as_str())?;
-    Ok(connections.serve(rt, &routes, desk, keeper, &mut events))
+    Ok(connections.serve(rt, desk, keeper, &mut events))
 }
 
 /// The connections to the address.

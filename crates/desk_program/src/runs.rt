@@ -1,6 +1,6 @@
 //! The runs of the subcommands that take a database.
 use cli_common::{Input, Status};
-use cli_store::{Ended, Recording, Serving, finish, import, report, serve, tick};
+use cli_store::{Asked, Ended, Opening, Recording, Serving, deliver, finish, report, serve};
 use sqlite_disk::Disk;
 use std::alloc::Global;
 use std::fs;
@@ -91,7 +91,11 @@ where
         path: record,
         opener: || open_record(rt, record.unwrap_or("")),
     };
-    below_of(run_over(rt, file, input_of, opener, recording, run, out, fault))
+    let opening = Opening {
+        store: opener,
+        recording,
+    };
+    below_of(run_over(rt, file, input_of, opening, run, out, fault))
 }
 
 /// Makes a run over the files, the store and the record that these calls open. It is generic over them, since a call
@@ -100,8 +104,7 @@ fn run_over<'a, B: Read + Drop, S: Store + Drop, D: Disk + Drop, I, O, Q, W: Wri
     rt: &HostRuntime,
     file: &'a str,
     input_of: I,
-    opener: O,
-    recording: Recording<'a, Q>,
+    opening: Opening<'a, O, Q>,
     run: &DatabaseRun<'a>,
     out: &mut W,
     fault: &mut F,
@@ -112,35 +115,20 @@ where
     Q: FnOnce() -> Result<D, OpenFault>,
     Q: Drop,
     requires reads { I.IsAlwaysCallable input_of }
-    requires opens { O.IsAlwaysCallable opener }
-    requires records { Q.IsAlwaysCallable recording.opener }
+    requires opens { O.IsAlwaysCallable opening.store × Q.IsAlwaysCallable opening.recording.opener }
 {
     let alloc = rt.alloc();
+    let file = input_of(file);
     match run {
         DatabaseRun::Import { holidays } => {
-            import(
-                alloc,
-                input_of(file),
-                input_of(holidays),
-                opener,
-                recording,
-                out,
-                fault,
-            )
-            .into_ended()
+            let list = input_of(holidays);
+            deliver(alloc, file, Asked::Import { list }, opening, out, fault).into_ended()
         }
         DatabaseRun::Tick { at } => {
-            tick(alloc, input_of(file), opener, recording, *at, out, fault).into_ended()
+            let asked: Asked<'a, B> = Asked::Tick { at: *at };
+            deliver(alloc, file, asked, opening, out, fault).into_ended()
         }
-        DatabaseRun::Report { date } => report(alloc, input_of(file), opener, date, out, fault),
-        DatabaseRun::Serve(serving) => serve(
-            rt,
-            input_of(file),
-            opener,
-            recording,
-            serving,
-            out,
-            fault,
-        ),
+        DatabaseRun::Report { date } => report(alloc, file, opening.store, date, out, fault),
+        DatabaseRun::Serve(serving) => serve(rt, file, opening, serving, out, fault),
     }
 }

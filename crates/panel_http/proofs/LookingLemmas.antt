@@ -4,6 +4,7 @@ use Rattle.std.proofs.lemmas.Bool.{cases_Bool, false≢true}
 use Rattle.building.specs.Building.{Building}
 use Rattle.desk_record.specs.Recorded.{Follows, InStep, listed}
 use Rattle.desk_record.specs.RecordStanding.{RecordStanding}
+use Rattle.panel_http.specs.Keeping.{KeepsStep}
 use Rattle.panel_http.specs.Looking.{OnlyReads}
 use Rattle.store.specs.declared.fault.StoreFault.{StoreFault}
 use Rattle.store.specs.declared.fault.StoreFault.TheVariants.{Failed}
@@ -23,7 +24,7 @@ only_reads_read fault old new honest reads = record {
   ];
 }
 
-pub in_step_read : (b : Building) (standing : RecordStanding) (old new : Standing) → OnlyReads old new → InStep b standing old
+in_step_read : (b : Building) (standing : RecordStanding) (old new : Standing) → OnlyReads old new → InStep b standing old
     → InStep b standing new
 in_step_read b standing old new reads step = record {
   level = λ going.
@@ -45,3 +46,14 @@ in_step_read b standing old new reads step = record {
     | inr (before, is) ↦ subst (λ (it : Content). Follows b (listed b bytes) it) (sym is) (step.held before bytes left)
   ];
 }
+
+pub keeps_read : (b : Building) (standing : RecordStanding) (old new : Standing) → (new.is_honest → old.is_honest)
+    → (new.is_honest → OnlyReads old new) → KeepsStep b standing standing old new
+keeps_read b standing old new honest reads = record {
+  honest = honest;
+  honest_record = λ is. is;
+  in_step = λ is honest_record step. in_step_read b standing old new (reads is) step;
+}
+
+pub keeps_same : (b : Building) (standing : RecordStanding) (old : Standing) → KeepsStep b standing standing old old
+keeps_same b standing old = record { honest = λ is. is; honest_record = λ is. is; in_step = λ honest honest_record step. step }

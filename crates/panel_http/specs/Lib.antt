@@ -1,4 +1,5 @@
 pub mod Answers
 pub mod Gathering
+pub mod Keeping
 pub mod Looking
 pub mod Serving

@@ -3,8 +3,8 @@
 ghost use Rattle.std.specs.Prelude.{◌≡◌, List};
 ghost use Rattle.deliveries.specs.declared.delivery.Delivery.{Delivery as a_delivery};
 ghost use Rattle.deliveries.specs.Delivered.{Holds};
-ghost use Rattle.desk_record.specs.Recorded.{InStep};
 ghost use Rattle.panel_http.specs.Answers.{Answers};
+ghost use Rattle.panel_http.specs.Keeping.{KeepsStep};
 ghost use Rattle.panel_http_requests.specs.declared.request.Request.TheVariants as asked;
 
 use crate::looking::{point_answer, report_answer};
@@ -27,11 +27,8 @@ pub(crate) fn answer<S: Store + Drop, K: Recorder>(
     ensures answers { (earlier : List a_delivery) → (S.standing desk.new.store).is_honest
         → Holds desk.old.building earlier (S.standing desk.old.store)
         → Answers desk.old.building earlier request.now result (S.standing desk.old.store) (S.standing desk.new.store) }
-    ensures honest { (S.standing desk.new.store).is_honest → (S.standing desk.old.store).is_honest }
-    ensures recorded { (S.standing desk.new.store).is_honest → (K.standing recorder.new).is_honest
-        → InStep desk.old.building (K.standing recorder.old) (S.standing desk.old.store)
-        → InStep desk.old.building (K.standing recorder.new) (S.standing desk.new.store) }
-    ensures honest_record { (K.standing recorder.new).is_honest → (K.standing recorder.old).is_honest }
+    ensures recorded { KeepsStep desk.old.building (K.standing recorder.old) (K.standing recorder.new)
+        (S.standing desk.old.store) (S.standing desk.new.store) }
     ensures building { desk.new.building ≡ desk.old.building }
 {
     match request {
@@ -58,11 +55,8 @@ fn delivery_answer<S: Store + Drop, K: Recorder>(
     ensures answers { (earlier : List a_delivery) → (S.standing desk.new.store).is_honest
         → Holds desk.old.building earlier (S.standing desk.old.store)
         → Answers desk.old.building earlier (asked.Delivery delivery.now) result (S.standing desk.old.store) (S.standing desk.new.store) }
-    ensures honest { (S.standing desk.new.store).is_honest → (S.standing desk.old.store).is_honest }
-    ensures recorded { (S.standing desk.new.store).is_honest → (K.standing recorder.new).is_honest
-        → InStep desk.old.building (K.standing recorder.old) (S.standing desk.old.store)
-        → InStep desk.old.building (K.standing recorder.new) (S.standing desk.new.store) }
-    ensures honest_record { (K.standing recorder.new).is_honest → (K.standing recorder.old).is_honest }
+    ensures recorded { KeepsStep desk.old.building (K.standing recorder.old) (K.standing recorder.new)
+        (S.standing desk.old.store) (S.standing desk.new.store) }
     ensures building { desk.new.building ≡ desk.old.building }
 {
     let reply = deliver(alloc, desk, recorder, delivery)?;

@@ -3,7 +3,7 @@
 ghost use Rattle.std.specs.Prelude.{◌≡◌, ◌⊎◌, ◌++◌, ℕ, List, [], Some};
 ghost use Rattle.deliveries.specs.declared.delivery.Delivery.{Delivery as a_delivery};
 ghost use Rattle.deliveries.specs.Delivered.{Holds};
-ghost use Rattle.desk_record.specs.Recorded.{InStep};
+ghost use Rattle.panel_http.specs.Keeping.{KeepsStep};
 ghost use Rattle.panel_http.specs.Serving.{Serves};
 ghost use Rattle.panel_http_requests.specs.Whole.{IsWhole};
 
@@ -32,11 +32,8 @@ pub fn serve_one<R: Read, W: Write, S: Store + Drop, K: Recorder>(
         → Serves desk.old.building earlier bytes reader.old.failures reader.new.failures
         (W.contents writer.old.inner) (W.contents writer.new.inner) writer.old.failures writer.new.failures
         (S.standing desk.old.store) (S.standing desk.new.store) result }
-    ensures honest { (S.standing desk.new.store).is_honest → (S.standing desk.old.store).is_honest }
-    ensures recorded { (S.standing desk.new.store).is_honest → (K.standing recorder.new).is_honest
-        → InStep desk.old.building (K.standing recorder.old) (S.standing desk.old.store)
-        → InStep desk.old.building (K.standing recorder.new) (S.standing desk.new.store) }
-    ensures honest_record { (K.standing recorder.new).is_honest → (K.standing recorder.old).is_honest }
+    ensures recorded { KeepsStep desk.old.building (K.standing recorder.old) (K.standing recorder.new)
+        (S.standing desk.old.store) (S.standing desk.new.store) }
     ensures building { desk.new.building ≡ desk.old.building }
 {
     match read_request(alloc, routes, desk.building(), reader) {
@@ -63,11 +60,8 @@ pub fn serve_come<W: Write, S: Store + Drop, K: Recorder>(
         → (failures : ℕ) × Serves desk.old.building earlier (come.now ++ more) 0 failures
         (W.contents writer.old.inner) (W.contents writer.new.inner) writer.old.failures writer.new.failures
         (S.standing desk.old.store) (S.standing desk.new.store) result }
-    ensures honest { (S.standing desk.new.store).is_honest → (S.standing desk.old.store).is_honest }
-    ensures recorded { (S.standing desk.new.store).is_honest → (K.standing recorder.new).is_honest
-        → InStep desk.old.building (K.standing recorder.old) (S.standing desk.old.store)
-        → InStep desk.old.building (K.standing recorder.new) (S.standing desk.new.store) }
-    ensures honest_record { (K.standing recorder.new).is_honest → (K.standing recorder.old).is_honest }
+    ensures recorded { KeepsStep desk.old.building (K.standing recorder.old) (K.standing recorder.new)
+        (S.standing desk.old.store) (S.standing desk.new.store) }
     ensures building { desk.new.building ≡ desk.old.building }
 {
     let mut reader = Counted::new(come);

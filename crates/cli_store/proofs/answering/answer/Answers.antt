@@ -9,39 +9,56 @@ use Rattle.cli_store.specs.Recorded.{Records}
 use Rattle.deliveries.specs.Delivered.{Holds}
 use Rattle.cli_store.proofs.answering.answer.Goals as goal
 
-pub returns-in-Ok-clause-answers : goal.returns-in-Ok-clause-answers
-returns-in-Ok-clause-answers g c = λ unrecorded earlier opens honest.
-    let same : c.in_ok-desk.desk.building ≡ c.args.building = c.in_ok-desk.ensures.building in
-    let honest_now = subst (λ s. (g.S.Store.standing s).is_honest) c.into_store-store.ensures honest in
-    let held = c.in_ok-desk.ensures.holds earlier opens (c.in-Ok.ensures.honest honest_now) in
-    let answered = c.in-Ok.ensures.answers unrecorded earlier honest_now
-    (subst (λ (b : Building). Holds b earlier (g.S.Store.standing c.in_ok-desk.desk.store)) (sym same) held) in
+pub returns-in-Ok-clause-answered : goal.returns-in-Ok-clause-answered
+returns-in-Ok-clause-answered g c = λ unrecorded file_bytes file.
+    let building = c.in_ok-building.building in
+    let delivery = c.in_ok-delivery.delivery in
+    let same : c.in_ok-desk.desk.building ≡ building = c.in_ok-desk.ensures.building in
     record {
-      printed =
-          subst (λ (b : Building). Appends (g.W.Write.contents c.args.out.now) (g.W.Write.contents c.deliver-answered.new.out)
-          (reply_line (reply b earlier c.args.delivery.now)))
-          same answered.printed;
-      holds = subst (λ (b : Building). Holds b (earlier ++ c.args.delivery.now ∷ []) (g.S.Store.standing c.into_store-store.result)) same
-          (subst (λ s. Holds c.in_ok-desk.desk.building (earlier ++ c.args.delivery.now ∷ []) (g.S.Store.standing s))
-          (sym c.into_store-store.ensures) answered.holds);
+      building = building;
+      building_is = c.in_ok-building.ensures file_bytes file;
+      delivery = delivery;
+      asked = c.in_ok-delivery.ensures;
+      answers = λ earlier opens honest.
+          let honest_now = subst (λ s. (g.S.Store.standing s).is_honest) c.into_store-store.ensures honest in
+          let held = c.in_ok-desk.ensures.holds earlier opens (c.in-Ok.ensures.honest honest_now) in
+          let answered = c.in-Ok.ensures.answers unrecorded earlier honest_now
+          (subst (λ (b : Building). Holds b earlier (g.S.Store.standing c.in_ok-desk.desk.store)) (sym same) held) in
+          record {
+            printed =
+                subst (λ (b : Building). Appends (g.W.Write.contents c.args.out.now) (g.W.Write.contents c.deliver-answered.new.out)
+                (reply_line (reply b earlier delivery)))
+                same answered.printed;
+            holds = subst (λ (b : Building). Holds b (earlier ++ delivery ∷ []) (g.S.Store.standing c.into_store-store.result)) same
+                (subst (λ s. Holds c.in_ok-desk.desk.building (earlier ++ delivery ∷ []) (g.S.Store.standing s))
+                (sym c.into_store-store.ensures) answered.holds);
+          };
     }
 
 pub returns-in-Ok-clause-recorded : goal.returns-in-Ok-clause-recorded
-returns-in-Ok-clause-recorded g c = λ kept.
-    let same : c.in_ok-desk.desk.building ≡ c.args.building = c.in_ok-desk.ensures.building in
+returns-in-Ok-clause-recorded g c = λ kept file_bytes file.
+    let building = c.in_ok-building.building in
+    let delivery = c.in_ok-delivery.delivery in
+    let same : c.in_ok-desk.desk.building ≡ building = c.in_ok-desk.ensures.building in
     let (disk, is, records) = c.in-Ok.ensures.recorded kept in (
       disk,
       is,
-      λ earlier opens_record opens honest clean.
-          let honest_now = subst (λ s. (g.S.Store.standing s).is_honest) c.into_store-store.ensures honest in
-          let behind = c.in_ok-desk.ensures.behind earlier opens (c.in-Ok.ensures.honest honest_now) in
-          let answered = records earlier
-          (λ opened may. subst (λ (b : Building). IfOk opened (λ it. listed b (g.D.Disk.seen it) ≡ earlier)) (sym same) (opens_record opened may))
-          (subst (λ (b : Building). IsBehind b earlier (g.S.Store.standing c.in_ok-desk.desk.store)) (sym same) behind) honest_now clean in
-          subst (λ s. Records c.args.building earlier c.args.delivery.now (g.S.Store.standing s) (g.D.Disk.seen disk) (g.D.Disk.may_leave disk)
-          (g.W.Write.contents c.args.out.now) (g.W.Write.contents c.deliver-answered.new.out))
-          (sym c.into_store-store.ensures)
-          (subst (λ (b : Building). Records b earlier c.args.delivery.now (g.S.Store.standing c.deliver-answered.new.desk.store)
-          (g.D.Disk.seen disk) (g.D.Disk.may_leave disk) (g.W.Write.contents c.args.out.now) (g.W.Write.contents c.deliver-answered.new.out))
-          same answered),
+      record {
+        building = building;
+        building_is = c.in_ok-building.ensures file_bytes file;
+        delivery = delivery;
+        asked = c.in_ok-delivery.ensures;
+        records = λ earlier opens_record opens honest clean.
+            let honest_now = subst (λ s. (g.S.Store.standing s).is_honest) c.into_store-store.ensures honest in
+            let behind = c.in_ok-desk.ensures.behind earlier opens (c.in-Ok.ensures.honest honest_now) in
+            let answered = records earlier
+            (λ opened may. subst (λ (b : Building). IfOk opened (λ it. listed b (g.D.Disk.seen it) ≡ earlier)) (sym same) (opens_record opened may))
+            (subst (λ (b : Building). IsBehind b earlier (g.S.Store.standing c.in_ok-desk.desk.store)) (sym same) behind) honest_now clean in
+            subst (λ s. Records building earlier delivery (g.S.Store.standing s) (g.D.Disk.seen disk) (g.D.Disk.may_leave disk)
+            (g.W.Write.contents c.args.out.now) (g.W.Write.contents c.deliver-answered.new.out))
+            (sym c.into_store-store.ensures)
+            (subst (λ (b : Building). Records b earlier delivery (g.S.Store.standing c.deliver-answered.new.desk.store)
+            (g.D.Disk.seen disk) (g.D.Disk.may_leave disk) (g.W.Write.contents c.args.out.now) (g.W.Write.contents c.deliver-answered.new.out))
+            same answered);
+      },
     )
