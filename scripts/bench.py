@@ -7,7 +7,7 @@ over a lossy network: with repeats, numbers out of order, gaps that are filled l
 numbers; or it is of ticks, one each quarter of an hour; or it is mixed: what a lossy network brings, with a tick and
 an old one each hundred lines, and an import each thousand.
 Where valgrind is installed it counts instructions too, which come out the same however busy the machine is. A list is
-replayed and straightened in turn, and what is told of the two says whether it is within what is meant.
+replayed and straightened in turn, and what is reported of the two says whether it is within what is meant.
 """
 import itertools
 import json
@@ -88,7 +88,7 @@ class Building:
                 )
 
     def command(self, panel, number, other=False):
-        """The line of a panel's command: its content is told by its number, but for another one."""
+        """The line of a panel's command: its content follows from its number, but for another one."""
         points = self.granted_to(panel)
         value = 500 + (number * 7 + other) % 3001
         return (
@@ -176,7 +176,7 @@ def run_desk(*words):
     return float(seconds), int(peak)
 
 
-# Each load: how it is told, and how its list is written.
+# Each load: its words, and how its list is written.
 LOADS = {
     "in order": ("", Building.write_commands),
     "lossy": (", over a lossy network", Building.write_lossy),
@@ -241,8 +241,8 @@ def show_seconds():
     lossy = [(size, "lossy") for size in SIZES]
     for size, load in [(SIZES[-1], "in order"), *lossy, (QUARTERS, "ticks"), (SIZES[0], "mixed"), (SIZES[2], "mixed")]:
         seconds, peak = measure(LARGEST, size, load)
-        told = f"{size / seconds:,.0f} lines a second, {peak / 1024:.0f} MB at most"
-        print(f"{size} lines {to_largest}{LOADS[load][0]}: {told}")
+        reported = f"{size / seconds:,.0f} lines a second, {peak / 1024:.0f} MB at most"
+        print(f"{size} lines {to_largest}{LOADS[load][0]}: {reported}")
 
 
 def show_reading():
@@ -262,8 +262,8 @@ def show_report():
     run_desk("tick", file, str(database), str(NEW_YEAR))
     seconds, peak = min(run_desk("report", file, str(database), "2025-01-01") for _ in range(RUNS))
     around = min(run_desk("tick", file, str(database), str(NEW_YEAR)) for _ in range(RUNS))[0]
-    told = f"{seconds * 1000:.0f} ms, {peak / 1024:.0f} MB at most; an old tick, which opens the same files, {around * 1000:.0f} ms"
-    print(f"the report of a day of {LARGEST.schedules} schedules and {LARGEST.points} points: {told}")
+    reported = f"{seconds * 1000:.0f} ms, {peak / 1024:.0f} MB at most; an old tick, which opens the same files, {around * 1000:.0f} ms"
+    print(f"the report of a day of {LARGEST.schedules} schedules and {LARGEST.points} points: {reported}")
 
 
 def show_growth():
@@ -277,9 +277,9 @@ def show_straightening():
     size = SIZES[1]
     for load in ("lossy", "mixed"):
         (replayed, _), (seconds, peak) = measure_in_turn(LARGEST, size, load)
-        told = f"{size / seconds:,.0f} lines a second, {peak / 1024:.0f} MB at most"
+        reported = f"{size / seconds:,.0f} lines a second, {peak / 1024:.0f} MB at most"
         beside = f"{meant(seconds / replayed, REPLAYS_MEANT)} the seconds of a replay, {size / replayed:,.0f} lines a second"
-        print(f"{size} lines to the largest building{LOADS[load][0]}, straightened: {told}; {beside}")
+        print(f"{size} lines to the largest building{LOADS[load][0]}, straightened: {reported}; {beside}")
 
 
 def show_instructions_of_straightening():
@@ -288,9 +288,9 @@ def show_instructions_of_straightening():
     for load in ("lossy", "mixed"):
         replayed = instructions(LARGEST, size, load)
         few, many = (instructions(LARGEST, count, load, "straighten") for count in (size, 2 * size))
-        told = f"{few / size:,.0f} instructions a line, {meant(few / replayed, REPLAYS_MEANT)} those of a replay"
+        reported = f"{few / size:,.0f} instructions a line, {meant(few / replayed, REPLAYS_MEANT)} those of a replay"
         growth = f"{many / (2 * size):,.0f} a line of {2 * size}, {meant(many / few, GROWTH_MEANT)} as many for twice the lines"
-        print(f"{size} lines to the largest building{LOADS[load][0]}, straightened: {told}; {growth}")
+        print(f"{size} lines to the largest building{LOADS[load][0]}, straightened: {reported}; {growth}")
 
 
 def show_instructions():

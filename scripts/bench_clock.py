@@ -8,10 +8,10 @@ The large building of bench.py has 4,000 entries imported and has had its first 
 whole runs of `replay` and `import`. Each reply of the one is compared with that of the other, first over requests of all
 kinds and then in each block: where they differ the run ends with a line that says where.
 
-What is told is the processor's time of the program that is meant, user and system, as the kernel counts it for the process:
+What is reported is the processor's time of the program that is meant, user and system, as the kernel counts it for the process:
 the middle of some blocks, and the middle, the least and the greatest ratio of a pair of them, the speed of the desk over
 that of the C++ program. Where `valgrind` is installed the instructions of a request are counted too. What a row wants is
-told beside it; the run ends well whatever the rows come to.
+printed beside it; the run ends well whatever the rows come to.
 """
 import ctypes
 import filecmp
@@ -173,7 +173,7 @@ class Server:
 
 
 def compare(requests, answers):
-    """Ends the run at the first request that the two were not told the same."""
+    """Ends the run at the first request to which the two did not answer alike."""
     for request, desk, plain in zip(requests, *answers):
         if desk != plain:
             sys.exit(f"the plain program's reply is not the desk's, to {request[:200]!r}:\n{desk[:2000]!r}\n{plain[:2000]!r}")
@@ -181,9 +181,9 @@ def compare(requests, answers):
 
 def taken(servers, requests, turn=0):
     """What each of the two servers takes for a request of these, the one first and then the other by turns."""
-    told = {place: servers[place].take(requests) for place in (turn % 2, 1 - turn % 2)}
-    compare(requests, [told[place][1] for place in (0, 1)])
-    return [told[place][0] for place in (0, 1)]
+    reported = {place: servers[place].take(requests) for place in (turn % 2, 1 - turn % 2)}
+    compare(requests, [reported[place][1] for place in (0, 1)])
+    return [reported[place][0] for place in (0, 1)]
 
 
 def keep(programs, name, start, requests):
@@ -220,9 +220,9 @@ def show(name, pairs, wanted, least=None):
     ratios = sorted(plain / desk for desk, plain in pairs)
     middles = [statistics.median(column) for column in zip(*pairs)]
     met = statistics.median(ratios) >= wanted if least is None else middles[0] <= least
-    told = f"{statistics.median(ratios):.2f} ({ratios[0]:.2f} to {ratios[-1]:.2f})"
+    reported = f"{statistics.median(ratios):.2f} ({ratios[0]:.2f} to {ratios[-1]:.2f})"
     meant = f"at least {wanted}" if least is None else f"at most {amount(least)}"
-    print(f"| {name} | {amount(middles[0])} | {amount(middles[1])} | {told} | {meant} | {'yes' if met else 'no'} |", flush=True)
+    print(f"| {name} | {amount(middles[0])} | {amount(middles[1])} | {reported} | {meant} | {'yes' if met else 'no'} |", flush=True)
 
 
 def blocks():
@@ -319,8 +319,8 @@ def show_replays(programs):
 
 
 def micros_an_exception(words):
-    told = subprocess.run(list(map(str, words)), capture_output=True, text=True, check=True).stdout
-    calls, micros, known = re.search(r"value_now: (\d+) calls in (\d+) microseconds, (\d+) with a value", told).groups()
+    reported = subprocess.run(list(map(str, words)), capture_output=True, text=True, check=True).stdout
+    calls, micros, known = re.search(r"value_now: (\d+) calls in (\d+) microseconds, (\d+) with a value", reported).groups()
     return int(micros) / int(calls) / 100, known
 
 
@@ -341,8 +341,8 @@ def counted(program, name, requests):
     server = Server(program, program.copied(name), len(requests), ["valgrind", "--tool=callgrind", "--callgrind-out-file=/dev/null"])
     for request in requests:
         server.ask(request)
-    told = server.ran.communicate()[1].decode()
-    return int(re.search(r"Collected : (\d+)", told).group(1))
+    reported = server.ran.communicate()[1].decode()
+    return int(re.search(r"Collected : (\d+)", reported).group(1))
 
 
 def show_instructions(programs):

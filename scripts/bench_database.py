@@ -2,7 +2,7 @@
 
 The program that does it, `scripts/database_bench`, is proved apart (`proved_apart`). Beside it stands the same work
 done by `scripts/plain_desk.cpp` over the C library of SQLite, where a compiler and that library are installed. The two
-take turns, and the fastest run of each is told. Where `strace` is installed the waits for the disk are counted, and
+take turns, and the fastest run of each is reported. Where `strace` is installed the waits for the disk are counted, and
 where `valgrind` is the instructions.
 """
 import os
@@ -76,8 +76,8 @@ def run(program, count, before=()):
         with open(os.devnull, "wb") as sink:
             status = subprocess.call([*before, *words_of(program, database, count)], stdout=sink)
         used = resource.getrusage(resource.RUSAGE_CHILDREN)
-        told = f"{time.perf_counter() - start} {used.ru_utime + used.ru_stime} {used.ru_maxrss} {status}"
-        os.write(writer, told.encode())
+        reported = f"{time.perf_counter() - start} {used.ru_utime + used.ru_stime} {used.ru_maxrss} {status}"
+        os.write(writer, reported.encode())
         os._exit(0)
     os.close(writer)
     seconds, own, peak, status = os.read(reader, 200).split()
@@ -105,13 +105,13 @@ def instructions(program, count):
 
 def show(name, program, runs):
     seconds, own, peak = min(runs)
-    told = f"{name}: {COMMANDS / seconds:,.0f} commands a second to a file, {own / COMMANDS * 1000:.3f} ms of the processor each"
-    told += f", {peak / 1024:.0f} MB at most"
+    reported = f"{name}: {COMMANDS / seconds:,.0f} commands a second to a file, {own / COMMANDS * 1000:.3f} ms of the processor each"
+    reported += f", {peak / 1024:.0f} MB at most"
     if shutil.which("strace"):
-        told += f", {waits(program) / COUNTED:.2f} waits for the disk each"
+        reported += f", {waits(program) / COUNTED:.2f} waits for the disk each"
     if shutil.which("valgrind"):
-        told += f", {(instructions(program, COUNTED) - instructions(program, 0)) / COUNTED:,.0f} instructions each"
-    print(told, flush=True)
+        reported += f", {(instructions(program, COUNTED) - instructions(program, 0)) / COUNTED:,.0f} instructions each"
+    print(reported, flush=True)
     return seconds
 
 

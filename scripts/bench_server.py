@@ -3,7 +3,7 @@
 The requests are made by `scripts/http_load.cpp`, which wants g++: commands in order, a mix of commands, repeats and
 points, and points alone, each over a new database; then commands and points by 64 clients at once, and commands with and
 without a record (`--record`), the two taking turns. Where `strace` is installed, the share of the time that the server
-waits for the disk is told too. The commands in order are taken as well by `scripts/plain_desk.cpp` where that can be
+waits for the disk is counted too. The commands in order are taken as well by `scripts/plain_desk.cpp` where that can be
 built: the two servers take turns, on the disk as it is, and with `strace` on a disk of memory each of whose syncs waits
 so long that the plain server makes some 2,830 commands a second, as it did on the machine of the first measurements.
 Such a disk waits as long for both servers, whatever else the machine does.
@@ -46,13 +46,13 @@ def served(kind, count, before=(), plain=None, folder=FOLDER, clients=1, panels=
     server = subprocess.Popen([*before, *words], stdout=subprocess.PIPE)
     server.stdout.readline()
     load = [str(FOLDER / "http_load"), str(port), kind, str(count), str(panels), str(bench_database.POINTS), str(clients)]
-    told = subprocess.run(load, capture_output=True, text=True)
-    if told.returncode != 0 or server.wait() != 0:
+    reported = subprocess.run(load, capture_output=True, text=True)
+    if reported.returncode != 0 or server.wait() != 0:
         server.kill()
-        sys.exit(f"the server ended early, or the load was told: {told.stderr}")
+        sys.exit(f"the server ended early, or the load failed: {reported.stderr}")
     if is_recorded and len(record.read_bytes().splitlines()) != count:
         sys.exit(f"the record has other lines than {count} commands")
-    return [float(part) for part in told.stdout.split()]
+    return [float(part) for part in reported.stdout.split()]
 
 
 def waited(kind):
@@ -63,7 +63,7 @@ def waited(kind):
     return seconds / (REQUESTS / 5 / a_second)
 
 
-def told(pairs, other="a plain server in C++ has"):
+def reported(pairs, other="a plain server in C++ has"):
     """What pairs of speeds come to: the middle of each, and the middle one, the least and the greatest of their ratios."""
     ratios = sorted(desk / beside for desk, beside in pairs)
     ours, theirs = (statistics.median(speeds) for speeds in zip(*pairs))
@@ -74,13 +74,13 @@ def told(pairs, other="a plain server in C++ has"):
 def compare_with_a_record():
     """Pairs of a desk that keeps a record and one that keeps none."""
     pairs = [[served("commands", REQUESTS, is_recorded=each)[0] for each in (True, False)] for _ in range(PAIRS_OF_RECORDS)]
-    print(f"with a record, over HTTP: {told(pairs, 'without one it is')}", flush=True)
+    print(f"with a record, over HTTP: {reported(pairs, 'without one it is')}", flush=True)
 
 
 def compare(plain):
     """Pairs on the disk as it is."""
     pairs = [(served("commands", REQUESTS)[0], served("commands", REQUESTS, plain=plain)[0]) for _ in range(PAIRS)]
-    print(f"over HTTP: {told(pairs)}", flush=True)
+    print(f"over HTTP: {reported(pairs)}", flush=True)
 
 
 def waiting(microseconds):
@@ -102,7 +102,7 @@ def compare_on_the_reference_disk(plain):
                 break
             wait = max(0, round(wait + 1e6 / REFERENCE - 1e6 / plainly))
         pairs = [(speed(wait), speed(wait, plain)) for _ in range(PAIRS_IN_MEMORY)]
-    print(f"where each sync waits {wait} microseconds more: {told(pairs)}")
+    print(f"where each sync waits {wait} microseconds more: {reported(pairs)}")
 
 
 def main():

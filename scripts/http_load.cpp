@@ -107,18 +107,18 @@ int main(int count, char **words) {
     load.panels = std::atoi(words[4]);
     load.points = std::atoi(words[5]);
     load.clients = count == 7 ? std::atoi(words[6]) : 1;
-    std::vector<std::vector<double>> told(load.clients);
+    std::vector<std::vector<double>> taken(load.clients);
     std::vector<std::thread> clients;
     auto begun = Clock::now();
     for (int client = 0; client < load.clients; ++client) {
-        clients.emplace_back([&, client] { ask_all(load, client, told[client]); });
+        clients.emplace_back([&, client] { ask_all(load, client, taken[client]); });
     }
     for (auto &client : clients) {
         client.join();
     }
     double seconds = std::chrono::duration<double>(Clock::now() - begun).count();
     std::vector<double> times;
-    for (const auto &each : told) {
+    for (const auto &each : taken) {
         times.insert(times.end(), each.begin(), each.end());
     }
     std::sort(times.begin(), times.end());

@@ -83,9 +83,9 @@ class Trial:
             if seconds is None:
                 select.select([ran.stdout], [], [], PATIENCE)
                 ran.kill()
-            printed, told = ran.communicate(timeout=PATIENCE)
-        if told or not (reply.encode() + b"\n").startswith(printed) or (ran.returncode == 0 and not printed):
-            raise AssertionError(f"{delivery} printed {printed!r} and told {told!r}, wanted {reply!r}")
+            printed, reported = ran.communicate(timeout=PATIENCE)
+        if reported or not (reply.encode() + b"\n").startswith(printed) or (ran.returncode == 0 and not printed):
+            raise AssertionError(f"{delivery} printed {printed!r} and the fault {reported!r}, wanted {reply!r}")
         return bool(printed)
 
     def by_server(self, sent, replies, start, after, requests):
@@ -100,9 +100,9 @@ class Trial:
                 count = self.send(port, sent, replies) if listened else 0
                 if requests == count:
                     ran.wait(PATIENCE)
-            told = ran.communicate(timeout=PATIENCE)[1]
-        if told or (requests == count and ran.returncode != 0):
-            raise AssertionError(f"a server told {told!r}, with status {ran.returncode}")
+            reported = ran.communicate(timeout=PATIENCE)[1]
+        if reported or (requests == count and ran.returncode != 0):
+            raise AssertionError(f"a server printed the fault {reported!r}, with status {ran.returncode}")
         return count, listened
 
     def send(self, port, sent, replies):

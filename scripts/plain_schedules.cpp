@@ -5,7 +5,7 @@
 // It follows docs/RULES.md. All that counts is kept in memory: priority arrays, what schedules show, entries, each panel's
 // last 1,000 rows. A database has the desk's tables, which are read once and then only written, one commit a delivery, at
 // the desk's durability and by statements that are prepared once. BUILDING is the text that bench_clock.py writes; the zone
-// is UTC0. It takes what it is told as it stands, and looks for nothing wrong in it.
+// is UTC0. It takes what it is reported as it stands, and looks for nothing wrong in it.
 #include "plain_building.h"
 #include "plain_loopback.h"
 #include "plain_sqlite.h"
@@ -161,9 +161,9 @@ private:
     std::vector<bool> calendars_on(const Date &day) const;
     int64_t settle();
     void commit() { if (tables_) { tables_->commit(); } }
-    template <typename... Given, typename... Told> void write(void (Tables::*put)(Given...), Told &&...told) {
+    template <typename... Given, typename... Values> void write(void (Tables::*put)(Given...), Values &&...values) {
         if (tables_) {
-            (tables_->*put)(std::forward<Told>(told)...);
+            (tables_->*put)(std::forward<Values>(values)...);
         }
     }
 

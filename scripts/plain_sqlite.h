@@ -6,8 +6,8 @@
 #include <sqlite3.h>
 #include <string>
 
-inline void check(sqlite3 *db, int told) {
-    if (told != SQLITE_OK && told != SQLITE_DONE && told != SQLITE_ROW) {
+inline void check(sqlite3 *db, int status) {
+    if (status != SQLITE_OK && status != SQLITE_DONE && status != SQLITE_ROW) {
         std::fprintf(stderr, "sqlite: %s\n", sqlite3_errmsg(db));
         std::exit(1);
     }
@@ -34,9 +34,9 @@ public:
         return *this;
     }
     bool step() {
-        int told = sqlite3_step(statement_);
-        check(db_, told);
-        return told == SQLITE_ROW;
+        int status = sqlite3_step(statement_);
+        check(db_, status);
+        return status == SQLITE_ROW;
     }
     sqlite3_int64 column(int at) { return sqlite3_column_int64(statement_, at); }
     std::optional<sqlite3_int64> column_or_null(int at) {

@@ -130,9 +130,9 @@ class Progress:
         self.ended.add(crate)
         if how == "is kept":
             self.kept.add(crate)
-        told = {"proved": "proved", "is kept": "was proved before", "NOT PROVED": "NOT PROVED"}[how]
+        reported = {"proved": "proved", "is kept": "was proved before", "NOT PROVED": "NOT PROVED"}[how]
         minutes = (time.monotonic() - self.began) / 60
-        return f"[{len(self.ended)}/{len(self.crates)}] {crate} {told}, {minutes:.0f} min, some {self.left():.0f} to go"
+        return f"[{len(self.ended)}/{len(self.crates)}] {crate} {reported}, {minutes:.0f} min, some {self.left():.0f} to go"
 
     def speed(self):
         """How many minutes a minute of the table has taken here; with little behind it, that of the table."""

@@ -157,8 +157,8 @@ def difference(program, rng, folder):
     how = f"{words} of\n{text}{held}"
     # the clock of UTC shows years to 2154
     if held["last"] is not None and held["last"] >= 583_804_800_000:
-        told = (1, "", f"desk: last tick {held['last']}: the building's clock shows no time then\n")
-        wrong = differs("refused", (done.returncode, done.stdout, done.stderr), told) or differs("files", content_of(folder), before)
+        reported = (1, "", f"desk: last tick {held['last']}: the building's clock shows no time then\n")
+        wrong = differs("refused", (done.returncode, done.stdout, done.stderr), reported) or differs("files", content_of(folder), before)
         return wrong and f"{wrong} by {how}"
     made = adopted(building, held, renamings)
     printed = "".join(line + "\n" for line in [*notes_of(building, held, renamings), holdings_of(made)])

@@ -65,8 +65,8 @@ def look_at(program, folder, ran, met, wanted):
     elif ran.returncode == -signal.SIGKILL and met:
         expect(ran.stderr, "")
     else:
-        told = ("desk: store fault S2 at new.db\n", "desk: cannot write new.db\n", "desk: out of memory\n")
-        expect((ran.returncode, ran.stderr, met, left(folder)), (3, ran.stderr if ran.stderr in told else told, True, []))
+        reported = ("desk: store fault S2 at new.db\n", "desk: cannot write new.db\n", "desk: out of memory\n")
+        expect((ran.returncode, ran.stderr, met, left(folder)), (3, ran.stderr if ran.stderr in reported else reported, True, []))
     if "new.db" in left(folder):
         expect(tables_in(folder / "new.db"), wanted)
 

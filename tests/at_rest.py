@@ -1,5 +1,5 @@
 """The database file at rest: once a run has ended it is whole without its log, and a file that has lost its log, or a log
-that has lost its file, is told and never begun anew.
+that has lost its file, is reported and never begun anew.
 
 Each test takes the path of the program and a folder of its own.
 """
@@ -164,7 +164,7 @@ def begin(folder):
     databases.put_back(folder / "kept", folder)
 
 
-def a_close_that_fails_is_told_and_loses_nothing(program, folder):
+def a_close_that_fails_is_reported_and_loses_nothing(program, folder):
     """The last call of a tick that changes the files is one of its close. The reply is printed, the status tells it, and the
     log has all."""
     if not shims.library("disk_trouble"):
@@ -209,14 +209,14 @@ def each_tells(program, folder):
         expect((name, files_of(folder)), (name, before))
 
 
-def a_file_without_its_log_is_told(program, folder):
+def a_file_without_its_log_is_reported(program, folder):
     for size in PAGE_SIZES:
         room = building_in(folder / str(size))
         one_page(room, size)
         each_tells(program, room)
 
 
-def a_log_without_its_file_is_told(program, folder):
+def a_log_without_its_file_is_reported(program, folder):
     """The file is missing, or empty, or a link leads to where it was."""
     building_in(folder)
     with serving(program, folder, len(EACH_KIND) + 1) as server:
@@ -261,8 +261,8 @@ TESTS = (
     a_server_that_ends_leaves_it_whole,
     a_server_that_is_stopped_leaves_both_files,
     a_run_that_ends_with_a_fault_leaves_it_whole,
-    a_close_that_fails_is_told_and_loses_nothing,
-    a_file_without_its_log_is_told,
-    a_log_without_its_file_is_told,
+    a_close_that_fails_is_reported_and_loses_nothing,
+    a_file_without_its_log_is_reported,
+    a_log_without_its_file_is_reported,
     a_beginning_that_was_stopped_is_taken_for_none,
 )

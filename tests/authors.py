@@ -314,8 +314,8 @@ def an_unknown_point_is_a_fault(program):
         file.write_text(compare.toml_of(HOUSE))
         listed.write_text("")
         try:
-            for name, told in [("R102", "R102"), ("", ""), ("R1\n2", "R1\\n2"), ("r101-set", "r101-set")]:
-                expect((name, run(program, "why", file, listed, name)), (name, ("", f"desk: no point {told}\n", 1)))
+            for name, reported in [("R102", "R102"), ("", ""), ("R1\n2", "R1\\n2"), ("r101-set", "r101-set")]:
+                expect((name, run(program, "why", file, listed, name)), (name, ("", f"desk: no point {reported}\n", 1)))
         except AssertionError as error:
             return f"unknown points: {error}"
     return None
@@ -326,13 +326,13 @@ def main(words):
     seed = int(words[2]) if len(words) > 2 else random.randrange(10**9)
     lists = int(words[3]) if len(words) > 3 else LISTS
     with ThreadPoolExecutor(4) as pool:
-        told = [an_unknown_point_is_a_fault(program)] + [worked(program, place) for place in range(len(WORKED))]
-        told += pool.map(lambda index: disagreement(program, seed, index), range(lists))
-    differing = [text for text in told if text is not None]
+        reported = [an_unknown_point_is_a_fault(program)] + [worked(program, place) for place in range(len(WORKED))]
+        reported += pool.map(lambda index: disagreement(program, seed, index), range(lists))
+    differing = [text for text in reported if text is not None]
     print(f"{lists} random lists (seed {seed})")
     for text in differing[:3]:
         print(text)
-    print(f"{len(told) - len(differing)} passed, {len(differing)} failed")
+    print(f"{len(reported) - len(differing)} passed, {len(differing)} failed")
     return 1 if differing else 0
 
 

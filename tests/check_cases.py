@@ -255,7 +255,7 @@ CASES = [
     ("B13 schedule 1 exception", [('times = ["00:00=1500"]', "times = " + time_values(101))]),
     ("B9 schedule 1 exception", [("00:00=1500", "0:00=1500")]),
     ("B11 schedule 1 exception", [("00:00=1500", "00:00=4000")]),
-    # two faults: the first in the order of the file's keys is told
+    # two faults: the first in the order of the file's keys is reported
     ("B2 top 0 ?", [(ZONE, "zone = 1\nsite = 1")]),
     ("B12 top 0 zone", [(ZONE, 'zone = ""'), (SET, SET + "\nunit = 1")]),
     ("B2 point 1 ?", [(SET, '[[point]]\nname = ""\nunit = 1')]),
@@ -274,7 +274,7 @@ CASES = [
     ("B10 schedule 1 exception", [(EXCEPTION, 'on_leave = "drop"\n' + EXCEPTION.replace("5", "17", 1))]),
 ]
 
-# entries at fault: of two faults the first is told
+# entries at fault: of two faults the first is reported
 ENTRIES = [
     ("", "E1"),
     ("2025-06", "E1"),
@@ -356,8 +356,8 @@ def difference(program, wanted, file, folder):
     replayed = run(program, ["replay", "building.toml", "none.jsonl"], folder)
     straightened = run(program, ["straighten", "building.toml", "none.jsonl"], folder)
     if wanted.startswith("ok"):
-        told = wanted if ":" in wanted else "ok: 2 points, 2 panels, 1 calendars, 1 schedules"
-        expected = [0, told.encode() + b"\n", b"", 0, b"", 0, b"", b""]
+        reported = wanted if ":" in wanted else "ok: 2 points, 2 panels, 1 calendars, 1 schedules"
+        expected = [0, reported.encode() + b"\n", b"", 0, b"", 0, b"", b""]
     else:
         line = f"desk: {wanted}\n".encode()
         expected = [1, b"", line, 1, line, 1, b"", line]
@@ -367,7 +367,7 @@ def difference(program, wanted, file, folder):
 
 
 def all_cases():
-    """The fault's line or `ok`, the bytes of the file, and how the case is told."""
+    """The fault's line or `ok`, the bytes of the file, and the words of the case."""
     for wanted, changes in CASES:
         yield wanted, changed(changes), "; ".join(f"{old[:40]!r} to {new[:60]!r}" for old, new, *_ in changes) or "as it is"
     for entry, fault in ENTRIES:
@@ -380,12 +380,12 @@ def main():
     failed = 0
     program = str(pathlib.Path(sys.argv[1]).resolve())
     cases = list(all_cases())
-    for wanted, file, told in cases:
+    for wanted, file, reported in cases:
         with tempfile.TemporaryDirectory() as folder:
             found = difference(program, wanted, file, folder)
         if found:
             failed += 1
-            print(f"FAILED {told}: {found[:2000]}")
+            print(f"FAILED {reported}: {found[:2000]}")
     print(f"{len(cases) - failed} passed, {failed} failed")
     sys.exit(bool(failed))
 

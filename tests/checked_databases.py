@@ -145,11 +145,11 @@ def difference(program, rng, folder):
     (folder / "building.toml").write_text(text)
     subprocess.run([program, "tick", "made.toml", "desk.db", "0"], cwd=folder, check=True, capture_output=True, timeout=SECONDS)
     fill(folder / "desk.db", rows_of(rng))
-    status, told = wanted(tomllib.loads(text), held_in(folder / "desk.db"))
+    status, reported = wanted(tomllib.loads(text), held_in(folder / "desk.db"))
     before = content_of(folder)
     ran = subprocess.run([program, "check", "building.toml", "desk.db"], cwd=folder, capture_output=True, text=True, timeout=SECONDS)
-    if (ran.returncode, ran.stdout, ran.stderr) != (status, told, ""):
-        return f"{ran.returncode} {ran.stdout!r} {ran.stderr!r}, wanted {status} {told!r}, of\n{text}"
+    if (ran.returncode, ran.stdout, ran.stderr) != (status, reported, ""):
+        return f"{ran.returncode} {ran.stdout!r} {ran.stderr!r}, wanted {status} {reported!r}, of\n{text}"
     return "" if content_of(folder) == before else "a file was changed"
 
 

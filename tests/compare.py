@@ -283,17 +283,17 @@ def list_about_the_last_thousand():
 
 
 def compare(program, seed, lists=LISTS):
-    """How many lists agreed, and what was told of those that did not."""
+    """How many lists agreed, and what was reported of those that did not."""
     short = short_lists() + near_lists() + [list_about_the_last_thousand()]
     with tempfile.TemporaryDirectory(prefix="desk-compare-") as room, ThreadPoolExecutor(4) as pool:
         folder = pathlib.Path(room)
-        told = list(pool.map(lambda index: disagreement(program, folder, seed, index), range(lists)))
-        told += pool.map(
+        reported = list(pool.map(lambda index: disagreement(program, folder, seed, index), range(lists)))
+        reported += pool.map(
             lambda place: differs(program, folder, f"short {place}", random.Random(place), SMALL, short[place]),
             range(len(short)),
         )
-    differing = [text for text in told if text is not None]
-    return len(told) - len(differing), differing
+    differing = [text for text in reported if text is not None]
+    return len(reported) - len(differing), differing
 
 
 def main(words):

@@ -28,8 +28,8 @@ def state_of(number, front, answer):
     """The columns `state`, `a` and `b` of a command."""
     if number > front:
         return 0, None, None
-    kind, *told = answer
-    return (1, *told) if kind == "done" else (2, int(told[0][1:]), None)
+    kind, *reported = answer
+    return (1, *reported) if kind == "done" else (2, int(reported[0][1:]), None)
 
 
 def command_rows(panel, taken, answers, remembered):

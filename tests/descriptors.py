@@ -28,18 +28,18 @@ STATUSES = {b"": 0, NO_BUILDING: 1, NO_HOLIDAYS: 1, NO_STORE: 3, NO_LISTENER: 1}
 def expect_ends(begin, faults, may_be_lost=False):
     """With ever more descriptors a run tells these faults in their order, each at least once, and then it answers; a
     connection that could not be taken gets nothing."""
-    told, answered = [], []
+    reported, answered = [], []
     for most in range(LEAST, MOST):
         run, program, folder = begin()
         ended = run.run(program, folder, shims.environment("disk_trouble", TROUBLE_DESCRIPTORS=most))
-        fault = NO_LISTENER if ended.told.startswith(NO_LISTENER) else ended.told
-        expect((most, ended.told, ended.status), (most, ended.told, STATUSES.get(fault)))
-        told.append(fault)
+        fault = NO_LISTENER if ended.reported.startswith(NO_LISTENER) else ended.reported
+        expect((most, ended.reported, ended.status), (most, ended.reported, STATUSES.get(fault)))
+        reported.append(fault)
         answered.append(ended.printed == run.answer)
-        if ended.printed not in (run.answer, b"") or not (ended.told or may_be_lost or answered[-1]):
+        if ended.printed not in (run.answer, b"") or not (ended.reported or may_be_lost or answered[-1]):
             raise AssertionError(f"with {most} descriptors {ended!r}, wanted {run.answer!r}")
-    expect(told, sorted(told, key=[*faults, b""].index))
-    expect((list(dict.fromkeys(told)), answered[-1]), ([*faults, b""], True))
+    expect(reported, sorted(reported, key=[*faults, b""].index))
+    expect((list(dict.fromkeys(reported)), answered[-1]), ([*faults, b""], True))
 
 
 def can_limit():
@@ -74,21 +74,21 @@ def over_tables(trial, faults, asked=None, may_be_lost=False):
     expect_ends(begin, faults, may_be_lost)
 
 
-def a_database_that_cannot_be_opened_is_told(program, folder):
+def a_database_that_cannot_be_opened_is_reported(program, folder):
     if not can_limit():
         return
     trial = Trial(program, folder, BUILDING, EACH_KIND, Tick(174890160000))
     over_tables(trial, [NO_BUILDING, NO_STORE])
     state = run_of(BUILDING, EACH_KIND)[1]
-    told = report_text(BUILDING, DAY, state.imported, state.places).encode()
-    over_tables(trial, [NO_BUILDING, NO_STORE], ByWords(("report", "building.toml", databases.NAME, str(DAY)), told))
+    reported = report_text(BUILDING, DAY, state.imported, state.places).encode()
+    over_tables(trial, [NO_BUILDING, NO_STORE], ByWords(("report", "building.toml", databases.NAME, str(DAY)), reported))
     point = point_text(BUILDING, state.places, BUILDING.points[0]).encode()
     server = ByRequest(get("/points/R101-SET"), response(200, point))
     over_tables(trial, [NO_BUILDING, NO_STORE, NO_LISTENER], server, may_be_lost=True)
 
 
 def a_holiday_list_that_cannot_be_read_is_named(program, folder):
-    """Both files are open at once, and the building's is told first."""
+    """Both files are open at once, and the building's is reported first."""
     if can_limit():
         trial = Trial(program, folder, BUILDING, EACH_KIND, Import((("HOLIDAYS", "2025-06-09"),)))
         over_tables(trial, [NO_BUILDING, NO_HOLIDAYS, NO_STORE])
@@ -96,6 +96,6 @@ def a_holiday_list_that_cannot_be_read_is_named(program, folder):
 
 TESTS = (
     the_file_that_cannot_be_read_is_named,
-    a_database_that_cannot_be_opened_is_told,
+    a_database_that_cannot_be_opened_is_reported,
     a_holiday_list_that_cannot_be_read_is_named,
 )

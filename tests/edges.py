@@ -55,28 +55,28 @@ def commands(count):
     return "".join(line.format(number) for number in range(1, count + 1))
 
 
-def told_on_a_full_device(program, subcommand, building, listed, told=b"desk: cannot write\n"):
+def reported_on_a_full_device(program, subcommand, building, listed, reported=b"desk: cannot write\n"):
     with open("/dev/full", "wb") as full:
         ran = subprocess.run([program, subcommand, building, listed], stdout=full, stderr=subprocess.PIPE, timeout=SECONDS)
-    expect((subcommand, ran.returncode, ran.stderr), (subcommand, 1, told))
+    expect((subcommand, ran.returncode, ran.stderr), (subcommand, 1, reported))
 
 
-def a_full_device_is_told(program, folder):
+def a_full_device_is_reported(program, folder):
     for subcommand in OF_A_LIST:
-        told_on_a_full_device(program, subcommand, *files(folder))
-        told_on_a_full_device(program, subcommand, *files(folder, commands(20_000)))
+        reported_on_a_full_device(program, subcommand, *files(folder))
+        reported_on_a_full_device(program, subcommand, *files(folder, commands(20_000)))
 
 
-def a_full_device_is_told_before_a_bad_line(program, folder):
-    told_on_a_full_device(program, "replay", *files(folder, COMMAND + "no delivery\n"))
+def a_full_device_is_reported_before_a_bad_line(program, folder):
+    reported_on_a_full_device(program, "replay", *files(folder, COMMAND + "no delivery\n"))
 
 
 def a_straightening_that_prints_nothing_meets_no_full_device(program, folder):
-    told = b"desk: line 2 is not a delivery\n"
-    told_on_a_full_device(program, "straighten", *files(folder, COMMAND + "no delivery\n"), told)
+    reported = b"desk: line 2 is not a delivery\n"
+    reported_on_a_full_device(program, "straighten", *files(folder, COMMAND + "no delivery\n"), reported)
 
 
-def a_closed_pipe_is_told(program, folder):
+def a_closed_pipe_is_reported(program, folder):
     building, listed = files(folder)
     for subcommand in OF_A_LIST:
         reader, writer = os.pipe()
@@ -90,11 +90,11 @@ def a_building_is_refused_before_the_list_is_opened(program, folder):
     pipe = folder / "pipe"
     os.mkfifo(pipe)
     (folder / "empty.toml").write_text("")
-    for building, told in (("missing.toml", "cannot read missing.toml"), ("empty.toml", "B3 top 0 zone")):
+    for building, reported in (("missing.toml", "cannot read missing.toml"), ("empty.toml", "B3 top 0 zone")):
         for subcommand in OF_A_LIST:
             words = [program, subcommand, building, "pipe"]
             ran = subprocess.run(words, cwd=folder, capture_output=True, text=True, timeout=SECONDS)
-            expect((subcommand, ran.returncode, ran.stdout, ran.stderr), (subcommand, 1, "", f"desk: {told}\n"))
+            expect((subcommand, ran.returncode, ran.stdout, ran.stderr), (subcommand, 1, "", f"desk: {reported}\n"))
 
 
 def each_reply_is_seen_while_the_list_goes_on(program, folder):
@@ -321,7 +321,7 @@ def on_a_disk_of(most):
     resource.setrlimit(resource.RLIMIT_FSIZE, (most, most))
 
 
-def a_full_disk_is_told_and_changes_nothing(program, folder):
+def a_full_disk_is_reported_and_changes_nothing(program, folder):
     files(folder)
     expect(ticked(program, folder, 174884399999).stdout, TICKED)
     before = rows_of(folder / "desk.db")
@@ -355,21 +355,21 @@ def enough_memory(runs):
     return enough
 
 
-def want_of_memory_is_told_and_changes_nothing(program, folder):
+def want_of_memory_is_reported_and_changes_nothing(program, folder):
     """With ever less memory than enough, a tick tells the want of it and leaves the tables as they were."""
     files(folder)
     expect(ticked(program, folder, 174884399999).stdout, TICKED)
     moments = itertools.count(174884400001)
     most = enough_memory(lambda some: ticked(program, folder, next(moments), preexec_fn=lambda: within(some)).returncode == 0)
-    told = set()
+    reported = set()
     before = rows_of(folder / "desk.db")
     for steps in range(1, 40):
         ran = ticked(program, folder, 174888000000, preexec_fn=lambda: within(most - steps * MEMORY_STEP))
         if ran.returncode not in (0, 3):
             break  # too little to begin at all
-        told.add((ran.returncode, ran.stdout, ran.stderr))
+        reported.add((ran.returncode, ran.stdout, ran.stderr))
         expect(rows_of(folder / "desk.db"), before)
-    expect(told, {NO_MEMORY})
+    expect(reported, {NO_MEMORY})
     expect(ticked(program, folder, 174888000000).stdout, OLD.replace(b"old", b"tick"))
 
 
@@ -381,14 +381,14 @@ def want_of_memory_leaves_nothing_of_a_straightened_list(program, folder):
         words = [program, "straighten", building, listed]
         return subprocess.run(words, capture_output=True, preexec_fn=lambda: within(most), timeout=SECONDS)
 
-    most, told = enough_memory(lambda some: straightened(some).returncode == 0), set()
+    most, reported = enough_memory(lambda some: straightened(some).returncode == 0), set()
     expect(straightened(most + MEMORY_STEP).stdout, listed.read_bytes())
     for steps in range(1, 60):
         ran = straightened(most - steps * MEMORY_STEP)
         if ran.returncode not in (0, 3):
             break  # too little to begin at all
-        told.add((ran.returncode, ran.stdout, ran.stderr))
-    expect(told, {NO_MEMORY})
+        reported.add((ran.returncode, ran.stdout, ran.stderr))
+    expect(reported, {NO_MEMORY})
 
 
 def words_at_fault_make_no_database(program, folder):
@@ -404,15 +404,15 @@ TESTS = [
     a_database_that_another_process_holds_is_refused,
     a_database_that_a_desk_holds_is_refused,
     a_tick_whose_reply_is_lost_stands,
-    a_full_disk_is_told_and_changes_nothing,
+    a_full_disk_is_reported_and_changes_nothing,
     no_database_is_made_on_a_full_disk,
-    want_of_memory_is_told_and_changes_nothing,
+    want_of_memory_is_reported_and_changes_nothing,
     want_of_memory_leaves_nothing_of_a_straightened_list,
     words_at_fault_make_no_database,
-    a_full_device_is_told,
-    a_full_device_is_told_before_a_bad_line,
+    a_full_device_is_reported,
+    a_full_device_is_reported_before_a_bad_line,
     a_straightening_that_prints_nothing_meets_no_full_device,
-    a_closed_pipe_is_told,
+    a_closed_pipe_is_reported,
     a_building_is_refused_before_the_list_is_opened,
     each_reply_is_seen_while_the_list_goes_on,
     a_list_is_straightened_at_its_end,

@@ -68,9 +68,9 @@ class Table:
         self.exception = exception
 
     def fault(self, cause, key, item):
-        told = key if self.exception is None or key == "?" else "exception"
+        reported = key if self.exception is None or key == "?" else "exception"
         prefix = "" if self.exception is None else f"exception[{self.exception}]."
-        raise Found(f"{cause} {self.section} {self.place} {told}", prefix + item)
+        raise Found(f"{cause} {self.section} {self.place} {reported}", prefix + item)
 
     def has_only(self, known):
         for key in sorted(self.table, key=str.encode):
@@ -496,7 +496,7 @@ def run(program, words, folder):
     return subprocess.run([program, "check", *words, "building.toml"], cwd=folder, capture_output=True, timeout=60)
 
 
-def lines_told(program, file):
+def lines_reported(program, file):
     """What `check` and `check --explain` of a file end with and print."""
     with tempfile.TemporaryDirectory() as folder:
         (pathlib.Path(folder) / "building.toml").write_bytes(file)
@@ -515,7 +515,7 @@ def as_found(wanted, file, line):
 
 def difference(program, wanted, file, explained):
     """What is printed other than what is wanted, or nothing."""
-    plain, ran = lines_told(program, file)
+    plain, ran = lines_reported(program, file)
     if wanted.startswith("ok"):
         expected = [0, plain.stdout, b""]
         return "" if [ran.returncode, ran.stdout, ran.stderr] == expected and plain.stdout else f"{ran}, wanted {expected}"
@@ -528,13 +528,13 @@ def difference(program, wanted, file, explained):
         return f"characters that are not printed: {lines[1]!r}"
     if explained is not None and not (lines[1] == explained or explained.endswith(": ") and lines[1].startswith(explained)):
         return f"{lines[1]!r}, wanted {explained!r}"
-    return (told := as_found(wanted, file, lines[1])) and f"{lines[1]!r}: {told}"
+    return (reported := as_found(wanted, file, lines[1])) and f"{lines[1]!r}: {reported}"
 
 
 def all_cases():
     """The fault's line or `ok`, the bytes of the file, the line that explains it where it is written here, and a name."""
-    for wanted, file, told in check_cases.all_cases():
-        yield wanted, file, None, told
+    for wanted, file, reported in check_cases.all_cases():
+        yield wanted, file, None, reported
     for wanted, explained, changes in EXPLAINED:
         yield wanted, changed(changes), explained, explained or wanted
     for explained, file in BYTES:
@@ -546,9 +546,9 @@ def main():
     cases = list(all_cases())
     with ThreadPoolExecutor() as pool:
         found = list(pool.map(lambda case: difference(program, *case[:3]), cases))
-    for (*_, told), each in zip(cases, found):
+    for (*_, reported), each in zip(cases, found):
         if each:
-            print(f"FAILED {told}: {each[:2000]}")
+            print(f"FAILED {reported}: {each[:2000]}")
     failed = sum(map(bool, found))
     print(f"{len(cases) - failed} passed, {failed} failed")
     sys.exit(bool(failed))

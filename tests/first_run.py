@@ -59,7 +59,7 @@ def copy_of_the_repository(to):
 
 # ---- the cases
 
-def a_missing_toolchain_is_told_in_one_line(program, room):
+def a_missing_toolchain_is_reported_in_one_line(program, room):
     copy = copy_of_the_repository(room / "copy")
     path = path_without_toolchain(room / "bin")
     for target in ("run", "desk", "test"):
@@ -69,7 +69,7 @@ def a_missing_toolchain_is_told_in_one_line(program, room):
         expect((ran.returncode, ran.stdout), (2, ""), f"make {target} without the toolchain")
 
 
-def a_missing_python_is_told_in_one_line(program, room):
+def a_missing_python_is_reported_in_one_line(program, room):
     copy = copy_of_the_repository(room / "copy")
     path = room / "bin"
     path_without_toolchain(path)
@@ -137,8 +137,8 @@ def an_interrupted_build_goes_on(program, room):
 
 
 CASES = (
-    a_missing_toolchain_is_told_in_one_line,
-    a_missing_python_is_told_in_one_line,
+    a_missing_toolchain_is_reported_in_one_line,
+    a_missing_python_is_reported_in_one_line,
     a_built_program_runs_at_once,
     an_interrupted_build_goes_on,
 )

@@ -1,4 +1,4 @@
-"""Holiday lists: those that are read, by the rows that stand in the database, and those at fault, by what is told.
+"""Holiday lists: those that are read, by the rows that stand in the database, and those at fault, by what is reported.
 
 Each test takes the path of the program and a folder of its own, and raises where it finds something else. What is
 wanted follows from docs/OPERATING.md.
@@ -59,7 +59,7 @@ READ = [
 ]
 
 
-def told_of(program, folder, listed):
+def reported_of(program, folder, listed):
     """The status and the texts of the import of a list into a database that is new."""
     (folder / "building.toml").write_text(BUILDING)
     (folder / "list.csv").write_bytes(listed)
@@ -70,9 +70,9 @@ def told_of(program, folder, listed):
     return ran.returncode, ran.stdout, ran.stderr
 
 
-def lists_at_fault_are_told(program, folder):
+def lists_at_fault_are_reported(program, folder):
     for listed, fault, record in FAULTS:
-        expect((listed[:90], told_of(program, folder, listed)), (listed[:90], (1, "", f"desk: {fault} record {record}\n")))
+        expect((listed[:90], reported_of(program, folder, listed)), (listed[:90], (1, "", f"desk: {fault} record {record}\n")))
         expect((listed[:90], (folder / "desk.db").exists()), (listed[:90], False))
 
 
@@ -80,8 +80,8 @@ def lists_are_read(program, folder):
     """The rows that the C library of SQLite finds are those of the list, each as it was written there."""
     for listed, rows in READ:
         records = len([record for record in listed.replace(b"\r", b"\n").split(b"\n") if record]) - 1
-        told = f'{{"added":{len(rows)},"answer":"import","known":{records - len(rows)},"writes":0}}\n'
-        expect((listed[:90], told_of(program, folder, listed)), (listed[:90], (0, told, "")))
+        reported = f'{{"added":{len(rows)},"answer":"import","known":{records - len(rows)},"writes":0}}\n'
+        expect((listed[:90], reported_of(program, folder, listed)), (listed[:90], (0, reported, "")))
         with contextlib.closing(sqlite3.connect(folder / "desk.db")) as connection:
             expect(connection.execute("SELECT * FROM imported ORDER BY 1, 2").fetchall(), sorted(rows))
 
@@ -127,7 +127,7 @@ def a_straightening_has_the_rows_that_lists_added(program, folder):
 
 
 TESTS = [
-    lists_at_fault_are_told,
+    lists_at_fault_are_reported,
     lists_are_read,
     a_replay_tells_the_same_of_lists,
     a_straightening_has_the_rows_that_lists_added,

@@ -1,4 +1,4 @@
-"""Hostile input: each of these is told by its fault, and changes nothing.
+"""Hostile input: each of these is refused with its fault, and changes nothing.
 
 Each test takes the path of the program and a folder of its own. What is wanted are the documented faults.
 """
@@ -40,10 +40,10 @@ BUILDINGS = [
 ]
 
 
-def each_building_is_told(program, folder):
-    for number, (content, printed, told) in enumerate(BUILDINGS):
+def each_building_is_reported(program, folder):
+    for number, (content, printed, reported) in enumerate(BUILDINGS):
         (folder / "building.toml").write_bytes(content)
-        expect((number, ended(program, folder, "check", "building.toml")), (number, (1 if told else 0, printed, told)))
+        expect((number, ended(program, folder, "check", "building.toml")), (number, (1 if reported else 0, printed, reported)))
 
 
 LISTS = [
@@ -58,25 +58,25 @@ LISTS = [
 ]
 
 
-def each_holiday_list_is_told(program, folder):
+def each_holiday_list_is_reported(program, folder):
     (folder / "building.toml").write_text(tables.WORKED)
     for number, (content, fault, record) in enumerate(LISTS):
         (folder / "holidays.csv").write_bytes(content)
-        told = ended(program, folder, "import", "building.toml", databases.NAME, "holidays.csv")
-        expect((number, told), (number, (1, b"", f"desk: {fault} record {record}\n".encode())))
+        reported = ended(program, folder, "import", "building.toml", databases.NAME, "holidays.csv")
+        expect((number, reported), (number, (1, b"", f"desk: {fault} record {record}\n".encode())))
         expect((number, databases.files_in(folder)), (number, []))
 
 
 # ---- requests
 
 def headed(count, size=None):
-    """A request whose head has so many fields, and where it is told so many bytes."""
+    """A request whose head has so many fields, and where it says so many bytes."""
     head = b"GET /points/NOPE HTTP/1.1\r\n" + b"A: b\r\n" * count
     return head + (b"B: " + b"c" * (size - len(head) - 7) + b"\r\n" if size else b"") + b"\r\n"
 
 
-def of_length(told):
-    return b"POST /panels/P1/commands HTTP/1.1\r\nContent-Length: " + told + b"\r\n\r\n" + COMMAND
+def of_length(reported):
+    return b"POST /panels/P1/commands HTTP/1.1\r\nContent-Length: " + reported + b"\r\n\r\n" + COMMAND
 
 
 def bodies():
@@ -97,16 +97,16 @@ REQUESTS = [
     (headed(65), refused("H1")),
     (headed(1, 8_192), NO_POINT),
     (headed(1, 8_193), refused("H1")),
-    *((of_length(told), refused("H2")) for told in (b"+57", b"57a", b"1000000000", b"-57", b"0x39", b"57,57", b"5 7", b"", b"57.0",
+    *((of_length(reported), refused("H2")) for reported in (b"+57", b"57a", b"1000000000", b"-57", b"0x39", b"57,57", b"5 7", b"", b"57.0",
                                                     b"18446744073709551616", b"\xd9\xa5\xd9\xa7")),
     (of_length(b"999999999"), refused("H4")),
     *((post("/panels/P1/commands", body), refused("H6")) for body in bodies()),
 ]
-# These are not: leading zeros count as digits, and the text is told with its length.
+# These are not: leading zeros count as digits, and the text is reported with its length.
 RIGHT = [(of_length(b"000000057"), b"HTTP/1.1 200 OK")]
 
 
-def each_request_is_told(program, folder):
+def each_request_is_reported(program, folder):
     (folder / "building.toml").write_text(tables.WORKED)
     with serving(program, folder, len(REQUESTS) + len(RIGHT)) as server:
         for request, wanted in REQUESTS:
@@ -119,4 +119,4 @@ def each_request_is_told(program, folder):
     expect(databases.held(folder)["panel"], [("P1", 2)])
 
 
-TESTS = (each_building_is_told, each_holiday_list_is_told, each_request_is_told)
+TESTS = (each_building_is_reported, each_holiday_list_is_reported, each_request_is_reported)

@@ -53,9 +53,9 @@ def replayed(program, folder, building, lines):
     return ran.stdout.splitlines()
 
 
-def building_at(rule, told):
+def building_at(rule, reported):
     """A building whose schedule says 1 at one hundredth of one day alone, and else 0."""
-    day, clock = told.split(" ")
+    day, clock = reported.split(" ")
     times = [f"{clock}=1"] + ([f"{clock_after(clock)}=0"] if clock_after(clock) else [])
     text = f'zone = "{rule}"\n' + POINT.format(name="SET") + SCHEDULE.format(name="SET") + "default = 0\n"
     return text + f'[[schedule.exception]]\npriority = 1\nentry = "{day}"\ntimes = {json.dumps(times)}\n'
@@ -68,12 +68,12 @@ def clock_after(clock):
     return clock_text(later) if later < HUNDREDTHS_A_DAY else ""
 
 
-def worked_moments_are_told(program, folder):
-    for rule, moment, told in WORKED:
-        building = building_at(rule, told or "2025-01-01 00:00:00.00")
+def worked_moments_are_reported(program, folder):
+    for rule, moment, reported in WORKED:
+        building = building_at(rule, reported or "2025-01-01 00:00:00.00")
         wanted = ['{"answer":"tick","writes":1}', "POINT SET                                        1 15"]
         none = ['{"answer":"bad_moment"}', "POINT SET                                       -1  0"]
-        expect((moment, replayed(program, folder, building, [{"tick": moment}])), (moment, wanted if told else none))
+        expect((moment, replayed(program, folder, building, [{"tick": moment}])), (moment, wanted if reported else none))
 
 
 # ---- each year
@@ -122,13 +122,13 @@ def sundays(year, month):
 
 def moments_of_the_years():
     """Seconds of each year about the Sundays on which a clock may be set, and at its ends, by rising number."""
-    told = set()
+    reported = set()
     for year in range(1970, 2155):
         for day in sundays(year, 3) + sundays(year, 10)[-2:] + sundays(year, 11)[:2]:
-            told |= {(day, hour) for hour in (1, 2, 6, 7)}
-        told |= {(datetime.date(year, 1, 1), hour) for hour in (0, 1, 5, 6)}
-        told |= {(datetime.date(year, 7, 15), 12), (datetime.date(year, 12, 31), 23)}
-    midnights = [((day - datetime.date(1970, 1, 1)).days * 86_400, hour) for day, hour in sorted(told)]
+            reported |= {(day, hour) for hour in (1, 2, 6, 7)}
+        reported |= {(datetime.date(year, 1, 1), hour) for hour in (0, 1, 5, 6)}
+        reported |= {(datetime.date(year, 7, 15), 12), (datetime.date(year, 12, 31), 23)}
+    midnights = [((day - datetime.date(1970, 1, 1)).days * 86_400, hour) for day, hour in sorted(reported)]
     return sorted({midnight + 3600 * hour + more for midnight, hour in midnights for more in (-1, 0, 1800)})
 
 
@@ -163,4 +163,4 @@ def each_year_has_its_nights(program, folder):
             expect((rule, line, json.loads(reply).get(key)), (rule, line, value))
 
 
-TESTS = [worked_moments_are_told, each_year_has_its_nights]
+TESTS = [worked_moments_are_reported, each_year_has_its_nights]

@@ -92,13 +92,13 @@ def can_refuse():
 def whole(ended, run):
     """Whether a run was answered whole. What is neither that nor a beginning and the want of memory is an error."""
     if isinstance(run, ByRequest) and ended.listened:
-        expect((ended.told, ended.status), (b"", 0))
+        expect((ended.reported, ended.status), (b"", 0))
         if ended.printed not in (run.answer, REFUSED, b""):
             raise AssertionError(f"the request got {ended.printed!r}, wanted {run.answer!r}")
         return ended.printed == run.answer
     if ended == Ended(run.answer, b"", 0):
         return True
-    if (ended.status, ended.told) != (3, NO_MEMORY) or not run.answer.startswith(ended.printed):
+    if (ended.status, ended.reported) != (3, NO_MEMORY) or not run.answer.startswith(ended.printed):
         raise AssertionError(f"{ended!r}, wanted {run.answer!r}")
     return False
 
@@ -150,16 +150,16 @@ def try_refused(trial, refusing):
     """Makes the delivery with requests refused, looks at the tables, and makes it again. Whether it missed memory."""
     run = trial.begin()
     ended = run.run(trial.program, trial.folder, refusing.environment)
-    is_whole, is_told = whole(ended, run), ended.printed == REFUSED
-    is_delivered = trial.left(answered=bool(ended.printed) and not is_told)
-    if is_told and is_delivered:
-        raise AssertionError("the want of memory was told of a delivery that was made")
+    is_whole, is_reported = whole(ended, run), ended.printed == REFUSED
+    is_delivered = trial.left(answered=bool(ended.printed) and not is_reported)
+    if is_reported and is_delivered:
+        raise AssertionError("the want of memory was reported of a delivery that was made")
     trial.again(is_delivered)
     return not is_whole
 
 
 def try_each(trial):
-    """Tries the requests of a run over a database, of which those that open it are told by one that asks for no point."""
+    """Tries the requests of a run over a database, of which those that open it are found by one that asks for no point."""
     trial.begin()
     opening = len(sizes_of(ByRequest(get("/points/NONE"), b""), trial.program, trial.folder))
     run = trial.begin()
@@ -236,16 +236,16 @@ def try_look(program, folder, run):
         try_each(Look(program, folder, EACH_KIND, run))
 
 
-def day_told():
+def day_reported():
     state = run_of(BUILDING, EACH_KIND)[1]
     return report_text(BUILDING, DAY, state.imported, state.places).encode()
 
 
 def a_report_prints_all_or_a_beginning(program, folder):
-    try_look(program, folder, ByWords(("report", "building.toml", databases.NAME, str(DAY)), day_told()))
+    try_look(program, folder, ByWords(("report", "building.toml", databases.NAME, str(DAY)), day_reported()))
 
 
-def tables_told():
+def tables_reported():
     tables = databases.tables_after(BUILDING, EACH_KIND)
     panels = {name for name, _ in tables["panel"]} | {row[0] for row in tables["command"]}
     points = {point for point, _, _ in tables["place"]}
@@ -254,14 +254,14 @@ def tables_told():
 
 
 def a_check_of_a_database_prints_all_or_a_beginning(program, folder):
-    try_look(program, folder, ByWords(("check", "building.toml", databases.NAME), tables_told()))
+    try_look(program, folder, ByWords(("check", "building.toml", databases.NAME), tables_reported()))
 
 
-def a_report_over_http_is_told_or_not(program, folder):
-    try_look(program, folder, ByRequest(get(f"/reports/{DAY}"), response(200, day_told(), "text/plain")))
+def a_report_over_http_is_reported_or_not(program, folder):
+    try_look(program, folder, ByRequest(get(f"/reports/{DAY}"), response(200, day_reported(), "text/plain")))
 
 
-def a_point_over_http_is_told_or_not(program, folder):
+def a_point_over_http_is_reported_or_not(program, folder):
     text = point_text(BUILDING, run_of(BUILDING, EACH_KIND)[1].places, BUILDING.points[0])
     try_look(program, folder, ByRequest(get("/points/R101-SET"), response(200, text.encode())))
 
@@ -282,6 +282,6 @@ TESTS = (
     an_import_over_http_is_made_or_not,
     a_report_prints_all_or_a_beginning,
     a_check_of_a_database_prints_all_or_a_beginning,
-    a_report_over_http_is_told_or_not,
-    a_point_over_http_is_told_or_not,
+    a_report_over_http_is_reported_or_not,
+    a_point_over_http_is_reported_or_not,
 )

@@ -4,7 +4,7 @@ of a day, a straightening, and a run of a list and a point over both stores, and
 `refused_calls/main.rattle` makes one again and again. It is compiled once in a copy of the repository, by the kit's `rt try
 --fail-alloc`, which refuses one request of a number; with one more request before the calls it is the one before of a call.
 Every answer is the unrefused one or the want of memory, what a store holds is what it held before what was not answered,
-and the calls after it answer. What is wanted is told by the plain slow program, or was worked by hand.
+and the calls after it answer. What is wanted comes from the plain slow program, or was worked by hand.
 
 Usage: memory_each_call.py [--sweep]
 
@@ -58,7 +58,7 @@ def write_cases(folder, is_sweep):
             (folder / f"{name}.args").write_text(f"{call}\n{earlier}\n")
 
 
-def told_by(crate, cases):
+def reported_by(crate, cases):
     """What each case printed."""
     words = ["rt", "try", "--fail-alloc", str(REFUSED), "--cases", str(cases)]
     ran = subprocess.run(words, cwd=crate, capture_output=True, text=True)
@@ -108,22 +108,22 @@ def judged(call, text):
     if usual == wanted and rest in ([], ["between"]):
         return "no call missed it"
     if usual == wanted and rest[0] == "once" and is_missed(call, rest[1:]):
-        return "the want of memory was told"
+        return "the want of memory was reported"
     if usual == wanted and rest == ["not met"] and call in WITHOUT:
         return "it needs no memory"
     raise AssertionError(f"{lines!r}, wanted {wanted!r}")
 
 
-def try_call(call, told):
+def try_call(call, reported):
     """Tries what a call printed with each request refused in turn."""
     ends = {}
-    for name in sorted(name for name in told if name.startswith(f"{call}+")):
+    for name in sorted(name for name in reported if name.startswith(f"{call}+")):
         try:
-            end = judged(call, told[name])
+            end = judged(call, reported[name])
         except AssertionError as error:
             raise AssertionError(f"{name}: {error}") from error
         ends[end] = ends.get(end, 0) + 1
-    if "the want of memory was told" not in ends and call not in WITHOUT:
+    if "the want of memory was reported" not in ends and call not in WITHOUT:
         raise AssertionError(f"{call}: {ends}")
     return ", ".join(f"{end} {count} times" for end, count in sorted(ends.items()))
 
@@ -134,10 +134,10 @@ def main(words):
         folder = pathlib.Path(room)
         write_cases(folder / "cases", "--sweep" in words)
         print("compiling the calls that are refused memory, some two minutes", flush=True)
-        told = told_by(copy_of_the_crates(folder / "copy"), folder / "cases")
+        reported = reported_by(copy_of_the_crates(folder / "copy"), folder / "cases")
     for call in REQUESTS:
         try:
-            print(f"ok {call}: {try_call(call, told)}")
+            print(f"ok {call}: {try_call(call, reported)}")
         except AssertionError as error:
             failed += 1
             print(f"FAILED {str(error)[:3000]}")

@@ -108,15 +108,15 @@ def reported(program, folder, building, wanted):
 def day_text(day, schedules):
     """A report's text: a day, and the name, the state and the segments of each schedule."""
     lines = [f"DAY {day} {WEEKDAYS[datetime.date.fromisoformat(day).weekday()]}"]
-    for name, state, told in schedules:
-        lines += [f"SCHEDULE {name} {state}"] + [segment_line(time, value) for time, value in told]
+    for name, state, reported in schedules:
+        lines += [f"SCHEDULE {name} {state}"] + [segment_line(time, value) for time, value in reported]
     return "\n".join(lines) + "\nPOINT SET                                        0  0\n"
 
 
 def worked_schedules_have_their_segments(program, folder):
     schedules = [schedule(name, [week] * 7, cases, default) for name, (week, cases, default, _) in WORKED.items()]
     building = building_of(schedules, [Calendar("HOLIDAYS", (DAY,))])
-    text = day_text(DAY, [(name, "active", told) for name, (_, _, _, told) in WORKED.items()])
+    text = day_text(DAY, [(name, "active", reported) for name, (_, _, _, reported) in WORKED.items()])
     reported(program, folder, building, {DAY: text})
 
 
@@ -180,7 +180,7 @@ def the_plain_program_knows_worked_days(program, folder):
         expect((entry, held), (entry, list(range(first, last + 1))))
 
 
-def a_day_that_there_is_none_of_is_told(program, folder):
+def a_day_that_there_is_none_of_is_reported(program, folder):
     (folder / "building.toml").write_text(tables.WORKED)
     with serving(program, folder, len(NO_DAYS)) as server:
         for day in NO_DAYS:
@@ -195,5 +195,5 @@ TESTS = [
     a_schedule_is_active_in_its_period,
     the_plain_program_knows_worked_days,
     each_entry_holds_on_its_days,
-    a_day_that_there_is_none_of_is_told,
+    a_day_that_there_is_none_of_is_reported,
 ]

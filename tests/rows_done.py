@@ -20,7 +20,7 @@ NIGHT = tables.WORKED + '[[schedule]]\nname = "R101-NIGHT"\npriority = 15\ntarge
 
 # ---- deliveries and replies, as lines
 
-def told(number, point, value, priority=8, panel="P1"):
+def reported(number, point, value, priority=8, panel="P1"):
     line = {"number": number, "panel": panel, "point": point, "priority": priority, "value": value}
     return json.dumps({key: each for key, each in line.items() if each is not None or key == "value"})
 
@@ -76,45 +76,45 @@ def no_import(fault, record):
 OLD, BAD_MOMENT = '{"answer":"old","writes":0}', '{"answer":"bad_moment"}'
 BAD_NUMBER, NO_PANEL = '{"answer":"bad_number"}', '{"answer":"no_panel"}'
 SET, LIGHT = "R101-SET", "LIGHT"
-FIRST = [(told(1, SET, 2150), done(1, 2150, 8))]
+FIRST = [(reported(1, SET, 2150), done(1, 2150, 8))]
 MORNING = [(tick(174884399999), ticked(1)), (tick(174884400000), ticked(1)), (tick(174884400000), OLD)]
-FREED = [(told(2, SET, 2000), parked(2)), (told(4, LIGHT, 1, 10), parked(4)), (skip(4), skipped_to(5)),
-         (told(3, LIGHT, 1), numbered("skipped", 3)), (skip(4), skipped_to(5))]
-WAITING = [(told(number, LIGHT, 1), parked(number)) for number in range(2, 65)]
-THOUSAND = [(told(number, LIGHT, 1), done(number, 1, 8)) for number in range(1, 1001)]
+FREED = [(reported(2, SET, 2000), parked(2)), (reported(4, LIGHT, 1, 10), parked(4)), (skip(4), skipped_to(5)),
+         (reported(3, LIGHT, 1), numbered("skipped", 3)), (skip(4), skipped_to(5))]
+WAITING = [(reported(number, LIGHT, 1), parked(number)) for number in range(2, 65)]
+THOUSAND = [(reported(number, LIGHT, 1), done(number, 1, 8)) for number in range(1, 1001)]
 
 # What it shows; the building; the deliveries, each with its reply; and what each point has then, with its priority.
 ROWS = {
     "no deliveries": (tables.WORKED, [], (1800, 0), (0, 0)),
     "a command": (tables.WORKED, FIRST, (2150, 8), (0, 0)),
     "the six answers of commands in order": (tables.WORKED, FIRST + [
-        (told(2, SET, None), done(2, 1800, 0)),
-        (told(3, LIGHT, 1, 6), against(3, "X4")),
-        (told(3, LIGHT, 1, 6), against(3, "X4")),
-        (told(3, LIGHT, 1), numbered("differs", 3)),
-        (told(4, LIGHT, 1, None), against(4, "X5")),
-        (told(4, LIGHT, 1, 16), against(4, "X5")),
-        (told(5, SET, 2000, 10), done(5, 2000, 10)),
-        (told(1, SET, 2300, 9, "P2"), done(1, 2300, 9)),
-        (told(5, SET, 2000, 10), done(5, 2000, 10)),
+        (reported(2, SET, None), done(2, 1800, 0)),
+        (reported(3, LIGHT, 1, 6), against(3, "X4")),
+        (reported(3, LIGHT, 1, 6), against(3, "X4")),
+        (reported(3, LIGHT, 1), numbered("differs", 3)),
+        (reported(4, LIGHT, 1, None), against(4, "X5")),
+        (reported(4, LIGHT, 1, 16), against(4, "X5")),
+        (reported(5, SET, 2000, 10), done(5, 2000, 10)),
+        (reported(1, SET, 2300, 9, "P2"), done(1, 2300, 9)),
+        (reported(5, SET, 2000, 10), done(5, 2000, 10)),
     ], (2300, 9), (0, 0)),
     "commands that wait, and the one that they wait for": (tables.WORKED, [
-        (told(3, SET, 2200), parked(3)), (told(2, SET, 2100), parked(2)), (told(2, SET, 2100), parked(2)),
-        (told(1, SET, 2000), done(1, 2000, 8)), (told(2, SET, 2100), done(2, 2100, 8)),
+        (reported(3, SET, 2200), parked(3)), (reported(2, SET, 2100), parked(2)), (reported(2, SET, 2100), parked(2)),
+        (reported(1, SET, 2000), done(1, 2000, 8)), (reported(2, SET, 2100), done(2, 2100, 8)),
     ], (2200, 8), (0, 0)),
-    "the end of the window": (tables.WORKED, [(told(64, LIGHT, 1), parked(64)), (told(65, LIGHT, 1), too_far(65))], (1800, 0), (0, 0)),
+    "the end of the window": (tables.WORKED, [(reported(64, LIGHT, 1), parked(64)), (reported(65, LIGHT, 1), too_far(65))], (1800, 0), (0, 0)),
     "a skip frees what waits": (tables.WORKED, FREED, (2000, 8), (1, 10)),
     "what waits keeps its content": (tables.WORKED, [
-        (told(2, SET, 2000), parked(2)), (told(2, SET, 2400), numbered("differs", 2)), (told(1, LIGHT, 1), done(1, 1, 8)),
+        (reported(2, SET, 2000), parked(2)), (reported(2, SET, 2400), numbered("differs", 2)), (reported(1, LIGHT, 1), done(1, 1, 8)),
     ], (2000, 8), (1, 8)),
     "what waits keeps its content over a skip": (tables.WORKED, [
-        (told(2, SET, 2000), parked(2)), (told(2, SET, 2400), numbered("differs", 2)), (skip(2), skipped_to(3)),
+        (reported(2, SET, 2000), parked(2)), (reported(2, SET, 2400), numbered("differs", 2)), (skip(2), skipped_to(3)),
     ], (2000, 8), (0, 0)),
     "each rule": (tables.WORKED, FIRST + [
-        (told(3, LIGHT, 1), parked(3, 2)), (told(1, LIGHT, 1, 8, "P9"), NO_PANEL), (told(0, LIGHT, 1), BAD_NUMBER),
-        (told(2, SET, 3501), against(2, "X6")), (told(1, LIGHT, 1, 9, "P2"), against(1, "X2")),
+        (reported(3, LIGHT, 1), parked(3, 2)), (reported(1, LIGHT, 1, 8, "P9"), NO_PANEL), (reported(0, LIGHT, 1), BAD_NUMBER),
+        (reported(2, SET, 3501), against(2, "X6")), (reported(1, LIGHT, 1, 9, "P2"), against(1, "X2")),
     ], (2150, 8), (1, 8)),
-    "numbers out of range": (tables.WORKED, [(told(0, LIGHT, 1), BAD_NUMBER), (told(1_000_000_000_001, LIGHT, 1), BAD_NUMBER)], (1800, 0), (0, 0)),
+    "numbers out of range": (tables.WORKED, [(reported(0, LIGHT, 1), BAD_NUMBER), (reported(1_000_000_000_001, LIGHT, 1), BAD_NUMBER)], (1800, 0), (0, 0)),
     "63 that wait are acted on by one skip": (tables.WORKED, WAITING + [(skip(66), too_far(66)), (skip(65), skipped_to(65))], (1800, 0), (1, 8)),
     "ticks": (tables.WORKED, MORNING, (2100, 15), (0, 0)),
     "the hour that comes twice": (tables.WORKED, [(tick(at), ticked(1)) for at in (176143860000, 176143980000, 176144220000)], (1600, 15), (0, 0)),
@@ -127,12 +127,12 @@ ROWS = {
         (holidays("HOLIDAYS,2025-06-02"), imported(0, 1, 0)), (tick(174890160000), ticked(1)),
     ], (1600, 15), (0, 0)),
     "a schedule that says the same": (tables.WORKED, MORNING + [
-        (told(1, SET, 2000, 15, "P2"), done(1, 2000, 15)), (tick(174884400100), ticked(0)),
+        (reported(1, SET, 2000, 15, "P2"), done(1, 2000, 15)), (tick(174884400100), ticked(0)),
     ], (2000, 15), (0, 0)),
     "a period's end": (PERIOD, [(tick(175126320000), ticked(1)), (tick(175132080000), ticked(0))], (2100, 15), (0, 0)),
     "a release on leaving": (RELEASED, [(tick(175126320000), ticked(1)), (tick(175132080000), ticked(1)), (tick(175132080100), ticked(0))], (1800, 0), (0, 0)),
     "a release of what a panel wrote": (RELEASED, [
-        (tick(175126320000), ticked(1)), (told(1, SET, 2000, 15, "P2"), done(1, 2000, 15)), (tick(175132080000), ticked(1)),
+        (tick(175126320000), ticked(1)), (reported(1, SET, 2000, 15, "P2"), done(1, 2000, 15)), (tick(175132080000), ticked(1)),
     ], (1800, 0), (0, 0)),
     "no release of what was never shown": (RELEASED, [(tick(175132080000), ticked(0))], (1800, 0), (0, 0)),
     "two schedules of one place": (NIGHT, [(tick(174884399999), ticked(2))], (1700, 15), (0, 0)),
@@ -144,11 +144,11 @@ ROWS = {
         (holidays("HOLIDAYS,2025-06-09,x"), no_import("I1", 2)),
     ], (1800, 0), (0, 0)),
     "answers are kept for 1,000 numbers": (tables.WORKED, THOUSAND + [
-        (told(1, LIGHT, 1), done(1, 1, 8)), (told(1001, LIGHT, 1), done(1001, 1, 8)), (told(1, LIGHT, 1), numbered("forgotten", 1)),
-        (told(1, LIGHT, 0), numbered("forgotten", 1)), (told(2, LIGHT, 1), done(2, 1, 8)), (told(2, LIGHT, 0), numbered("differs", 2)),
+        (reported(1, LIGHT, 1), done(1, 1, 8)), (reported(1001, LIGHT, 1), done(1001, 1, 8)), (reported(1, LIGHT, 1), numbered("forgotten", 1)),
+        (reported(1, LIGHT, 0), numbered("forgotten", 1)), (reported(2, LIGHT, 1), done(2, 1, 8)), (reported(2, LIGHT, 0), numbered("differs", 2)),
     ], (1800, 0), (1, 8)),
     "a number that was given up is forgotten too": (tables.WORKED, [
-        (skip(2), skipped_to(2)), *THOUSAND[1:], (told(1001, LIGHT, 1), done(1001, 1, 8)), (told(1, LIGHT, 1), numbered("forgotten", 1)),
+        (skip(2), skipped_to(2)), *THOUSAND[1:], (reported(1001, LIGHT, 1), done(1001, 1, 8)), (reported(1, LIGHT, 1), numbered("forgotten", 1)),
     ], (1800, 0), (1, 8)),
 }
 
@@ -171,8 +171,8 @@ def each_row_in_memory(program, folder):
 
 
 def present_of(server, name):
-    told_of = json.loads(server.ask(get(f"/points/{name}")).partition(b"\r\n\r\n")[2])
-    return told_of["present"], told_of["priority"]
+    reported_of = json.loads(server.ask(get(f"/points/{name}")).partition(b"\r\n\r\n")[2])
+    return reported_of["present"], reported_of["priority"]
 
 
 def each_row_in_a_database(program, folder):
@@ -192,10 +192,10 @@ def each_row_in_a_database(program, folder):
 
 STRAIGHT = {
     "what waits for one": ([line for line, _ in ROWS["commands that wait, and the one that they wait for"][1]],
-                           [told(1, SET, 2000), told(2, SET, 2100), told(3, SET, 2200)]),
-    "what still waits": ([told(64, LIGHT, 1), told(65, LIGHT, 1)], [told(64, LIGHT, 1)]),
-    "what a skip frees": ([line for line, _ in FREED], [skip(2), told(2, SET, 2000), skip(4), told(4, LIGHT, 1, 10)]),
-    "the content that was accepted": ([told(2, SET, 2000), told(2, SET, 2400), told(1, LIGHT, 1)], [told(1, LIGHT, 1), told(2, SET, 2000)]),
+                           [reported(1, SET, 2000), reported(2, SET, 2100), reported(3, SET, 2200)]),
+    "what still waits": ([reported(64, LIGHT, 1), reported(65, LIGHT, 1)], [reported(64, LIGHT, 1)]),
+    "what a skip frees": ([line for line, _ in FREED], [skip(2), reported(2, SET, 2000), skip(4), reported(4, LIGHT, 1, 10)]),
+    "the content that was accepted": ([reported(2, SET, 2000), reported(2, SET, 2400), reported(1, LIGHT, 1)], [reported(1, LIGHT, 1), reported(2, SET, 2000)]),
     "ticks and imports that did something": ([line for line, _ in MORNING + ROWS["imports"][1][3:5]],
                                              [tick(174884399999), tick(174884400000), holidays("HOLIDAYS,2025-06-02")]),
     "nothing": ([], []),
@@ -235,7 +235,7 @@ NO_ENTRIES = {
 }
 
 
-def each_building_is_told(program, folder):
+def each_building_is_reported(program, folder):
     (folder / "building.toml").write_text(tables.WORKED)
     wanted = (0, "ok: 2 points, 2 panels, 1 calendars, 1 schedules\n", "")
     expect(ran(program, folder, "check", "building.toml"), wanted)
@@ -308,5 +308,5 @@ def a_day_is_reported(program, folder):
         server.end()
 
 
-TESTS = (each_row_in_memory, each_row_in_a_database, each_list_is_straightened, each_building_is_told, each_day_and_segment,
+TESTS = (each_row_in_memory, each_row_in_a_database, each_list_is_straightened, each_building_is_reported, each_day_and_segment,
          a_day_is_reported)

@@ -14,10 +14,10 @@ from slow_desk import Import, Tick, run_of
 
 @dataclass(frozen=True)
 class Ended:
-    """What a run printed, or its request got; what it told on the standard error; and its status."""
+    """What a run printed, or its request got; what it printed on the standard error; and its status."""
 
     printed: bytes
-    told: bytes
+    reported: bytes
     status: int
     listened: bool = True
 
@@ -50,10 +50,10 @@ class ByRequest:
             try:
                 listened = ran.stdout.readline() == f"listening 127.0.0.1:{port}\n".encode()
                 printed = asked(port, self.request) if listened else b""
-                _, told = ran.communicate(timeout=SECONDS)
+                _, reported = ran.communicate(timeout=SECONDS)
             finally:
                 ran.kill()
-        return Ended(printed, told, ran.returncode, listened)
+        return Ended(printed, reported, ran.returncode, listened)
 
 
 def asked(port, request):

@@ -32,8 +32,8 @@ def request_of(members):
         return post("/imports", members["import"].encode())
     if "skip" in members:
         return post(f"/panels/{members['panel']}/skip", json.dumps({"upto": members["skip"]}).encode())
-    told = {key: value for key, value in members.items() if key != "panel"}
-    return post(f"/panels/{members['panel']}/commands", json.dumps(told).encode())
+    reported = {key: value for key, value in members.items() if key != "panel"}
+    return post(f"/panels/{members['panel']}/commands", json.dumps(reported).encode())
 
 
 def members_of(delivery):
@@ -56,24 +56,24 @@ def deliver(server, asked):
 # ---- the lists of the cases
 
 def worked_lists():
-    """The name, the building, the deliveries and the replies of each case of a replay, and what is told of its points."""
+    """The name, the building, the deliveries and the replies of each case of a replay, and what is reported of its points."""
     for case in sorted(CASES.iterdir()):
         if (case / "deliveries.jsonl").exists() and not ((case / "status").exists() or (case / "words").exists()):
             lines = [line for line in (case / "deliveries.jsonl").read_bytes().splitlines() if line]
-            told = (case / "stdout").read_text().splitlines()
+            reported = (case / "stdout").read_text().splitlines()
             building = (case / "building.toml").read_text() if (case / "building.toml").exists() else tables.WORKED
-            expect((case.name, [line[:5] for line in told[len(lines):]]), (case.name, ["POINT"] * (len(told) - len(lines))))
-            asked = [(request_of(json.loads(line)), reply) for line, reply in zip(lines, told)]
-            yield case.name, building, asked, told[len(lines):]
+            expect((case.name, [line[:5] for line in reported[len(lines):]]), (case.name, ["POINT"] * (len(reported) - len(lines))))
+            asked = [(request_of(json.loads(line)), reply) for line, reply in zip(lines, reported)]
+            yield case.name, building, asked, reported[len(lines):]
 
 
 def points_agree(server, lines):
     """Each point has the present value and the priority that its line tells, and they are those of its highest place."""
     for line in lines:
         _, name, value, priority = line.split()
-        told = json.loads(server.ask(get(f"/points/{name}")).partition(b"\r\n\r\n")[2])
-        expect((told["answer"], told["point"], told["present"], told["priority"]), ("point", name, int(value), int(priority)))
-        held = [(place, each) for place, each in enumerate(told["places"], 1) if each is not None]
+        reported = json.loads(server.ask(get(f"/points/{name}")).partition(b"\r\n\r\n")[2])
+        expect((reported["answer"], reported["point"], reported["present"], reported["priority"]), ("point", name, int(value), int(priority)))
+        held = [(place, each) for place, each in enumerate(reported["places"], 1) if each is not None]
         expect((name, held[:1]), (name, [(int(priority), int(value))] if priority != "0" else []))
 
 

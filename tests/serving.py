@@ -76,9 +76,9 @@ class Server:
                 connection.shutdown(socket.SHUT_WR)
             return read_all(connection)
 
-    def end(self, status=0, told=b""):
+    def end(self, status=0, reported=b""):
         out, err = self.ran.communicate(timeout=SECONDS)
-        expect((self.ran.returncode, out, err), (status, b"", told))
+        expect((self.ran.returncode, out, err), (status, b"", reported))
 
     def stop(self):
         self.ran.kill()

@@ -2,7 +2,7 @@
 that can't be written, a hard link, a journal of SQLite's, and large pages. Each run ends as docs/OPERATING.md says, and
 nothing is lost.
 
-Each test takes the path of the program and a folder of its own. What the machine can't make is told in a line.
+Each test takes the path of the program and a folder of its own. What the machine can't make is reported in a line.
 Usage, by the test of a full disk itself, where it has mounts of its own: sizes.py PROGRAM FOLDER
 """
 import contextlib
@@ -70,7 +70,7 @@ def with_own_mounts():
     return words if made.returncode == 0 else None
 
 
-def a_full_disk_is_told_and_loses_nothing(program, folder):
+def a_full_disk_is_reported_and_loses_nothing(program, folder):
     """With ever more room on a small file system in memory, up to what a delivery wants."""
     words = with_own_mounts()
     if words is None:
@@ -121,7 +121,7 @@ def on_a_small_disk(program, folder):
 # ---- files that can't be had
 
 
-def a_file_system_without_locks_is_told(program, folder):
+def a_file_system_without_locks_is_reported(program, folder):
     """The lock of a file fails with the errors that file systems without locks give."""
     if not shims.library("disk_trouble"):
         print("  cc is not installed, so a file system without locks was not tried")
@@ -135,7 +135,7 @@ def a_file_system_without_locks_is_told(program, folder):
     trial.again(False)
 
 
-def a_hard_link_is_told(program, folder):
+def a_hard_link_is_reported(program, folder):
     trial = begun(program, folder)
     os.link(folder / databases.NAME, folder / "other")
     each_refuses(trial)
@@ -143,7 +143,7 @@ def a_hard_link_is_told(program, folder):
     trial.again(False)
 
 
-def a_journal_that_is_to_be_played_back_is_told(program, folder):
+def a_journal_that_is_to_be_played_back_is_reported(program, folder):
     """What SQLite's own library left in the midst of a transaction, which it alone can play back."""
     trial = begun(program, folder)
     journal = folder / f"{databases.NAME}-journal"
@@ -188,7 +188,7 @@ def refused_to(bound, trial):
     expect(databases.held(trial.folder), trial.before)
 
 
-def a_file_that_cannot_be_written_is_told(program, folder):
+def a_file_that_cannot_be_written_is_reported(program, folder):
     trial = begun(program, folder)
     bound, log = Bound(program, folder), folder / f"{databases.NAME}-wal"
     log.touch()
@@ -200,7 +200,7 @@ def a_file_that_cannot_be_written_is_told(program, folder):
     expect(databases.held(folder), trial.after)
 
 
-def a_folder_that_cannot_be_written_is_told(program, folder):
+def a_folder_that_cannot_be_written_is_reported(program, folder):
     """No log can be made in it, and no database."""
     trial = begun(program, folder)
     bound = Bound(program, folder)
@@ -254,12 +254,12 @@ def largest_pages_fit_the_unit(program, folder):
 
 
 TESTS = (
-    a_full_disk_is_told_and_loses_nothing,
-    a_file_system_without_locks_is_told,
-    a_hard_link_is_told,
-    a_journal_that_is_to_be_played_back_is_told,
-    a_file_that_cannot_be_written_is_told,
-    a_folder_that_cannot_be_written_is_told,
+    a_full_disk_is_reported_and_loses_nothing,
+    a_file_system_without_locks_is_reported,
+    a_hard_link_is_reported,
+    a_journal_that_is_to_be_played_back_is_reported,
+    a_file_that_cannot_be_written_is_reported,
+    a_folder_that_cannot_be_written_is_reported,
     largest_pages_fit_the_unit,
 )
 

@@ -149,15 +149,15 @@ def events_along(building, deliveries):
     """What each delivery of a list has acted on: commands in number order, a tick, or an import."""
     panels = {panel_of(delivery) for delivery in deliveries} - {None}
     along = {panel: taken_along(building, deliveries, panel) for panel in panels}
-    told = []
+    reported = []
     for index, delivery in enumerate(deliveries):
         panel = panel_of(delivery)
         if panel is None:
-            told.append(clock_events(building, deliveries[:index], delivery))
+            reported.append(clock_events(building, deliveries[:index], delivery))
             continue
         old, new = along[panel][index : index + 2]
-        told.append([] if new is old else [Command(panel, *entry) for entry in applied(old, new)])
-    return along, told
+        reported.append([] if new is old else [Command(panel, *entry) for entry in applied(old, new)])
+    return along, reported
 
 
 def rule(building, panel, content):
@@ -241,7 +241,7 @@ def import_rows(building, state, rows):
 
 
 def act(building, state, event):
-    """Acts on one event, and answers what a tick or an import is told."""
+    """Acts on one event, and answers a tick or an import."""
     if isinstance(event, Command):
         state.answers[event.panel, event.number] = command(building, state, event)
         return None
@@ -254,12 +254,12 @@ def act(building, state, event):
 
 
 def machine(building, events):
-    """The machine after the events of a list of deliveries, and what each delivery's last event is told."""
-    state, told = Machine(), []
+    """The machine after the events of a list of deliveries, and the reply to each delivery's last event."""
+    state, reported = Machine(), []
     for each in events:
         answers = [act(building, state, event) for event in each]
-        told.append(answers[-1] if answers else None)
-    return state, told
+        reported.append(answers[-1] if answers else None)
+    return state, reported
 
 
 # ---- what is replied and printed
@@ -279,10 +279,10 @@ def reply_to_skip(old, new, upto):
     return f'{{"answer":"skip","next":{new.front()}}}'
 
 
-def reply_to_clock(building, delivery, told):
-    """The reply to a tick or an import, where its event is told this, or it has none."""
-    if told is not None:
-        return told
+def reply_to_clock(building, delivery, reported):
+    """The reply to a tick or an import, where its event has this one, or it has none."""
+    if reported is not None:
+        return reported
     if isinstance(delivery, Import):
         return f'{{"answer":"import_refused","fault":"I3","record":{unknown_row(building, delivery)}}}'
     return '{"answer":"bad_moment"}' if local_time(building.zone, delivery.at) is None else '{"answer":"old","writes":0}'
@@ -318,12 +318,12 @@ def point_line(building, places, point):
 
 
 def run_of(building, deliveries):
-    """The reply to each delivery, and the machine after the last one. An answer is told once and stays, so those of
+    """The reply to each delivery, and the machine after the last one. An answer is given once and stays, so those of
     the whole list serve."""
     along, events = events_along(building, deliveries)
-    state, told = machine(building, events)
+    state, reported = machine(building, events)
     replies = [
-        reply_to_clock(building, delivery, told[index])
+        reply_to_clock(building, delivery, reported[index])
         if panel_of(delivery) is None
         else reply(building, *along[delivery.panel][index : index + 2], delivery, state.answers)
         for index, delivery in enumerate(deliveries)
@@ -349,9 +349,9 @@ def given_up(old, new):
 
 def straightened_by_panel(panel, old, new):
     """What a command or a skip of a panel tells: by rising number, a skip before the command of its number."""
-    told = [(upto, 0, Skip(panel, upto)) for upto in given_up(old, new)]
-    told += [(number, 1, Command(panel, number, content)) for number, content in applied(old, new)]
-    return [each for _, _, each in sorted(told, key=lambda entry: entry[:2])]
+    reported = [(upto, 0, Skip(panel, upto)) for upto in given_up(old, new)]
+    reported += [(number, 1, Command(panel, number, content)) for number, content in applied(old, new)]
+    return [each for _, _, each in sorted(reported, key=lambda entry: entry[:2])]
 
 
 def added_rows(building, earlier, rows):
@@ -369,18 +369,18 @@ def parked(panel, taken):
 def straight_list(building, deliveries):
     """What each delivery tells of the straight list, joined; and its last group, the commands that are still parked."""
     along, events = events_along(building, deliveries)
-    told, earlier = [], []
+    reported, earlier = [], []
     for index, (delivery, acted) in enumerate(zip(deliveries, events)):
         panel = panel_of(delivery)
         if panel is not None:
-            told += straightened_by_panel(panel, *along[panel][index : index + 2])
+            reported += straightened_by_panel(panel, *along[panel][index : index + 2])
         elif isinstance(delivery, Tick):
-            told += acted
+            reported += acted
         else:
-            told += [Import(rows) for rows in (added_rows(building, earlier, event.rows) for event in acted) if rows]
+            reported += [Import(rows) for rows in (added_rows(building, earlier, event.rows) for event in acted) if rows]
         earlier += acted
     waiting = [parked(panel.name, along[panel.name][-1]) for panel in building.panels if panel.name in along]
-    return told, sum(waiting, [])
+    return reported, sum(waiting, [])
 
 
 def delivery_line(delivery):
@@ -400,15 +400,15 @@ def delivery_line(delivery):
 
 def straightened(building, deliveries):
     """What a straightening of the list prints."""
-    told, waiting = straight_list(building, deliveries)
-    return "".join(delivery_line(each) + "\n" for each in told + waiting)
+    reported, waiting = straight_list(building, deliveries)
+    return "".join(delivery_line(each) + "\n" for each in reported + waiting)
 
 
-# ---- what is told of a point and of a day
+# ---- what a point and a day have
 
 
 def point_text(building, places, point):
-    """What is told of a point: its places, and its present value."""
+    """What a point has: its places, and its present value."""
     value, priority = present(building, places, point.name)
     values = [places.get((point.name, place)) for place in range(1, LOWEST_PRIORITY + 1)]
     texts = ",".join("null" if each is None else str(each) for each in values)

@@ -45,7 +45,7 @@ def in_range(text, day):
 
 
 def holds(entry, day):
-    """Whether the day is one of the entry's, which is told by its text."""
+    """Whether the day is one of the entry's, which its text says."""
     if entry.startswith("wnd:"):
         _, month, week, weekday = entry.split(":")
         return in_months(month, day.month) and in_weeks(week, day) and in_weekday(weekday, day)
@@ -133,12 +133,12 @@ def segments(schedule, calendars, day):
     The moments are looked for at each quarter of an hour: at other ones no list here has a time.
     """
     exceptions = in_effect_on(schedule, calendars, day)
-    told = [(0, value_among(schedule, exceptions, day, 0))]
+    reported = [(0, value_among(schedule, exceptions, day, 0))]
     for time in range(QUARTER, HUNDREDTHS_A_DAY, QUARTER):
         earlier, value = (value_among(schedule, exceptions, day, now) for now in (time - 1, time))
         if value != earlier:
-            told.append((time, value))
-    return told
+            reported.append((time, value))
+    return reported
 
 
 # ---- local time

@@ -40,10 +40,10 @@ FAULTS = ({"error": Error.ENOSPC}, {"error": Error.ENOSPC, "goes_on": True, "hal
 
 
 def expect_stopped(ended, run, met):
-    """A run that was stopped printed nothing, or a beginning of the answer, and told nothing."""
+    """A run that was stopped printed nothing, or a beginning of the answer, and no fault."""
     if not met:
         expect(ended, Ended(run.answer, b"", 0))
-    elif (ended.status, ended.told) != (-signal.SIGKILL, b"") or not run.answer.startswith(ended.printed):
+    elif (ended.status, ended.reported) != (-signal.SIGKILL, b"") or not run.answer.startswith(ended.printed):
         raise AssertionError(f"{ended!r}, wanted a beginning of {run.answer!r} and the stop")
 
 
@@ -52,8 +52,8 @@ def expect_failed(ended, run, met):
     it answered whole and then could not close the database, it tells that by its fault too."""
     if ended == Ended(run.answer, b"", 0):
         return
-    told = Ended(b"", FAULT, 3, listened=isinstance(run, ByWords))
-    if not met or ended not in (told, Ended(FAILED, b"", 3), Ended(run.answer, FAULT, 3)):
+    reported = Ended(b"", FAULT, 3, listened=isinstance(run, ByWords))
+    if not met or ended not in (reported, Ended(FAILED, b"", 3), Ended(run.answer, FAULT, 3)):
         raise AssertionError(f"{ended!r}, wanted {run.answer!r} or the fault")
 
 

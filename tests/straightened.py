@@ -191,13 +191,13 @@ def disagreement(program, seed, index):
 
 
 def compare_lists(program, seed, lists=LISTS):
-    """How many lists agreed, and what was told of those that did not."""
+    """How many lists agreed, and what was reported of those that did not."""
     wide = list(wide_lists())
     with ThreadPoolExecutor(4) as pool:
-        told = list(pool.map(lambda index: disagreement(program, seed, index), range(lists)))
-        told += pool.map(lambda place: differs(program, f"wide {place}", random.Random(place), WIDE, wide[place]), range(len(wide)))
-    differing = [text for text in told if text is not None]
-    return len(told) - len(differing), differing
+        reported = list(pool.map(lambda index: disagreement(program, seed, index), range(lists)))
+        reported += pool.map(lambda place: differs(program, f"wide {place}", random.Random(place), WIDE, wide[place]), range(len(wide)))
+    differing = [text for text in reported if text is not None]
+    return len(reported) - len(differing), differing
 
 
 # ---- worked lists
@@ -268,8 +268,8 @@ WORKED = [
 def the_plain_program_knows_worked_lists(program, folder):
     """So that what it tells of a straight list is no error of its own."""
     for deliveries, wanted in WORKED:
-        told, waiting = straight_list(HOUSE, deliveries)
-        expect(told + waiting, wanted)
+        reported, waiting = straight_list(HOUSE, deliveries)
+        expect(reported + waiting, wanted)
 
 
 TESTS = [the_plain_program_knows_worked_lists, the_lists_of_the_cases_are_straightened]

@@ -1,4 +1,4 @@
-"""Lines and words that differ in one thing: what is refused, and how it is told."""
+"""Lines and words that differ in one thing: what is refused, and the words of it."""
 import pathlib
 
 WORKED = (pathlib.Path(__file__).resolve().parent.parent / "examples" / "building.toml").read_text()
@@ -48,7 +48,7 @@ LINES_REFUSED = [
     b'{"import":"calendar,entry\\n","panel":"P1","skip":4}',
 ]
 
-# Words that ask nothing: status 2, and a part of the text that is told.
+# Words that ask nothing: status 2, and a part of the text that is printed.
 WORDS_REFUSED = [
     ([], "subcommand"),
     (["serve"], "serve"),

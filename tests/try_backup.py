@@ -36,7 +36,7 @@ DAYS = 30
 # The desk that the scripts below stop and start.
 START = """#!/bin/sh
 cd "$(dirname "$0")"
-{program} serve building.toml desk.db 127.0.0.1:{port} --requests 1000000 --record record.jsonl > listening 2> told &
+{program} serve building.toml desk.db 127.0.0.1:{port} --requests 1000000 --record record.jsonl > listening 2> faults &
 echo $! > pid
 while ! grep -q listening listening 2> /dev/null; do kill -0 $(cat pid) || exit 1; sleep 0.01; done
 """
@@ -95,9 +95,9 @@ class Panel:
     def deliver(self, target, members):
         end = time.monotonic() + SECONDS
         while time.monotonic() < end:
-            told = self.room.ask(f"/panels/{PANEL}/{target}", members)
-            if told:
-                return told
+            reported = self.room.ask(f"/panels/{PANEL}/{target}", members)
+            if reported:
+                return reported
             time.sleep(0.02)
         raise AssertionError(f"no answer to {members}")
 
@@ -108,13 +108,13 @@ class Panel:
     def press(self):
         """Sends a command under the next number, and gives up what the desk no longer has before it."""
         self.number += 1
-        told = self.deliver("commands", self.command())
-        while told["answer"] in ("too_far", "parked"):
-            skipped = self.deliver("skip", {"upto": min(told["next"] + WINDOW, self.number)})
+        reported = self.deliver("commands", self.command())
+        while reported["answer"] in ("too_far", "parked"):
+            skipped = self.deliver("skip", {"upto": min(reported["next"] + WINDOW, self.number)})
             expect(skipped["answer"], "skip")
-            told = self.deliver("commands", self.command())
-        expect((told["answer"], told["number"]), ("done", self.number))
-        self.answers[self.number] = told
+            reported = self.deliver("commands", self.command())
+        expect((reported["answer"], reported["number"]), ("done", self.number))
+        self.answers[self.number] = reported
 
     def presses(self, count):
         for _ in range(count):
@@ -123,9 +123,9 @@ class Panel:
     def repeat(self, number):
         """The command of a number once more."""
         now, self.number = self.number, number
-        told = self.deliver("commands", self.command())
+        reported = self.deliver("commands", self.command())
         self.number = now
-        return told
+        return reported
 
 
 def expect_backed_up(ran):
@@ -145,9 +145,9 @@ def expect_backups(room, *copies):
 
 def recorded_list(path):
     """The commands and skips of a record."""
-    told = [json.loads(line) for line in path.read_text().splitlines()]
+    reported = [json.loads(line) for line in path.read_text().splitlines()]
     return [Skip(each["panel"], each["skip"]) if "skip" in each
-            else command(each["panel"], each["number"], each["point"], each["priority"], each["value"]) for each in told]
+            else command(each["panel"], each["number"], each["point"], each["priority"], each["value"]) for each in reported]
 
 
 def put_back(room, copy):

@@ -6,7 +6,7 @@ Usage: try_hostile.py PROGRAM [--sweep]
 
 With --sweep each request for memory is tried from a run's first one on, and not from where the building has been read.
 Each test has a folder of its own, on a disk in memory where there is one. The seconds of the processor that each took
-are told. The last line printed is `N passed, M failed`.
+are reported. The last line printed is `N passed, M failed`.
 """
 import os
 import pathlib

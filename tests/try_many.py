@@ -336,18 +336,18 @@ class Client(threading.Thread):
         super().__init__(daemon=True)
         self.place, self.count, self.port_now, self.rng = place, count, port_now, random.Random(seed + place)
         # what it asked, a command or none where it looked, and what was answered
-        self.told, self.wrong = [], None
+        self.reported, self.wrong = [], None
 
     def run(self):
         number, panel, point, priority = 0, panel_of(self.place), point_of(self.place), PRIORITIES[self.place % SHARED]
         try:
             for _ in range(self.count):
                 if self.rng.random() < 0.1:
-                    self.told.append((None, self.ask(get(f"/points/{point}"))))
+                    self.reported.append((None, self.ask(get(f"/points/{point}"))))
                 else:
                     number += 1
                     asked = Command(panel, number, Content(point, priority, number))
-                    self.told.append((asked, self.ask(request_of(members_of(asked)))))
+                    self.reported.append((asked, self.ask(request_of(members_of(asked)))))
         except (AssertionError, ValueError) as error:
             self.wrong = f"{panel}: {error}"
 
@@ -370,23 +370,23 @@ class Edges:
 
     def __init__(self, clients):
         self.clients, self.later = clients, {}
-        self.commands = [[place for place, (asked, _) in enumerate(client.told) if asked] for client in clients]
+        self.commands = [[place for place, (asked, _) in enumerate(client.reported) if asked] for client in clients]
         for which, client in enumerate(clients):
-            for place, (asked, told) in enumerate(client.told):
+            for place, (asked, reported) in enumerate(client.reported):
                 if place:
                     self.add((which, place - 1), (which, place))
-                self.add_of(which, place, asked, json.loads(told))
+                self.add_of(which, place, asked, json.loads(reported))
 
     def add(self, earlier, later):
         self.later.setdefault(earlier, []).append(later)
 
-    def add_of(self, which, place, asked, told):
+    def add_of(self, which, place, asked, reported):
         """A look tells the place of each client, and the answer to a command those of the higher ones, up to the present."""
         if asked is None:
-            values = [told["places"][priority - 1] for priority in PRIORITIES]
+            values = [reported["places"][priority - 1] for priority in PRIORITIES]
         else:
-            present = PRIORITIES.index(told["priority"])
-            values = [None] * present + [told["present"]]
+            present = PRIORITIES.index(reported["priority"])
+            values = [None] * present + [reported["present"]]
         for other, value in enumerate(values):
             if other != which:
                 self.add_sees((which, place), other, value or 0)
@@ -401,7 +401,7 @@ class Edges:
 
     def order(self):
         """All answers, each after those that come before it."""
-        waits = {(which, place): 0 for which, client in enumerate(self.clients) for place in range(len(client.told))}
+        waits = {(which, place): 0 for which, client in enumerate(self.clients) for place in range(len(client.reported))}
         for each in self.later.values():
             for later in each:
                 waits[later] += 1
@@ -415,7 +415,7 @@ class Edges:
                     ready.append(later)
         if len(found) < len(waits):
             raise AssertionError(f"{len(waits) - len(found)} answers have no order")
-        return [self.clients[which].told[place] for which, place in found]
+        return [self.clients[which].reported[place] for which, place in found]
 
 
 def expect_some_order(clients, held):
@@ -423,12 +423,12 @@ def expect_some_order(clients, held):
     building, order = building_of([client.place for client in clients]), Edges(clients).order()
     replies, state = run_of(building, [asked for asked, _ in order if asked])
     wanted, places, (point,) = iter(replies), {}, building.points
-    for asked, told in order:
+    for asked, reported in order:
         if asked is None:
-            expect(told, point_text(building, places, point))
+            expect(reported, point_text(building, places, point))
         else:
             places[point.name, asked.content.priority] = asked.content.value
-            expect(told, next(wanted))
+            expect(reported, next(wanted))
     for name, value in tables_of(building, state).items():
         expect((name, [row for row in held[name] if mine(building, row)]), (name, value))
 
@@ -445,7 +445,7 @@ def tables_of(building, state):
     return {
         "place": sorted((*key, value) for key, value in state.places.items()),
         "panel": sorted((name, number + 1) for name, number in numbers.items() if number),
-        "command": [(name, number, panels[name].points[0], panels[name].priorities[0], number, 1, *told) for name, number, told in answers],
+        "command": [(name, number, panels[name].points[0], panels[name].priorities[0], number, 1, *reported) for name, number, reported in answers],
     }
 
 
@@ -487,7 +487,7 @@ class Restarted:
     def kill_among(self, clients):
         for kill in range(1, KILLS + 1):
             wanted = kill * REQUESTS // (KILLS + 1) + random.randrange(100)
-            while sum(len(client.told) for client in clients) < wanted and any(client.is_alive() for client in clients):
+            while sum(len(client.reported) for client in clients) < wanted and any(client.is_alive() for client in clients):
                 time.sleep(random.random() / 100)
             self.server.stop()
             self.server = self.start()

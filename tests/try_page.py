@@ -94,7 +94,7 @@ def the_points_and_the_day_are_those_of_the_report(program, folder, shown):
         shown.shows("return document.getElementById('now').textContent", "2025-06-02 08:30, the building's time")
 
 
-def the_next_change_of_the_day_is_told(program, folder, shown):
+def the_next_change_of_the_day_is_reported(program, folder, shown):
     with Opened(program, folder, shown, moment=MORNING - HOUR) as page:
         page.open()
         shown.shows(ROWS, [["R101-SET", "18.00", "relinquish default", f"08:00 to 21.00 ({DAY})"], AT_REST[1]])
@@ -145,7 +145,7 @@ def points_are_filtered(program, folder, shown):
             shown.shows(ROWS, wanted)
 
 
-def the_places_of_a_point_are_told_with_who_may_write_them(program, folder, shown):
+def the_places_of_a_point_are_reported_with_who_may_write_them(program, folder, shown):
     with Opened(program, folder, shown) as page:
         page.deliver(TICK, SENT)
         page.open()
@@ -215,7 +215,7 @@ def a_hostile_description_is_shown_as_text(program, folder, shown):
         shown.shows("return [document.images.length, window.hit === undefined]", [0, True])
 
 
-def the_end_of_the_desk_is_told_and_the_values_stay(program, folder, shown):
+def the_end_of_the_desk_is_reported_and_the_values_stay(program, folder, shown):
     with Opened(program, folder, shown) as page:
         page.deliver(TICK)
         page.open()
@@ -238,7 +238,7 @@ def a_page_without_a_proxy_tells_it(program, folder, shown):
         shown.shows("return document.getElementById('trouble').hidden", True)
 
 
-# Rules of both halves of the globe, with days told in each way, and with none.
+# Rules of both halves of the globe, with days written in each way, and with none.
 RULES = (local_times.CENTRAL_EUROPE, local_times.EASTERN_AMERICA, "AEST-10AEDT,M10.1.0,M4.1.0/3", "<-03>3<-02>,M3.5.0/-2,M10.5.0/-1",
          "IST-5:30", "<+1245>-12:45<+1345>,M9.5.0/2:45,M4.1.0/3:45", "XXX2YYY1,J60/1,J300/4", "XXX-2YYY,59/0,299/3:30:15")
 
@@ -309,10 +309,10 @@ def choose(shown, field, value, event):
               "field.dispatchEvent(new Event(event, { bubbles: true }))", field, value, event)
 
 
-TESTS = [the_points_and_the_day_are_those_of_the_report, the_next_change_of_the_day_is_told, another_day_is_shown,
+TESTS = [the_points_and_the_day_are_those_of_the_report, the_next_change_of_the_day_is_reported, another_day_is_shown,
          a_quiet_schedule_is_pale, a_change_by_a_panel_shows_at_the_next_look, points_are_filtered,
-         the_places_of_a_point_are_told_with_who_may_write_them, it_works_by_keyboard, it_fits_a_phone_and_the_dark,
-         odd_names_are_shown_as_text, a_hostile_description_is_shown_as_text, the_end_of_the_desk_is_told_and_the_values_stay,
+         the_places_of_a_point_are_reported_with_who_may_write_them, it_works_by_keyboard, it_fits_a_phone_and_the_dark,
+         odd_names_are_shown_as_text, a_hostile_description_is_shown_as_text, the_end_of_the_desk_is_reported_and_the_values_stay,
          a_page_without_a_proxy_tells_it, the_building_s_clock_is_that_of_its_rule, the_proxy_serves_the_page_to_staff_alone]
 
 

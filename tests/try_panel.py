@@ -183,11 +183,11 @@ class Panel:
             ran.wait()
             self.kills += 1
         feeder.join()
-        printed, told = ran.stdout.read(), ran.stderr.read()
+        printed, reported = ran.stdout.read(), ran.stderr.read()
         for line in printed[:printed.rfind(b"\n") + 1].decode().splitlines():
             self.take(json.loads(line))
         if ran.returncode > 0:
-            raise AssertionError((ran.returncode, told))
+            raise AssertionError((ran.returncode, reported))
         return ran.returncode == 0
 
     def feed(self, ran, text):
@@ -263,7 +263,7 @@ def a_line_that_is_no_command_ends_the_input(program, folder, address):
            (1, '{"answer":"done","number":69,"present":8,"priority":8}\n', "panel: line 2 of the input is no command\n"))
 
 
-def what_is_given_up_is_told(program, folder, address):
+def what_is_given_up_is_reported(program, folder, address):
     """A press that was kept and never sent."""
     with open(folder / "a.journal", "a") as journal:
         journal.write('{"number":70,"point":"SET","priority":8,"value":5}\n{"number":71,"po')
@@ -279,17 +279,17 @@ def a_lost_journal_goes_on_past_the_window(program, folder, address):
 
 
 def a_journal_is_looked_over(program, folder, address):
-    told = "panel: line 1 of the journal is no entry in its place\n"
+    reported = "panel: line 1 of the journal is no entry in its place\n"
     for name, text in (("b.journal", "first\n"), ("c.journal", '{"answer":"skip","next":65}\n')):
         (folder / name).write_text(text)
-        expect(run(program, folder, ["send", address, "P1", name]), (1, "", told))
+        expect(run(program, folder, ["send", address, "P1", name]), (1, "", reported))
     expect(run(program, folder, ["send", address, "P2", "a.journal"]), (1, "", "panel: the journal is another panel's\n"))
     expect(run(program, folder, ["status", "P1", "d.journal"]), (0, "P1: no journal\n", ""))
     expect((folder / "d.journal").exists(), False)
     expect(run(program, folder, ["send", address, "P9", "e.journal"]), (1, "", "panel: the desk has no such panel\n"))
 
 
-CASES = (words_are_refused, lines_are_answered_in_order, a_line_that_is_no_command_ends_the_input, what_is_given_up_is_told,
+CASES = (words_are_refused, lines_are_answered_in_order, a_line_that_is_no_command_ends_the_input, what_is_given_up_is_reported,
          a_lost_journal_goes_on_past_the_window, a_journal_is_looked_over)
 
 
@@ -323,7 +323,7 @@ def pressing(panel, chance, end, faults):
             pass
         panel.lines = panel.lines[:len(panel.pressed())]
         expect(panel.run_once(PATIENCE), True)
-    except Exception as fault:  # told by the main thread
+    except Exception as fault:  # set by the main thread
         faults.append(fault)
 
 

@@ -9,7 +9,7 @@ deliveries.jsonl, words (a word a line; without it, replay of these two), and wh
 run one after the other, each after `$ `, and under it what is wanted. A command is `desk` with its words, `sql`
 with a database and a statement, which the C library of SQLite runs; its rows are shown with `|` between the
 columns; or `cat` with a file, which is shown as it is. Of a `desk`, a line `desk: ..` is wanted on the standard error, a last line `status N` is the status
-(without it, 0), and where a fault is told each file has to be as it was before.
+(without it, 0), and where a fault is reported each file has to be as it was before.
 The last line printed is `N passed, M failed`.
 """
 import contextlib
@@ -71,12 +71,12 @@ def desk_differs(program, words, shown, room):
     """What differs from what a transcript shows of a run of the desk, or nothing."""
     lines = shown.splitlines(keepends=True)
     status = int(lines.pop().split()[1]) if lines and lines[-1].startswith("status ") else 0
-    told = "".join(line for line in lines if line.startswith("desk: "))
+    reported = "".join(line for line in lines if line.startswith("desk: "))
     printed = "".join(line for line in lines if not line.startswith("desk: "))
     before = files_of(room)
-    found = difference(run(program, words, room), status, printed.encode(), told.encode())
-    changed = told and files_of(room) != before
-    return found or ("a file was changed though a fault was told" if changed else "")
+    found = difference(run(program, words, room), status, printed.encode(), reported.encode())
+    changed = reported and files_of(room) != before
+    return found or ("a file was changed though a fault was reported" if changed else "")
 
 
 def try_transcript(program, transcript, room):
@@ -113,8 +113,8 @@ def try_line(program, line, room):
     command = edges.COMMAND.encode()
     (room / "list.jsonl").write_bytes(command + line + b"\n" + command)
     replayed, straight = (run(program, [name, "building.toml", "list.jsonl"], room) for name in ("replay", "straighten"))
-    told = b"desk: line 2 is not a delivery\n"
-    return difference(replayed, 1, edges.DONE.encode(), told) or difference(straight, 1, b"", told)
+    reported = b"desk: line 2 is not a delivery\n"
+    return difference(replayed, 1, edges.DONE.encode(), reported) or difference(straight, 1, b"", reported)
 
 
 def try_words(program, words, part, room):
@@ -165,8 +165,8 @@ def all_tests(program):
     """The name of each test, and the call that tries it in a folder of its own."""
     for case in sorted((HERE / "cases").iterdir()):
         yield f"case {case.name}", lambda room, case=case: try_case(program, case, room)
-    for wanted, file, told in check_cases.all_cases():
-        name = f"building file, {wanted}: {told}"
+    for wanted, file, reported in check_cases.all_cases():
+        name = f"building file, {wanted}: {reported}"
         yield name, lambda room, wanted=wanted, file=file: try_building(program, wanted, file, room)
     for line in tables.LINES_REFUSED:
         yield f"line refused: {line!r}", lambda room, line=line: try_line(program, line, room)

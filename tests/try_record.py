@@ -151,10 +151,10 @@ def ticks_of_the_clock_are_recorded(program, folder):
         expect(server.ask(REQUEST), RESPONSE)
         server.end()
     lines = recorded.bytes_of(folder).splitlines(keepends=True)
-    told = [json.loads(line) for line in lines]
-    expect([sorted(each)[0] for each in told], ["tick", "number", "tick", "tick", "number"])
+    reported = [json.loads(line) for line in lines]
+    expect([sorted(each)[0] for each in reported], ["tick", "number", "tick", "tick", "number"])
     expect([line for line in lines if b"tick" not in line], [LINE] * 2)
-    moments = [each["tick"] for each in told if "tick" in each]
+    moments = [each["tick"] for each in reported if "tick" in each]
     expect(moments, sorted(moments))
     if not before - 100 <= moments[0] <= moments[-1] <= int(time.time() * 100) + 100:
         raise AssertionError(f"ticks at {moments}")
@@ -176,7 +176,7 @@ def the_record_of_the_document_is_what_a_reader_gets(program, folder):
     section = text[text.index("### The record\n"):text.index("### A page to look at\n")]
     listed, asked_now, *commands = re.findall(r"^```\n(.*?)^```$", section, re.S | re.M)
     lines = [json.loads(line) for line in listed.splitlines()]
-    question, told = asked_now.splitlines()
+    question, reported = asked_now.splitlines()
     (folder / "examples").mkdir()
     shutil.copy(folder / "building.toml", folder / "examples")
     with serving(program, folder, len(lines) + 1, *recorded.KEPT) as server:
@@ -189,7 +189,7 @@ def the_record_of_the_document_is_what_a_reader_gets(program, folder):
             expect((words, ran.returncode, ran.stdout, ran.stderr), (words, 0, printed.encode(), b""))
         expect(len(commands), 3)
         found = server.ask(get("/points/" + question.rpartition("/points/")[2]))
-        expect(found, response(200, told.encode()))
+        expect(found, response(200, reported.encode()))
         server.end()
 
 
@@ -233,8 +233,8 @@ def a_record_that_can_not_be_opened_ends_the_run(program, folder):
     for path in ("/dev/full", "missing/record.jsonl", "folder"):
         for words in asks:
             ran = subprocess.run([program, *words, "--record", path], cwd=folder, capture_output=True, timeout=SECONDS)
-            told = f"desk: cannot write {path}\n".encode()
-            expect((words, ran.returncode, ran.stdout, ran.stderr), (words, 3, b"", told))
+            reported = f"desk: cannot write {path}\n".encode()
+            expect((words, ran.returncode, ran.stdout, ran.stderr), (words, 3, b"", reported))
             expect(databases.held(folder), before)
 
 
@@ -261,8 +261,8 @@ def a_file_that_ends_as_no_line_is_left_as_it_is(program, folder):
         for words in asks:
             (folder / recorded.NAME).write_bytes(text)
             ran = subprocess.run([program, *words, *recorded.KEPT], cwd=folder, capture_output=True, timeout=SECONDS)
-            told = f"desk: the last line of {recorded.NAME} is not a delivery\n".encode()
-            expect((text, words, ran.returncode, ran.stdout, ran.stderr), (text, words, 1, b"", told))
+            reported = f"desk: the last line of {recorded.NAME} is not a delivery\n".encode()
+            expect((text, words, ran.returncode, ran.stdout, ran.stderr), (text, words, 1, b"", reported))
             expect((recorded.bytes_of(folder), databases.held(folder)), (text, before))
 
 
@@ -304,7 +304,7 @@ class Trial:
 
     def run(self, environment):
         """What a run that makes each delivery in turn got before it ended: how many whole replies, what came after them, and
-        how it ended. Of a server it is also told whether it listened."""
+        how it ended. Of a server it also says whether it listened."""
         if not self.is_served:
             words = [self.program, *words_of(self.sent[0], self.folder), *recorded.KEPT]
             ran = subprocess.run(words, cwd=self.folder, env=environment, capture_output=True, timeout=SECONDS)
@@ -318,10 +318,10 @@ class Trial:
             try:
                 listened = ran.stdout.readline() == f"listening 127.0.0.1:{port}\n".encode()
                 count, last = self.send(port) if listened else (0, b"")
-                _, told = ran.communicate(timeout=SECONDS)
+                _, reported = ran.communicate(timeout=SECONDS)
             finally:
                 ran.kill()
-        return count, last, (ran.returncode, told), listened
+        return count, last, (ran.returncode, reported), listened
 
     def send(self, port):
         for count, (delivery, reply) in enumerate(zip(self.sent, self.replies)):

@@ -201,8 +201,8 @@ def each_request_gets_its_answer(program, folder):
 def each_of_these_gets(program, folder, table):
     with serving(program, folder, len(table)) as server:
         for asked, wanted in table:
-            told = (asked[:90], len(asked))
-            expect((told, server.ask(asked)), (told, wanted))
+            reported = (asked[:90], len(asked))
+            expect((reported, server.ask(asked)), (reported, wanted))
         server.end()
 
 
@@ -397,16 +397,16 @@ def broken_requests_end_nothing(program, folder):
     rng = random.Random(seed)
     with serving(program, folder, BROKEN + 1) as server:
         for number in range(BROKEN):
-            told = server.ask(broken(rng))
-            if told and not told.startswith(b"HTTP/1.1 "):
-                raise AssertionError(f"request {number} of seed {seed} was told {told!r}")
+            reported = server.ask(broken(rng))
+            if reported and not reported.startswith(b"HTTP/1.1 "):
+                raise AssertionError(f"request {number} of seed {seed} got {reported!r}")
         expect(server.ask(get("/points/NOPE")), response(404, b'{"answer":"no_point"}'))
         server.end()
 
 
 # ---- the words, and curl
 
-def an_address_that_is_taken_is_told(program, folder):
+def an_address_that_is_taken_is_reported(program, folder):
     with socket.create_server(("127.0.0.1", 0)) as taken:
         address = f"127.0.0.1:{taken.getsockname()[1]}"
         for word in (address, "nowhere"):
@@ -415,7 +415,7 @@ def an_address_that_is_taken_is_told(program, folder):
             expect((ran.returncode, ran.stdout, ran.stderr), (1, b"", f"desk: cannot listen on {word}\n".encode()))
 
 
-def the_number_of_requests_has_to_be_told(program, folder):
+def the_number_of_requests_has_to_be_reported(program, folder):
     for more in ([], ["--requests", "0"], ["--requests", "1000001"], ["--requests", "x"], ["--requests", "1", "--clock=1"]):
         words = [program, "serve", "building.toml", "desk.db", "127.0.0.1:0", *more]
         ran = subprocess.run(words, cwd=folder, capture_output=True, timeout=SECONDS)
@@ -460,8 +460,8 @@ TESTS = [
     a_tick_of_the_clock_comes_before_each_request,
     a_client_that_leaves_ends_nothing,
     broken_requests_end_nothing,
-    an_address_that_is_taken_is_told,
-    the_number_of_requests_has_to_be_told,
+    an_address_that_is_taken_is_reported,
+    the_number_of_requests_has_to_be_reported,
     curl_gets_each_route,
     *panel_examples.TESTS,
     *reports.TESTS,

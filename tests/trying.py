@@ -1,4 +1,4 @@
-"""Trials of a script: what is wrong with each is told in a line, and how many passed in the last one."""
+"""Trials of a script: what is wrong with each is reported in a line, and how many passed in the last one."""
 import sqlite3
 import subprocess
 

@@ -21,7 +21,8 @@ use Rattle.building.specs.EntryText.{entry_in}
 use Rattle.building.specs.TimeLists.{is_list_within, list_of}
 use Rattle.points.specs.Texts.{name_of}
 use Rattle.building.specs.Fields.{known_keys, list_at, required_at, text_in}
-use Rattle.building.specs.Priority.{event_priority_in, is_priority}
+use Rattle.building.specs.Priority.{event_priority_in}
+use Rattle.points.specs.Priority.{is_priority}
 
 abbrev pub exception_keys : List Key
 exception_keys = key.Priority ∷ key.Entry ∷ key.Calendar ∷ key.Times ∷ []

@@ -11,7 +11,8 @@ use Rattle.points.specs.declared.Panel.{Panel}
 use Rattle.points.specs.declared.Point.{Point}
 use Rattle.building.specs.Fields.{list_at}
 use Rattle.building.specs.Items.{each_item}
-use Rattle.building.specs.Priority.{is_write_priority, write_priority_in}
+use Rattle.building.specs.Priority.{write_priority_in}
+use Rattle.points.specs.Priority.{is_write_priority}
 
 -- the panel of a name: the points that are granted to it, each once, and the priorities
 unfoldable pub panel_in : List Point → Location → List ℕ → Members → Result Panel FileFault

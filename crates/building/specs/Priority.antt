@@ -1,5 +1,5 @@
 -- Priorities of a building file.
-use Rattle.std.specs.Prelude.{ℕ, ℤ, pos, negsuc, ◌==◌, Bool, ◌&&◌, not, nat_le, Option, Some, None, Result, if◌then◌else◌}
+use Rattle.std.specs.Prelude.{ℕ, Result}
 use Rattle.toml.specs.Data.{Data}
 use Rattle.building.specs.declared.cause.Cause.TheVariants.{NotAPriority}
 use Rattle.building.specs.declared.file_fault.FileFault.{FileFault}
@@ -7,23 +7,8 @@ use Rattle.building.specs.declared.key.Key.{Key}
 use Rattle.building.specs.declared.location.Location.{Location}
 use Rattle.building.specs.FaultAt.{fault_at}
 use Rattle.points.specs.FaultSteps.{or_fault, ◌>>=◌}
+use Rattle.points.specs.Priority.{event_priority_of, write_priority_of}
 use Rattle.building.specs.Fields.{integer_in}
-
--- 1 to 16
-abbrev pub is_priority : ℕ → Bool
-is_priority n = nat_le 1 n && nat_le n 16
-
--- 1 to 16, and not 6 (19.2)
-abbrev pub is_write_priority : ℕ → Bool
-is_write_priority n = is_priority n && not (n == 6)
-
-abbrev pub write_priority_of : ℤ → Option ℕ
-write_priority_of (pos n) = if is_write_priority n then Some n else None
-write_priority_of (negsuc n) = None
-
-abbrev pub event_priority_of : ℤ → Option ℕ
-event_priority_of (pos n) = if is_priority n then Some n else None
-event_priority_of (negsuc n) = None
 
 -- B10 where the number is none
 abbrev pub write_priority_in : Location → Key → Data → Result ℕ FileFault

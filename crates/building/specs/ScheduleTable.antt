@@ -22,7 +22,8 @@ use Rattle.building.specs.EntryText.{range_in}
 use Rattle.building.specs.Kinds.{kinds_of}
 use Rattle.building.specs.Fields.{list_at, optional_text_at, required_at}
 use Rattle.building.specs.Items.{at_most}
-use Rattle.building.specs.Priority.{is_write_priority, write_priority_in}
+use Rattle.building.specs.Priority.{write_priority_in}
+use Rattle.points.specs.Priority.{is_write_priority}
 
 -- a range; all days where the key is missing
 abbrev pub period_of : Location → List ℕ → Result Range FileFault

@@ -12,14 +12,14 @@ use Rattle.points.specs.Texts.{Text}
 -- ---- parts of a text
 
 -- the index of the first `=`
-abbrev pub place_of_equals : Text → ℕ
-place_of_equals text = position_or_len (λ byte. byte == 61) text
+abbrev pub equals_index : Text → ℕ
+equals_index text = position_or_len (λ byte. byte == 61) text
 
 -- the text before the first `=`, and the text after it
 abbrev pub cut_at_equals : Text → Option (Text × Text)
 cut_at_equals text =
-    if nat_lt (place_of_equals text) (length text)
-    then Some (take (place_of_equals text) text, drop (place_of_equals text + 1) text) else None
+    if nat_lt (equals_index text) (length text)
+    then Some (take (equals_index text) text, drop (equals_index text + 1) text) else None
 
 -- the text after the mark that it begins with
 abbrev pub after_mark : ℕ → Text → Option Text

@@ -5,7 +5,8 @@ ghost use Rattle.std.specs.List.{list_all};
 ghost use Rattle.toml.specs.View.{items_view, table_view};
 ghost use Rattle.building.specs.Answers.{Answers};
 ghost use Rattle.building.specs.Items.{each_item};
-ghost use Rattle.building.specs.Priority.{is_write_priority, write_priority_in};
+ghost use Rattle.building.specs.Priority.{write_priority_in};
+ghost use Rattle.points.specs.Priority.{is_write_priority};
 ghost use Rattle.building.specs.PanelTable.{is_sound_panel, panel_in};
 
 use crate::building_refusal::BuildingFault;

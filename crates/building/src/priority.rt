@@ -2,13 +2,14 @@
 
 ghost use Rattle.std.specs.Prelude.{◌≡◌, IfOk, IsTrue};
 ghost use Rattle.toml.specs.View.{view};
-ghost use Rattle.building.specs.Priority.{event_priority_in, event_priority_of, is_priority};
-ghost use Rattle.building.specs.Priority.{is_write_priority, write_priority_in, write_priority_of};
+ghost use Rattle.building.specs.Priority.{event_priority_in, write_priority_in};
+ghost use Rattle.points.specs.Priority.{is_priority, is_write_priority};
 
 use crate::cause::Cause;
 use crate::fields::Fields;
 use crate::file_fault::FileFault;
 use crate::key::Key;
+use points::{event_priority_of, write_priority_of};
 use toml::Value;
 
 /// A priority at which something is written: 1 to 16, and not 6, which is for minimum on and off times
@@ -26,24 +27,4 @@ pub(crate) fn event_priority(fields: &Fields<'_>, key: Key, value: &Value) -> Re
     ensures sound { IfOk result (λ n. IsTrue (is_priority n)) }
 {
     event_priority_of(fields.integer_in(key, value)?).ok_or(fields.fault(key, Cause::NotAPriority))
-}
-
-fn write_priority_of(number: i64) -> Option<u8>
-    ensures { result ≡ write_priority_of number }
-{
-    if 1 <= number && number <= 16 && number != 6 {
-        Some(number as u8)
-    } else {
-        None
-    }
-}
-
-fn event_priority_of(number: i64) -> Option<u8>
-    ensures { result ≡ event_priority_of number }
-{
-    if 1 <= number && number <= 16 {
-        Some(number as u8)
-    } else {
-        None
-    }
 }

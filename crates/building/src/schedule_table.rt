@@ -5,7 +5,7 @@ ghost use Rattle.std.specs.List.{list_all};
 ghost use Rattle.toml.specs.View.{table_view};
 ghost use Rattle.building.specs.Answers.{Answers};
 ghost use Rattle.building.specs.Reference.{is_named};
-ghost use Rattle.building.specs.Priority.{is_write_priority};
+ghost use Rattle.points.specs.Priority.{is_write_priority};
 ghost use Rattle.building.specs.ScheduleTable.{is_sound_schedule, leave_in, leave_of, period_at, period_of};
 ghost use Rattle.building.specs.ScheduleTable.{priority_at, schedule_in, targets_at};
 

@@ -80,7 +80,7 @@ imported_reply building before rows =
 
 -- the record of the first row without calendar, if there is one: the header is record 1
 abbrev pub refused_record : Building → List CalendarEntry → Option ℕ
-refused_record building rows = option_map (λ place. place + 2) (position (λ row. not (has_calendar building row)) rows)
+refused_record building rows = option_map (λ index. index + 2) (position (λ row. not (has_calendar building row)) rows)
 
 abbrev pub reply_to_import : Building → List Delivery → List CalendarEntry → Reply
 reply_to_import building earlier rows =

@@ -7,7 +7,7 @@ use Rattle.points.specs.declared.Point.{Point}
 use Rattle.building.specs.declared.named_calendar.NamedCalendar.{NamedCalendar}
 use Rattle.building.specs.declared.named_schedule.NamedSchedule.{NamedSchedule}
 use Rattle.building.specs.ScheduleTable.{is_sound_schedule}
-use Rattle.building.specs.Priority.{is_write_priority}
+use Rattle.points.specs.Priority.{is_write_priority}
 use Rattle.desk_settling.specs.declared.settlement.Written.{Written}
 use Rattle.desk_settling.specs.Settled.{Now, Shown, cleared_by, falls_quiet, is_due, put_by, shown_by}
 use Rattle.desk_settling.specs.Turns.{Turns}

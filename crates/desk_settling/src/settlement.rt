@@ -13,7 +13,7 @@ ghost use Rattle.desk_settling.specs.Turns.{Turns, now_at};
 ghost use Rattle.store.specs.Change.{IsPlace};
 ghost use Rattle.store.specs.Standing.{IsOpen, Reads};
 ghost use Rattle.points.specs.Texts.{Text};
-ghost use Rattle.building.specs.Priority.{is_write_priority};
+ghost use Rattle.points.specs.Priority.{is_write_priority};
 
 use crate::kept::{Kept, KeptDay};
 use crate::today::calendars_today;

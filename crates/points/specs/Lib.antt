@@ -8,6 +8,7 @@ pub mod NameHeld
 pub mod NameIndex
 pub mod Numbered
 pub mod PointLine
+pub mod Priority
 pub mod PriorityArray
 pub mod Rights
 pub mod RuleCode

@@ -6,8 +6,7 @@
 //! desk's profile). An `Answer` is the reply to a command that was acted on, and a `CommandRow` what is kept of it.
 //!
 //! Beside them stand what every crate above uses: the `Listing`, a `Vec` whose capacity contracts don't see; the text
-//! that bytes are and the name that a text is (`points`); and the POINT line that a replay and a report print
-//! (`points`).
+//! that bytes are and the name that a text is; and the POINT line that a replay and a report print.
 #![tactic(auto)]
 
 pub use answer::Answer;
@@ -21,6 +20,7 @@ pub use numbered_row::NumberedRow;
 pub use panel::Panel;
 pub use point::Point;
 pub use point_lines::{point_line, push_right};
+pub use priority::{event_priority_of, write_priority_of};
 pub use priority_array::{LOWEST_PRIORITY, PriorityArray};
 pub use rights::{find_point, permit, permit_for};
 pub use rule::Rule;
@@ -37,6 +37,7 @@ mod numbered_row;
 mod panel;
 mod point;
 mod point_lines;
+mod priority;
 mod priority_array;
 mod rights;
 mod rule;

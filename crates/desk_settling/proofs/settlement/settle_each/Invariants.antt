@@ -4,7 +4,7 @@ use Rattle.std.specs.List.{All, flat_map, list_all}
 use Rattle.building.specs.declared.named_schedule.NamedSchedule.{NamedSchedule}
 use Rattle.store.specs.Change.{IsPlace}
 use Rattle.store.specs.Standing.{Reads}
-use Rattle.building.specs.Priority.{is_write_priority}
+use Rattle.points.specs.Priority.{is_write_priority}
 use Rattle.desk_settling.specs.Kept.{HasSpans}
 use Rattle.desk_settling.specs.Rests.{HaveRested}
 use Rattle.desk_settling.specs.Settled.{cleared_by, put_by, shown_by}

@@ -2,7 +2,7 @@ use Rattle.std.proofs.Common.{◌∙◌, refl, sym, subst, List}
 use Rattle.std.specs.Bool.{IsTrue}
 use Rattle.std.specs.List.{flat_map, list_all}
 use Rattle.building.specs.declared.named_schedule.NamedSchedule.{NamedSchedule}
-use Rattle.building.specs.Priority.{is_write_priority}
+use Rattle.points.specs.Priority.{is_write_priority}
 use Rattle.desk_settling.specs.Kept.{HasSpans}
 use Rattle.desk_settling.specs.Rests.{HaveRested}
 use Rattle.desk_settling.specs.Settled.{cleared_by, put_by, shown_by}
