@@ -47,11 +47,11 @@ impl<'a> CheckFault<'a> {
     }
 
     /// Tells the fault as one line, and its explanation as another.
-    pub fn tell<F: Write>(&self, alloc: Global, out: &mut F) {
+    pub fn print<F: Write>(&self, alloc: Global, out: &mut F) {
         match self {
-            CheckFault::Run(fault) => fault.tell(alloc, out),
+            CheckFault::Run(fault) => fault.print(alloc, out),
             CheckFault::Explained { fault, explanation } => {
-                tell_explained(alloc, *fault, explanation.as_str(), out);
+                print_explained(alloc, *fault, explanation.as_str(), out);
             }
             CheckFault::NoDatabase { path } => print_fault(alloc, &NoDatabase { path }, out),
         }
@@ -59,12 +59,12 @@ impl<'a> CheckFault<'a> {
 }
 
 /// Tells a fault and its explanation: in one write, or where memory is refused for that, the fault's line alone.
-fn tell_explained<F: Write>(alloc: Global, fault: FileFault, explanation: &str, out: &mut F) {
+fn print_explained<F: Write>(alloc: Global, fault: FileFault, explanation: &str, out: &mut F) {
     match explained_lines(alloc, fault, explanation) {
         Ok(lines) => {
             let _printed = out.write_all(lines.as_bytes());
         }
-        Err(_) => RunFault::Building(fault).tell(alloc, out),
+        Err(_) => RunFault::Building(fault).print(alloc, out),
     }
 }
 

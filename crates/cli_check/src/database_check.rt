@@ -52,7 +52,7 @@ where
             store: Some(store),
         },
         Err(end) => {
-            end.tell(alloc, fault);
+            end.print(alloc, fault);
             Checked {
                 status: end.status(),
                 store: None,

@@ -34,7 +34,7 @@ pub fn check<B: Read + Drop, W: Write, F: Write>(
     match check_over(alloc, file, detail, out) {
         Ok(()) => Status::Done,
         Err(end) => {
-            end.tell(alloc, fault);
+            end.print(alloc, fault);
             end.status()
         }
     }

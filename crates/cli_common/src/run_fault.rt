@@ -64,7 +64,7 @@ impl<'a> RunFault<'a> {
     }
 
     /// Prints the fault as one line (`print_fault`).
-    pub fn tell<F: Write>(&self, alloc: Global, out: &mut F) {
+    pub fn print<F: Write>(&self, alloc: Global, out: &mut F) {
         print_fault(alloc, self, out);
     }
 

@@ -10,6 +10,7 @@ use Rattle.building.specs.declared.named_calendar.NamedCalendar.{NamedCalendar}
 use Rattle.building.specs.declared.named_schedule.NamedSchedule.{NamedSchedule}
 use Rattle.dates.specs.declared.entry.Entry.{Entry}
 use Rattle.dates.specs.Entry.{spelling}
+use Rattle.points.specs.declared.numbered_row.TheConstants.{LAST_NUMBER}
 use Rattle.points.specs.declared.answer.Answer.{Answer}
 use Rattle.points.specs.declared.answer.Answer.TheVariants.{Done, Refused}
 use Rattle.points.specs.declared.command_row.CommandRow.{CommandRow}
@@ -54,7 +55,7 @@ abbrev pub first_number : ℕ → ℕ
 first_number next = next - 1000
 
 abbrev pub end_number : ℕ → ℕ
-end_number next = min (next + 64) 1_000_000_000_001
+end_number next = min (next + 64) (LAST_NUMBER + 1)
 
 abbrev pub between : ℕ → ℕ → List ℕ
 between from end = range_with_len from (end - from)

@@ -67,7 +67,7 @@ where
             disk,
         },
         Err(end) => Delivered {
-            ended: end.tell(alloc, fault),
+            ended: end.print(alloc, fault),
             disk: None,
         },
     }

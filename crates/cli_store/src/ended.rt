@@ -50,11 +50,11 @@ impl<'a, S> From<RunFault<'a>> for Stopped<'a, S> {
 
 impl<S> Stopped<'_, S> {
     /// Tells the fault as one line, and hands the store on.
-    pub(crate) fn tell<F: Write>(self, alloc: Global, out: &mut F) -> Ended<S>
+    pub(crate) fn print<F: Write>(self, alloc: Global, out: &mut F) -> Ended<S>
         ensures early { (result.status ≡ Status.Done) → ⊥ }
         ensures store { result.store ≡ self.entry.store }
     {
-        self.fault.tell(alloc, out);
+        self.fault.print(alloc, out);
         Ended {
             status: self.fault.status(),
             store: self.store,
@@ -76,18 +76,18 @@ where
     match store {
         Some(store) => match closer(store) {
             Ok(()) => status,
-            Err(why) => tell_unclosed(alloc, status, why, fault),
+            Err(why) => print_unclosed(alloc, status, why, fault),
         },
         None => status,
     }
 }
 
 /// The status of a run whose store is not closed.
-fn tell_unclosed<F: Write>(alloc: Global, status: Status, why: StoreFault, fault: &mut F) -> Status
+fn print_unclosed<F: Write>(alloc: Global, status: Status, why: StoreFault, fault: &mut F) -> Status
     ensures { result ≡ Status.Store }
 {
     if !matches!(status, Status::Store) {
-        RunFault::from(why).tell(alloc, fault);
+        RunFault::from(why).print(alloc, fault);
     }
     Status::Store
 }

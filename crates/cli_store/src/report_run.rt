@@ -48,7 +48,7 @@ where
             status: Status::Done,
             store: Some(store),
         },
-        Err(end) => end.tell(alloc, fault),
+        Err(end) => end.print(alloc, fault),
     }
 }
 

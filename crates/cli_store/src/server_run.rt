@@ -53,7 +53,7 @@ where
 {
     match serve_over(rt, file, opening, serving, out) {
         Ok(ended) => ended,
-        Err(end) => end.tell(rt.alloc(), fault),
+        Err(end) => end.print(rt.alloc(), fault),
     }
 }
 

@@ -10,7 +10,7 @@ use Rattle.points.specs.declared.content.Content.{Content}
 use Rattle.store.specs.Change.{IsNumber}
 use Rattle.points.specs.Texts.{Text}
 use Rattle.window.specs.declared.numbered_content.NumberedContent.{NumberedContent}
-use Rattle.window.specs.declared.TheConstants.{LAST_NUMBER}
+use Rattle.points.specs.declared.numbered_row.TheConstants.{LAST_NUMBER}
 use Rattle.window.specs.Applied.{applied, and_at, contents_from}
 use Rattle.window.specs.Plan.{parked_by}
 use Rattle.window.specs.Taken as asks

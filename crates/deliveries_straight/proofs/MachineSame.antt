@@ -14,7 +14,7 @@ use Rattle.points.specs.declared.panel.Panel.{Panel}
 use Rattle.sched.specs.declared.calendar.CalendarEntry.{CalendarEntry}
 use Rattle.points.specs.Texts.{Text}
 use Rattle.window.specs.declared.numbered_content.NumberedContent.{NumberedContent}
-use Rattle.window.specs.declared.TheConstants.{LAST_NUMBER}
+use Rattle.points.specs.declared.numbered_row.TheConstants.{LAST_NUMBER}
 use Rattle.window.specs.Applied.{applied}
 use Rattle.window.specs.Taken as asks
 use Rattle.window.proofs.FrontLemmas.{IsFront-front, front-take}

@@ -15,7 +15,7 @@ use Rattle.points.specs.declared.content.Content.{Content}
 use Rattle.points.specs.declared.panel.Panel.{Panel}
 use Rattle.points.specs.NameIndex.{is_among}
 use Rattle.points.specs.Texts.{Text}
-use Rattle.window.specs.declared.TheConstants.{LAST_NUMBER}
+use Rattle.points.specs.declared.numbered_row.TheConstants.{LAST_NUMBER}
 use Rattle.window.specs.Applied.{contents_from}
 use Rattle.window.specs.Taken as asks
 use Rattle.window.specs.Window.{remembered, window}

@@ -28,7 +28,7 @@ pub fn describe<B: Read + Drop, W: Write, F: Write>(
     match describe_over(alloc, file, out) {
         Ok(()) => Status::Done,
         Err(end) => {
-            end.tell(alloc, fault);
+            end.print(alloc, fault);
             end.status()
         }
     }

@@ -65,7 +65,7 @@ where
         Ok(()) => Status::Done,
         Err(end) => {
             let end = end.after(out.flush());
-            end.tell(alloc, fault);
+            end.print(alloc, fault);
             end.status()
         }
     }

@@ -18,7 +18,7 @@ use Rattle.store.specs.Standing.{Content, IsOpen, Reads, Standing, sound}
 use Rattle.store.proofs.ReadLemmas.{Goes-reported, stays_open}
 use Rattle.window.specs.declared.numbered_content.NumberedContent.{NumberedContent}
 use Rattle.window.specs.declared.plan.Plan.{Plan}
-use Rattle.window.specs.declared.TheConstants.{LAST_NUMBER}
+use Rattle.points.specs.declared.numbered_row.TheConstants.{LAST_NUMBER}
 use Rattle.window.specs.Applied.{applied}
 use Rattle.window.specs.Plan.{Plans, parked_by}
 use Rattle.window.specs.Taken as asks

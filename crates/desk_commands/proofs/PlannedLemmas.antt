@@ -8,7 +8,7 @@ use Rattle.store.specs.Tables.{Tables}
 use Rattle.points.specs.Texts.{Text}
 use Rattle.window.specs.declared.panel_view.PanelView.{PanelView}
 use Rattle.window.specs.declared.plan.Plan.{Plan}
-use Rattle.window.specs.declared.TheConstants.{LAST_NUMBER}
+use Rattle.points.specs.declared.numbered_row.TheConstants.{LAST_NUMBER}
 use Rattle.window.specs.Plan.{Plans}
 use Rattle.window.specs.RunNeeded.{run_behind, run_over}
 use Rattle.window.specs.Taken as asks

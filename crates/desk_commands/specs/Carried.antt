@@ -18,7 +18,7 @@ use Rattle.window.specs.declared.numbered_content.NumberedContent.{NumberedConte
 use Rattle.window.specs.declared.plan.Plan.{Plan}
 use Rattle.window.specs.declared.verdict.Verdict.{Verdict}
 use Rattle.window.specs.declared.verdict.Verdict.TheVariants.{Applies}
-use Rattle.window.specs.declared.TheConstants.{LAST_NUMBER}
+use Rattle.points.specs.declared.numbered_row.TheConstants.{LAST_NUMBER}
 use Rattle.window.specs.Window.{remembered}
 use Rattle.building.specs.Building.{Building}
 use Rattle.deliveries.specs.declared.reply.Reply.{Reply}

@@ -10,7 +10,7 @@ ghost use Rattle.store.specs.Change.{CanStand, IsKeptRow, IsNumber, IsPlace};
 ghost use Rattle.window.specs.declared.numbered_content.NumberedContent.{NumberedContent as an_entry};
 ghost use Rattle.store.specs.Standing.{ChangesOnce, IsOpen};
 ghost use Rattle.desk_commands.specs.Carried.{Carries, IsChangeOf, IsInRange, first_answer_in, is_in_range, is_number};
-ghost use Rattle.window.specs.declared.TheConstants.{LAST_NUMBER};
+ghost use Rattle.points.specs.declared.numbered_row.TheConstants.{LAST_NUMBER};
 
 use crate::acting::{Acted, act_on_each};
 use crate::replying::reply_on;

@@ -5,7 +5,7 @@ ghost use Rattle.points.specs.Run.{IsRun, Rows};
 ghost use Rattle.store.specs.Standing.{IsOpen, Reads};
 ghost use Rattle.window.specs.RunNeeded.{run_behind, run_over};
 ghost use Rattle.window.specs.View.{IsRunNeeded};
-ghost use Rattle.window.specs.declared.TheConstants.{LAST_NUMBER};
+ghost use Rattle.points.specs.declared.numbered_row.TheConstants.{LAST_NUMBER};
 ghost use Rattle.window.specs.declared.run_needed.RunNeeded.{RunNeeded as a_run};
 ghost use Rattle.desk_commands.specs.Views.{Views};
 

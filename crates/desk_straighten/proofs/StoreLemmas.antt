@@ -16,7 +16,7 @@ use Rattle.points.specs.Run.{IsRun, Rows, row_before, rows_between, rows_from}
 use Rattle.sched.specs.declared.calendar.CalendarEntry.{CalendarEntry}
 use Rattle.store.specs.Standing.{Content as a_content, Standing}
 use Rattle.points.specs.Texts.{Text}
-use Rattle.window.specs.declared.TheConstants.{LAST_NUMBER}
+use Rattle.points.specs.declared.numbered_row.TheConstants.{LAST_NUMBER}
 use Rattle.window.specs.Applied.{applied, contents_from}
 use Rattle.window.specs.Drain.{contents_of}
 use Rattle.window.specs.Taken as asks

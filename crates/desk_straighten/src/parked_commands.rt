@@ -6,7 +6,7 @@ ghost use Rattle.deliveries.specs.Accepted.{taken_by};
 ghost use Rattle.deliveries.specs.Delivered.{Holds};
 ghost use Rattle.store_memory.specs.Memory.{standing_of};
 ghost use Rattle.points.specs.declared.numbered_row.NumberedRow.{NumberedRow as a_row};
-ghost use Rattle.window.specs.declared.TheConstants.{LAST_NUMBER};
+ghost use Rattle.points.specs.declared.numbered_row.TheConstants.{LAST_NUMBER};
 ghost use Rattle.window.specs.Drain.{contents_of};
 ghost use Rattle.desk_straighten.specs.Kept.{HoldsSome};
 ghost use Rattle.deliveries_straight.specs.StraightList.{sent};

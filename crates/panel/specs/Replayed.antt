@@ -5,7 +5,7 @@ use Rattle.panel.specs.declared.moves.Move.TheVariants.{Press, Hear, GiveUp}
 use Rattle.panel.specs.declared.panel_end.TheConstants.{MOST_IN_FLIGHT}
 use Rattle.panel.specs.declared.press_fault.PressFault.{PressFault}
 use Rattle.panel.specs.declared.press_fault.PressFault.TheVariants.{Full, NoMemory, NoNumberLeft}
-use Rattle.window.specs.declared.TheConstants.{LAST_NUMBER}
+use Rattle.points.specs.declared.numbered_row.TheConstants.{LAST_NUMBER}
 use Rattle.panel.specs.Run.{Run, Pressed, Kept, Heard, GaveUp, in_flight, next_number}
 
 -- a press that the journal has is kept

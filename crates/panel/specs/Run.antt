@@ -2,7 +2,8 @@
 use Rattle.std.specs.Prelude.{ℕ, ◌+◌, ◌==◌, not, nat_lt, nat_le, max, min, if◌then◌else◌, List, [], ◌∷◌, ◌++◌, Option, Some, None}
 use Rattle.std.specs.List.{filter, find}
 use Rattle.points.specs.declared.content.Content.{Content}
-use Rattle.window.specs.declared.TheConstants.{LAST_NUMBER, WINDOW}
+use Rattle.window.specs.declared.TheConstants.{WINDOW}
+use Rattle.points.specs.declared.numbered_row.TheConstants.{LAST_NUMBER}
 use Rattle.window.specs.declared.numbered_content.NumberedContent.{NumberedContent}
 use Rattle.deliveries.specs.declared.reply.Reply.{Reply}
 use Rattle.deliveries.specs.declared.reply.Reply.TheVariants.{SkipDone, TooFar}

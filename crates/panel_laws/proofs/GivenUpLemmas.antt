@@ -7,7 +7,7 @@ use Rattle.std.specs.Str.{bytes_eq}
 use Rattle.std.proofs.lemmas.Bool.{cases_Bool, cases_lt, false≢true}
 use Rattle.points.specs.declared.content.Content.{Content}
 use Rattle.points.specs.Texts.{Text}
-use Rattle.window.specs.declared.TheConstants.{LAST_NUMBER}
+use Rattle.points.specs.declared.numbered_row.TheConstants.{LAST_NUMBER}
 use Rattle.window.specs.Taken as asks
 use Rattle.window.proofs.FrontLemmas.{IsFront-front, take-accepted, take-refused}
 use Rattle.window.proofs.PlanLemmas.{take-skip_accepted, take-skip_refused}

@@ -9,7 +9,7 @@ use Rattle.std.proofs.lemmas.Bool.{cases_Bool, cases_eq}
 use Rattle.points.specs.declared.content.Content.{Content}
 use Rattle.points.specs.Texts.{Text}
 use Rattle.window.specs.declared.numbered_content.NumberedContent.{NumberedContent}
-use Rattle.window.specs.declared.TheConstants.{LAST_NUMBER}
+use Rattle.points.specs.declared.numbered_row.TheConstants.{LAST_NUMBER}
 use Rattle.window.specs.Applied.{and_at, contents_from}
 use Rattle.window.specs.Taken as asks
 use Rattle.window.proofs.AppliedLemmas.{content_at-take_command, content_at-take_accepted, content_at-take_skip}

@@ -16,7 +16,7 @@ use Rattle.points.specs.declared.panel.Panel.{Panel}
 use Rattle.points.proofs.ContentLemmas.{content_eq-Decides}
 use Rattle.sched.specs.declared.calendar.CalendarEntry.{CalendarEntry}
 use Rattle.points.specs.Texts.{Text}
-use Rattle.window.specs.declared.TheConstants.{LAST_NUMBER}
+use Rattle.points.specs.declared.numbered_row.TheConstants.{LAST_NUMBER}
 use Rattle.window.specs.declared.verdict.Verdict.{Verdict}
 use Rattle.window.specs.declared.verdict.Verdict.TheVariants as verdict
 use Rattle.window.specs.Applied.{applied}

@@ -16,7 +16,7 @@ pub use kind::{GREATEST_ANALOG, Kind, LEAST_ANALOG, MOST_STATES};
 pub use listing::Listing;
 pub use name::{Name, NameFault};
 pub use name_index::NameIndex;
-pub use numbered_row::NumberedRow;
+pub use numbered_row::{LAST_NUMBER, NumberedRow};
 pub use panel::Panel;
 pub use point::Point;
 pub use point_lines::{point_line, push_right};

@@ -1,7 +1,8 @@
-use Rattle.std.specs.Prelude.{ℕ, ◌≤◌, Bool, ◌&&◌, ◌||◌, nat_lt, ◌==◌, if◌then◌else◌, List, [], ◌∷◌, Option, Some, None, ℤ}
+use Rattle.std.specs.Prelude.{ℕ, ◌≤◌, Bool, ◌&&◌, ◌||◌, nat_lt, ◌==◌, if◌then◌else◌, List, [], ◌∷◌, Option, Some, None, ℤ, ◌+◌}
 use Rattle.std.specs.List.{All}
 use Rattle.std.specs.Str.{bytes_eq}
 use Rattle.dates.specs.Entry.{spelling}
+use Rattle.points.specs.declared.numbered_row.TheConstants.{LAST_NUMBER}
 use Rattle.points.specs.declared.answer.Answer.TheVariants.{Done, Refused}
 use Rattle.points.specs.declared.command_row.CommandState.{CommandState}
 use Rattle.points.specs.declared.command_row.CommandState.TheVariants.{Parked, Answered}
@@ -65,7 +66,7 @@ IsState (Answered (Refused rule)) = Unit {0}
 -- a number of a command
 pub record IsNumber (number : ℕ) : Type 0 where
   pub least : 1 ≤ number
-  pub greatest : number ≤ 1_000_000_000_000
+  pub greatest : number ≤ LAST_NUMBER
 
 pub record IsKeptRow (item : KeptRow) : Type 0 where
   pub number : IsNumber item.number
@@ -73,7 +74,7 @@ pub record IsKeptRow (item : KeptRow) : Type 0 where
 
 pub record IsNext (item : NextNumber) : Type 0 where
   pub least : 1 ≤ item.next
-  pub greatest : item.next ≤ 1_000_000_000_001
+  pub greatest : item.next ≤ LAST_NUMBER + 1
 
 pub record IsPlace (item : PlaceValue) : Type 0 where
   pub at_least_1 : 1 ≤ item.priority

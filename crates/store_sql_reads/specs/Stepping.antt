@@ -1,5 +1,6 @@
 -- The next number or row of a panel from one on.
 use Rattle.std.specs.Prelude.{◌≡◌, ◌≤◌, ◌<◌, ◌+◌, ◌⊎◌, ℕ, List, [], Option, Some, None, IsSome, filter}
+use Rattle.points.specs.declared.numbered_row.TheConstants.{LAST_NUMBER}
 use Rattle.points.specs.declared.numbered_row.NumberedRow.{NumberedRow}
 use Rattle.points.specs.Run.{Rows, rows_between}
 use Rattle.store_sql_rows.specs.Broken.{cannot_stand_in}
@@ -46,7 +47,7 @@ pub record IsRowAt (rows : Rows) (from : ℕ) (found : NumberedRow) : Type 0 whe
   pub after : from ≤ found.number
   pub between : AreNone rows from found.number
   pub here : rows found.number ≡ Some found.row
-  pub greatest : found.number ≤ 1_000_000_000_000
+  pub greatest : found.number ≤ LAST_NUMBER
 
 -- A run of rows up to one number and beyond goes on from another with its next row, or it ends: nothing stands
 -- from there on, up to and with the greater of the two.

@@ -1,4 +1,5 @@
 //! What is kept under a key.
+ghost use Rattle.points.specs.declared.numbered_row.TheConstants.{LAST_NUMBER};
 ghost use Rattle.std.specs.Prelude.{◌≡◌, ◌≤◌, false, true, Err, IfErr, IfOk, [], ◌∷◌};
 ghost use Rattle.std.specs.Result.{result_err};
 ghost use Rattle.sqlite.specs.Held.{state};
@@ -14,17 +15,13 @@ ghost use Rattle.store_sql_rows.specs.Rows.{of_command, of_panel, of_schedule};
 ghost use Rattle.store_sql_rows.specs.Stored.{Kept, tables_in};
 
 use crate::only::only;
-use points::{CommandRow, Name};
+use points::{CommandRow, LAST_NUMBER, Name};
 use sqlite::{Alter, Connection, Row};
 use store_sql_rows::{
     ReadFault, command_at, commands, count_at, desk_row, optional_at, panels, schedules,
 };
 
 const LEAST_NUMBER: u64 = 1;
-
-const GREATEST_NUMBER: u64 = 1_000_000_000_000;
-
-const GREATEST_NEXT: u64 = 1_000_000_000_001;
 
 // What the answer of the query on a panel says.
 fn parsed_next(panel: &Name, rows: Vec<Row>) -> Result<u64, ReadFault>
@@ -40,7 +37,7 @@ fn parsed_next(panel: &Name, rows: Vec<Row>) -> Result<u64, ReadFault>
     let _name = panel.as_str();
     match only(rows)? {
         None => Ok(LEAST_NUMBER),
-        Some(row) => count_at(&row, 0, LEAST_NUMBER, GREATEST_NEXT),
+        Some(row) => count_at(&row, 0, LEAST_NUMBER, LAST_NUMBER + 1),
     }
 }
 
@@ -62,7 +59,7 @@ fn parsed_command(
     rows: Vec<Row>,
 ) -> Result<Option<CommandRow>, ReadFault>
     requires at_least_1 { 1 ≤ number }
-    requires greatest { number ≤ 1_000_000_000_000 }
+    requires greatest { number ≤ LAST_NUMBER }
     ensures value { (kept : Kept)
         → Finds (of_command panel.now number)
         (λ row. column row 3 ∷ column row 4 ∷ column row 5 ∷ column row 6 ∷ column row 7 ∷ column row 8 ∷ []) kept.command
@@ -95,7 +92,7 @@ pub fn command_under<S: Alter>(
     number: u64,
 ) -> Result<Option<CommandRow>, ReadFault>
     requires at_least_1 { 1 ≤ number }
-    requires greatest { number ≤ 1_000_000_000_000 }
+    requires greatest { number ≤ LAST_NUMBER }
     ensures answers { Answers (λ kept it. (it ≡ (tables_in kept).row panel.now number)
         × (cannot_stand_in kept (RowOf panel.now number) ≡ false))
         (λ kept. cannot_stand_in kept (RowOf panel.now number) ≡ true)

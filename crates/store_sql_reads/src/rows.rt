@@ -1,6 +1,7 @@
 //! A panel's rows, by rising number.
 ghost use Rattle.std.specs.Prelude.{◌≡◌, ◌≤◌, ◌<◌, ◌&&◌, false, true, Err, IfErr, IfOk, IfSome, List, ℕ, Some, IsSome, IsTrue};
 ghost use Rattle.std.specs.Result.{result_err};
+ghost use Rattle.points.specs.declared.numbered_row.TheConstants.{LAST_NUMBER};
 ghost use Rattle.points.specs.Run.{IsRun};
 ghost use Rattle.sqlite.specs.Held.{state};
 ghost use Rattle.sqlite.specs.State.{HasCleanDisk, Survives};
@@ -20,14 +21,12 @@ ghost use Rattle.store_sql_reads.specs.Stepping.{GoesOn, HaveStood, IsBrokenNext
 
 use crate::finding::command_under;
 use crate::memory::{no_memory, push};
-use points::{CommandRow, Name, NumberedRow};
+use points::{CommandRow, LAST_NUMBER, Name, NumberedRow};
 use sqlite::{Alter, Connection, Row};
 use std::alloc::Global;
 use store_sql_rows::{ReadFault, commands, count_at};
 
 const LEAST_NUMBER: u64 = 1;
-
-const GREATEST_NUMBER: u64 = 1_000_000_000_000;
 
 /// The row under a number of a panel, if one is kept. Out of 1 to 1,000,000,000,000 none is.
 pub fn command_of<S: Alter>(
@@ -40,7 +39,7 @@ pub fn command_of<S: Alter>(
         (λ kept. IsBrokenRow (cannot_stand_in kept) panel.now number)
         (state S.Store connection.old) (state S.Store connection.new) result }
 {
-    if LEAST_NUMBER <= number && number <= GREATEST_NUMBER {
+    if LEAST_NUMBER <= number && number <= LAST_NUMBER {
         command_under(connection, panel, number)
     } else {
         Ok(None)
@@ -59,7 +58,7 @@ fn parsed_number(panel: &Name, from: u64, rows: Vec<Row>) -> Option<u64>
     let _name = panel.as_str();
     match rows.first() {
         None => None,
-        Some(row) => count_at(row, 0, LEAST_NUMBER, GREATEST_NUMBER).ok(),
+        Some(row) => count_at(row, 0, LEAST_NUMBER, LAST_NUMBER).ok(),
     }
 }
 
@@ -82,7 +81,7 @@ fn next_number<S: Alter>(
     panel: &Name,
     from: u64,
 ) -> Result<Option<u64>, ReadFault>
-    requires { from ≤ 1_000_000_000_000 }
+    requires { from ≤ LAST_NUMBER }
     ensures is { IfOk result (λ it. IfSome it IsNumber) }
     ensures fault { IfErr result (λ fault. IsTrue (is_sql (Some fault))) }
     ensures answers { Answers (λ kept. IsNextNumber kept panel.now from)
@@ -144,13 +143,13 @@ fn next_in_run<S: Alter>(
     from: u64,
     upto: u64,
 ) -> Result<Option<NumberedRow>, ReadFault>
-    ensures greatest { IfOk result (λ it. IfSome it (λ found. found.number ≤ 1_000_000_000_000)) }
+    ensures greatest { IfOk result (λ it. IfSome it (λ found. found.number ≤ LAST_NUMBER)) }
     ensures answers { Answers (λ kept it. GoesOn ((tables_in kept).row panel.now) from upto it
         × HaveStood kept panel.now from upto it)
         (λ kept. IsBrokenNext kept panel.now from upto) (state S.Store connection.old) (state S.Store connection.new) result }
 {
     // Past the greatest number no row can stand.
-    if GREATEST_NUMBER < from {
+    if LAST_NUMBER < from {
         return Ok(None);
     }
     let found = next_number(connection, panel, from)?;

@@ -1,9 +1,10 @@
 -- What a row of each table says. A row is its rowid and then its columns; a row that cannot stand says nothing.
-use Rattle.std.specs.Prelude.{ℕ, ◌&&◌, ◌==◌, if◌then◌else◌, Bool, List, Option, Some, None, option_map, option_and_then, ℤ, pos, bytes_eq}
+use Rattle.std.specs.Prelude.{ℕ, ◌&&◌, ◌==◌, if◌then◌else◌, Bool, List, Option, Some, None, option_map, option_and_then, ℤ, pos, bytes_eq, ◌+◌}
 use Rattle.sqlite_value.specs.declared.value.Value.{Value}
 use Rattle.sqlite_value.specs.declared.value.Value.TheVariants.{Null, Int}
 use Rattle.sqlite_value.specs.Order.{Row, column}
 use Rattle.dates.specs.Entry.{spelling}
+use Rattle.points.specs.declared.numbered_row.TheConstants.{LAST_NUMBER}
 use Rattle.points.specs.declared.answer.Answer.TheVariants.{Done, Refused}
 use Rattle.points.specs.declared.command_row.CommandRow.{CommandRow}
 use Rattle.points.specs.declared.command_row.CommandState.{CommandState}
@@ -23,7 +24,7 @@ use Rattle.store_sql_rows.specs.Cells.{is_text, is_count, is_below, name_in, cou
 abbrev pub next_said : Row → Option NextNumber
 next_said row =
     option_and_then (λ name. option_map (λ next. record { panel = name; next = next })
-    (count_in 1 1_000_000_000_001 (column row 2))) (name_in (column row 1))
+    (count_in 1 (LAST_NUMBER + 1) (column row 2))) (name_in (column row 1))
 
 -- ---- command: panel, number, point, priority, value, state, a, b
 
@@ -66,7 +67,7 @@ abbrev pub command_said : Row → Option KeptRow
 command_said row =
     option_and_then (λ name. option_and_then (λ number. option_map (λ kept. record { panel = name; number = number; row = kept })
     (command_in (column row 3) (column row 4) (column row 5) (column row 6) (column row 7) (column row 8)))
-    (count_in 1 1_000_000_000_000 (column row 2))) (name_in (column row 1))
+    (count_in 1 LAST_NUMBER (column row 2))) (name_in (column row 1))
 
 -- ---- place: point, priority, value
 

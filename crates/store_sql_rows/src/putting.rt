@@ -10,12 +10,13 @@ ghost use Rattle.store_sql_rows.specs.Steps.{Moves, Steps, Turns, imported_put, 
 
 use crate::command_cells::{StateCells, cells_of};
 use crate::{calendars, commands, desk_row, panels, places, schedules};
+use points::LAST_NUMBER;
 use sqlite::{Alter, Constraint, Error, ErrorCode, Transaction};
 use std::alloc::Global;
 use store::{ImportedEntry, KeptRow, NextNumber, PlaceValue, RowsBelow, ShownValue};
 
 // A number above that of each command.
-const ABOVE: u64 = 1_000_000_000_001;
+const ABOVE: u64 = LAST_NUMBER + 1;
 
 /// Puts the next number of a panel.
 pub fn put_next<S: Alter>(

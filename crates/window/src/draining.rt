@@ -1,7 +1,7 @@
 //! The commands that a number or a skip sets free.
 ghost use Rattle.std.specs.Prelude.{◌≡◌, ◌+◌, ◌++◌, ◌≤◌, None, IfOk};
 ghost use Rattle.window.specs.Drain.{contents_of, end_of};
-ghost use Rattle.window.specs.declared.TheConstants.{LAST_NUMBER};
+ghost use Rattle.points.specs.declared.numbered_row.TheConstants.{LAST_NUMBER};
 
 use crate::LAST_NUMBER;
 use crate::numbered_content::NumberedContent;

@@ -21,14 +21,12 @@ pub use numbered_content::NumberedContent;
 pub use panel_view::PanelView;
 pub use plan::Plan;
 pub use planning::{plan_command, plan_skip};
+pub use points::LAST_NUMBER;
 pub use run_needed::{RunNeeded, run_for_command, run_for_skip};
 pub use verdict::Verdict;
 
 /// How many numbers a panel may use from its next one on: the next one itself, and the 63 after it.
 pub const WINDOW: u64 = 64;
-
-/// The last number of a command; numbers begin at 1. A skip's `upto` may be one more.
-pub const LAST_NUMBER: u64 = 1_000_000_000_000;
 
 /// Of how many numbers below the next one it is remembered what was accepted under them.
 pub const REMEMBERED: u64 = 1_000;

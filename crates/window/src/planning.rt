@@ -4,7 +4,7 @@ ghost use Rattle.window.specs.Plan.{Plans};
 ghost use Rattle.window.specs.Taken.{Ask, Command, Skip, Taken, opening, taken};
 ghost use Rattle.window.specs.Verdict.{verdict_of};
 ghost use Rattle.window.specs.View.{Shows};
-ghost use Rattle.window.specs.declared.TheConstants.{LAST_NUMBER};
+ghost use Rattle.points.specs.declared.numbered_row.TheConstants.{LAST_NUMBER};
 
 use crate::draining::drained;
 use crate::numbered_content::NumberedContent;

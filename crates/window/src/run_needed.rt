@@ -1,7 +1,7 @@
 //! Which rows a plan can need.
 ghost use Rattle.std.specs.Prelude.{◌≡◌, ◌≤◌};
 ghost use Rattle.window.specs.RunNeeded.{run_behind, run_over};
-ghost use Rattle.window.specs.declared.TheConstants.{LAST_NUMBER};
+ghost use Rattle.points.specs.declared.numbered_row.TheConstants.{LAST_NUMBER};
 
 use crate::{LAST_NUMBER, WINDOW};
 

@@ -3,7 +3,7 @@ use Rattle.deliveries.specs.Accepted.{ask_command, number_upto}
 use Rattle.deliveries.specs.declared.delivery.Delivery.TheVariants.{Command}
 use Rattle.deliveries.proofs.StepLemmas.{reply-bad_number, tables-bad_number}
 use Rattle.store.specs.Standing.{sound, Content}
-use Rattle.window.specs.declared.TheConstants.{LAST_NUMBER}
+use Rattle.points.specs.declared.numbered_row.TheConstants.{LAST_NUMBER}
 use Rattle.window.specs.Taken as asks
 use Rattle.desk_commands.specs.Planned.{IsPlanned}
 use Rattle.desk_commands.proofs.CarryLemmas.{makes_once-then}

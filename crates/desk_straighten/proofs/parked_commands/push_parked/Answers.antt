@@ -3,7 +3,7 @@ use Rattle.std.specs.List.{All}
 use Rattle.store_memory.specs.Memory.{standing_of}
 use Rattle.points.specs.declared.numbered_row.NumberedRow.{NumberedRow}
 use Rattle.points.specs.Run.{IsRun}
-use Rattle.window.specs.declared.TheConstants.{LAST_NUMBER}
+use Rattle.points.specs.declared.numbered_row.TheConstants.{LAST_NUMBER}
 use Rattle.window.specs.Drain.{contents_of}
 use Rattle.window.specs.Window.{window}
 use Rattle.deliveries_straight.specs.StraightList.{sent}

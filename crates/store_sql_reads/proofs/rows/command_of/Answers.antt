@@ -3,14 +3,14 @@ use Rattle.store_sql_rows.specs.Ours.{kept_in}
 use Rattle.std.proofs.Common.{◌≤◌, rules, sym}
 use Rattle.store_sql_reads.proofs.NumberLemmas.{no_row_outside}
 use Rattle.store_sql_reads.proofs.ReadLemmas.{answers_ok, read_none}
-use Rattle.store_sql_reads.proofs.rows.command_of.Goals.{else-number-ge-LEAST_NUMBER-via-then-number-ge-LEAST_NUMBER+else-number-le-GREATEST_NUMBER, else-number-ge-LEAST_NUMBER-via-else-number-ge-LEAST_NUMBER}
+use Rattle.store_sql_reads.proofs.rows.command_of.Goals.{else-number-ge-LEAST_NUMBER-via-then-number-ge-LEAST_NUMBER+else-number-le-LAST_NUMBER, else-number-ge-LEAST_NUMBER-via-else-number-ge-LEAST_NUMBER}
 use Rattle.store_sql_reads.proofs.rows.command_of.Goals as goal
 
 pub returns-else-number-ge-LEAST_NUMBER : goal.returns-else-number-ge-LEAST_NUMBER
 returns-else-number-ge-LEAST_NUMBER g c =
     let first = state g.S.Store c.args.connection.now in
     let outside : 1 ≤ c.args.number → c.args.number ≤ 1_000_000_000_000 → ⊥ = λ low high. elim c.else-number-ge-LEAST_NUMBER.branch [
-      | else-number-ge-LEAST_NUMBER-via-then-number-ge-LEAST_NUMBER+else-number-le-GREATEST_NUMBER w ↦ search rules
+      | else-number-ge-LEAST_NUMBER-via-then-number-ge-LEAST_NUMBER+else-number-le-LAST_NUMBER w ↦ search rules
       | else-number-ge-LEAST_NUMBER-via-else-number-ge-LEAST_NUMBER w ↦ search rules
     ] in
     record {

@@ -5,8 +5,8 @@ use Rattle.store_sql_reads.proofs.NumberLemmas.{broken_next, ends_beyond, near_n
 use Rattle.store_sql_reads.proofs.ReadLemmas.{answers_ok, read_first, read_none, read_then, refused_then}
 use Rattle.store_sql_reads.proofs.rows.next_in_run.Goals as goal
 
-pub returns-then-from-gt-GREATEST_NUMBER-clause-answers : goal.returns-then-from-gt-GREATEST_NUMBER-clause-answers
-returns-then-from-gt-GREATEST_NUMBER-clause-answers g c =
+pub returns-then-from-gt-LAST_NUMBER-clause-answers : goal.returns-then-from-gt-LAST_NUMBER-clause-answers
+returns-then-from-gt-LAST_NUMBER-clause-answers g c =
     let first = state g.S.Store c.args.connection.now in
     let kept = kept_in first.now.trees in
     let past : 1_000_000_000_000 < c.args.from = search rules in
