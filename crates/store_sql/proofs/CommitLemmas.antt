@@ -9,12 +9,12 @@ use Rattle.store_sql_reads.proofs.ReadLemmas.{clean_before}
 use Rattle.store_sql_rows.specs.Broken.{cannot_stand_in}
 use Rattle.store_sql_rows.specs.Ours.{IsOurs, content_of, kept_in}
 use Rattle.store_sql_rows.specs.Ours as ours
-use Rattle.store_sql_writes.specs.Committed.{IsCommitted, ShowsCommitted}
 use Rattle.store.specs.declared.change.Change.{Change}
 use Rattle.store.specs.declared.fault.StoreFault.{StoreFault}
 use Rattle.store.specs.declared.fault.StoreFault.TheVariants.{Failed, NoMemory, Shut}
 use Rattle.store.specs.Change.{with_change}
 use Rattle.store.specs.Standing.{Commits, HasRisen, Makes}
+use Rattle.store_sql.specs.Committed.{IsCommitted, ShowsCommitted}
 use Rattle.store_sql.specs.Opening.{Stands}
 use Rattle.store_sql.specs.Standing.{IsFit, standing_at}
 use Rattle.store_sql.specs.Judging.{IsRefusal}

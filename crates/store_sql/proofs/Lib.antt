@@ -12,5 +12,7 @@ pub mod RaiseLemmas
 pub mod StandLemmas
 pub mod TableLemmas
 pub mod Texts
+pub mod TransactionLemmas
 pub mod VersionLemmas
+pub mod WholeLemmas
 pub mod GoesLemmas

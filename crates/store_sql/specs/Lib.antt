@@ -1,4 +1,5 @@
 pub mod Asking
+pub mod Committed
 pub mod Fitting
 pub mod Judging
 pub mod Opened

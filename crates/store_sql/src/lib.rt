@@ -4,6 +4,10 @@
 //! contract of `Store`: a read answers what the tables hold, a commit makes a whole change or nothing, and whenever
 //! the program stops, a store that no failure has shut leaves what its last commit left.
 //!
+//! `commit_change` writes a whole change in one transaction and commits it, or nothing of it is left: `write` writes
+//! it, list after list, in a transaction that goes on. Whatever a stop in its midst leaves is what could be left
+//! before, or the tables with the whole change.
+//!
 //! `make` makes the tables in an empty database. `take` takes a database whose tables are of this version, or of the
 //! first, which it makes those of this one, and whose rows are such as a store writes (`own_rows`).
 #![tactic(auto)]
@@ -11,6 +15,7 @@
 pub use sql_store::SqlStore;
 
 mod asking;
+mod committing;
 mod early;
 mod making;
 mod own_rows;
@@ -21,3 +26,4 @@ mod sql_store;
 mod tables;
 mod taking;
 mod version;
+mod writing;

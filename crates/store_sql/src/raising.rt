@@ -5,13 +5,13 @@ ghost use Rattle.sqlite.specs.State.{HasCleanDisk, Survives};
 ghost use Rattle.store.specs.Change.{CanStand, with_change};
 ghost use Rattle.store_sql_rows.specs.Ours.{IsOurs};
 ghost use Rattle.store_sql_rows.specs.Steps.{Moves};
+ghost use Rattle.store_sql.specs.Committed.{ShowsCommitted};
 ghost use Rattle.store_sql.specs.Opening.{IsChangedBy, IsWritten, Raises, SetsVersion};
-ghost use Rattle.store_sql_writes.specs.Committed.{ShowsCommitted};
 
+use crate::writing::write;
 use sqlite::{Alter, Connection, Error, Transaction};
 use std::alloc::Global;
 use store::Change;
-use store_sql_writes::write;
 
 // Sets the version to 2.
 fn set_version<S: Alter>(transaction: &mut Transaction<'_, S>) -> Result<usize, Error>

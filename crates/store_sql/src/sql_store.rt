@@ -10,6 +10,7 @@ ghost use Rattle.store_sql.specs.Opened.{IsFaultOfNone, IsFaultOver, IsOpened, S
 ghost use Rattle.store_sql.specs.Standing.{IsFit, standing_of};
 ghost use Rattle.store.specs.declared.open_fault.OpenFault.TheVariants.{Failed, NoMemory, UnknownTables};
 
+use crate::committing::commit_change;
 use crate::making::{is_bare, make};
 use crate::session::Session;
 use crate::taking::take;
@@ -22,7 +23,6 @@ use store::{Change, Names, OpenFault, Store, StoreFault};
 use store_sql_reads::{
     array_of, command_of, commands_run, entries_of, last_tick, names_of, next_of, shown_by,
 };
-use store_sql_writes::commit_change;
 
 /// A store that keeps its tables in a database of SQLite. It fails for lack of memory, and where the device or the
 /// database fails, which shuts it: it is opened again.

@@ -4,7 +4,7 @@ use Rattle.sqlite.specs.State.{Survives}
 use Rattle.sqlite.specs.Held.{state}
 use Rattle.store_sql_rows.specs.Ours.{IsOurs}
 use Rattle.store_sql.specs.Opening.{IsChangedBy}
-use Rattle.store_sql_writes.proofs.CommitLemmas.{not_committed}
+use Rattle.store_sql.proofs.TransactionLemmas.{not_committed}
 use Rattle.store_sql.proofs.RaiseLemmas.{survives_raised}
 use Rattle.store_sql.proofs.raising.commit_raised.Goals as goal
 

@@ -1,0 +1,131 @@
+//! Lists of items put into the tables, in a transaction.
+ghost use Rattle.std.specs.List.{All};
+ghost use Rattle.store.specs.Change.{CanStand, IsKeptRow, IsNext, IsPlace, with_change, with_each};
+ghost use Rattle.store_sql_rows.specs.Steps.{Moves, Turns, imported_put, next_put, place_put, row_put, rows_dropped, shown_put, with_commands, with_values};
+
+use sqlite::{Alter, Error, Transaction};
+use std::alloc::Global;
+use store::{Change, ImportedEntry, KeptRow, NextNumber, PlaceValue, RowsBelow, ShownValue};
+use store_sql_rows::putting::{
+    drop_rows, put_imported, put_last, put_next, put_place, put_row, put_shown,
+};
+
+// Puts next numbers, one after the other.
+fn put_nexts<S: Alter>(
+    transaction: &mut Transaction<'_, S>,
+    items: &[NextNumber],
+) -> Result<(), Error>
+    requires { All IsNext items.now }
+    ensures moves { Moves S.Store (Turns (with_each next_put items.now)) transaction.old.conn transaction.new.conn result }
+{
+    for item in items {
+        put_next(transaction, item)?;
+    }
+    Ok(())
+}
+
+// Puts rows, one after the other.
+fn put_rows<S: Alter>(transaction: &mut Transaction<'_, S>, items: &[KeptRow]) -> Result<(), Error>
+    requires { All IsKeptRow items.now }
+    ensures moves { Moves S.Store (Turns (with_each row_put items.now)) transaction.old.conn transaction.new.conn result }
+{
+    for item in items {
+        put_row(transaction, item)?;
+    }
+    Ok(())
+}
+
+// Drops rows, one item after the other.
+fn drop_all<S: Alter>(
+    transaction: &mut Transaction<'_, S>,
+    items: &[RowsBelow],
+) -> Result<(), Error>
+    ensures moves { Moves S.Store (Turns (with_each rows_dropped items.now)) transaction.old.conn transaction.new.conn result }
+{
+    for item in items {
+        drop_rows(transaction, item)?;
+    }
+    Ok(())
+}
+
+// Puts values into places, one after the other.
+fn put_places<S: Alter>(
+    transaction: &mut Transaction<'_, S>,
+    items: &[PlaceValue],
+) -> Result<(), Error>
+    requires { All IsPlace items.now }
+    ensures moves { Moves S.Store (Turns (with_each place_put items.now)) transaction.old.conn transaction.new.conn result }
+{
+    for item in items {
+        put_place(transaction, item)?;
+    }
+    Ok(())
+}
+
+// Puts what schedules show, one after the other.
+fn put_all_shown<S: Alter>(
+    transaction: &mut Transaction<'_, S>,
+    items: &[ShownValue],
+) -> Result<(), Error>
+    ensures moves { Moves S.Store (Turns (with_each shown_put items.now)) transaction.old.conn transaction.new.conn result }
+{
+    for item in items {
+        put_shown(transaction, item)?;
+    }
+    Ok(())
+}
+
+// Puts entries into calendars, one after the other.
+fn put_all_imported<S: Alter>(
+    alloc: Global,
+    transaction: &mut Transaction<'_, S>,
+    items: &[ImportedEntry],
+) -> Result<(), Error>
+    ensures moves { Moves S.Store (Turns (with_each imported_put items.now)) transaction.old.conn transaction.new.conn result }
+{
+    for item in items {
+        put_imported(alloc, transaction, item)?;
+    }
+    Ok(())
+}
+
+// Writes the next numbers and the rows of a change.
+fn write_commands<S: Alter>(
+    transaction: &mut Transaction<'_, S>,
+    change: &Change,
+) -> Result<(), Error>
+    requires { CanStand change.now }
+    ensures moves { Moves S.Store (Turns (with_commands change.now)) transaction.old.conn transaction.new.conn result }
+{
+    put_nexts(transaction, &change.nexts)?;
+    put_rows(transaction, &change.rows)?;
+    drop_all(transaction, &change.dropped)
+}
+
+// Writes the places, what is shown, the entries and the last tick of a change.
+fn write_values<S: Alter>(
+    alloc: Global,
+    transaction: &mut Transaction<'_, S>,
+    change: &Change,
+) -> Result<(), Error>
+    requires { CanStand change.now }
+    ensures moves { Moves S.Store (Turns (with_values change.now)) transaction.old.conn transaction.new.conn result }
+{
+    put_places(transaction, &change.places)?;
+    put_all_shown(transaction, &change.shown)?;
+    put_all_imported(alloc, transaction, &change.imported)?;
+    put_last(transaction, change.last_tick)
+}
+
+/// Writes a whole change in a transaction, in the order of its lists.
+pub(crate) fn write<S: Alter>(
+    alloc: Global,
+    transaction: &mut Transaction<'_, S>,
+    change: &Change,
+) -> Result<(), Error>
+    requires { CanStand change.now }
+    ensures moves { Moves S.Store (Turns (with_change change.now)) transaction.old.conn transaction.new.conn result }
+{
+    write_commands(transaction, change)?;
+    write_values(alloc, transaction, change)
+}

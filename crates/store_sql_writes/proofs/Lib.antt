@@ -1,2 +1,0 @@
-pub mod CommitLemmas
-pub mod WholeLemmas
