@@ -26,19 +26,6 @@ pub Appends-nothing : (a : Option (List ℕ)) → Appends a a []
 Appends-nothing None = tt
 Appends-nothing (Some xs) = sym (append-nil xs)
 
--- a write takes some bytes more of a text
-pub written-more : (text written rest : List ℕ) (n : ℕ) (old mid new : Option (List ℕ)) → n ≤ length rest
-    → text ≡ written ++ rest → Appends old mid written → Appends mid new (take n rest)
-    → (more : List ℕ) × (text ≡ more ++ take (length rest - n) (drop n rest)) × Appends old new more
-written-more text written rest n old mid new within is before now =
-    let left : take (length rest - n) (drop n rest) ≡ drop n rest =
-    take_all (length rest - n) (drop n rest) (omega (arith, length-drop n rest)) in (
-      written ++ take n rest,
-      is ∙ ap (λ xs. written ++ xs) (sym (take-append-drop n rest)) ∙ sym (append_assoc written (take n rest) (drop n rest))
-          ∙ ap (λ xs. (written ++ take n rest) ++ xs) (sym left),
-      Appends-Appends old mid new written (take n rest) before now,
-    )
-
 -- ---- beginnings of a text
 
 pub start-nothing : (a : Option (List ℕ)) (text : List ℕ) → AppendsStart a a text

@@ -5,6 +5,7 @@ ghost use Rattle.std.specs.Io.KnownBytes.{Appends, Keeps};
 ghost use Rattle.points.specs.Beginnings.{AppendsStart};
 
 use crate::RunFault;
+use points::write_whole;
 use std::io::Write;
 
 /// Prints a text whole, or where the output fails a beginning of it; what `write_all` has printed by
@@ -13,14 +14,11 @@ pub fn print_text<'a, W: Write>(out: &mut W, text: &[u8]) -> Result<(), RunFault
     ensures whole { OnOk result (Appends (W.contents out.old) (W.contents out.new) text.now) }
     ensures no_more { AppendsStart (W.contents out.old) (W.contents out.new) text.now }
 {
-    let mut rest = text;
-    while !rest.is_empty() {
-        match out.write(rest) {
-            Ok(0) | Err(_) => return Err(RunFault::OutputFailed),
-            Ok(taken) => rest = &rest[taken..],
-        }
+    if write_whole(out, text) {
+        Ok(())
+    } else {
+        Err(RunFault::OutputFailed)
     }
-    Ok(())
 }
 
 /// Flushes the output, which prints nothing more.

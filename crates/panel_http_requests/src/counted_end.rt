@@ -9,7 +9,7 @@ use std::io::{self, Read, Write};
 /// A reader or a writer, and how often it has failed.
 #[derive(Drop)]
 pub struct Counted<T> {
-    inner: T,
+    pub(crate) inner: T,
     failures: u64,
 }
 
@@ -36,7 +36,7 @@ impl<T> Counted<T> {
         self.inner
     }
 
-    fn count(&mut self)
+    pub(crate) fn count(&mut self)
         ensures risen { HasRisen self.old.failures self.new.failures }
         ensures inner { self.new.inner ≡ self.old.inner }
     {

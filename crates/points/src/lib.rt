@@ -6,7 +6,7 @@
 //! desk's profile). An `Answer` is the reply to a command that was acted on, and a `CommandRow` what is kept of it.
 //!
 //! Beside them stand what every crate above uses: the `Listing`, a `Vec` whose capacity contracts don't see; the text
-//! that bytes are and the name that a text is; and the POINT line that a replay and a report print.
+//! that bytes are and the name that a text is; the POINT line that a replay and a report print; and how a text is written whole.
 #![tactic(auto)]
 
 pub use answer::Answer;
@@ -24,6 +24,7 @@ pub use priority::{event_priority_of, write_priority_of};
 pub use priority_array::{LOWEST_PRIORITY, PriorityArray};
 pub use rights::{find_point, permit, permit_for};
 pub use rule::Rule;
+pub use text_writing::write_whole;
 pub use texts::{is_known_key, name_of, text_of};
 
 mod answer;
@@ -41,4 +42,5 @@ mod priority;
 mod priority_array;
 mod rights;
 mod rule;
+mod text_writing;
 mod texts;
