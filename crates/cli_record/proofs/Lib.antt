@@ -1,4 +1,5 @@
 pub mod AgreeLemmas
+pub mod ComparesLemmas
 pub mod CutLemmas
 pub mod NothingLemmas
 pub mod RunLemmas

@@ -1,13 +1,13 @@
 //! The entries that are imported into calendars.
-ghost use Rattle.std.specs.Prelude.{◌≡◌, ◌++◌, List, IfOk, None, OnOk, map, string_bytes};
+ghost use Rattle.std.specs.Prelude.{◌≡◌, ◌++◌, List, IfOk, OnOk, map, string_bytes};
 ghost use Rattle.std.specs.List.{flat_map, list_any};
 ghost use Rattle.std.specs.Str.{bytes_eq};
 ghost use Rattle.dates.specs.Entry.{spelling};
 ghost use Rattle.store.specs.Listed.{AreEntries};
-ghost use Rattle.store.specs.Standing.{IsOpen, Reads};
+ghost use Rattle.store.specs.Standing.{IsOpen};
 ghost use Rattle.cli_record.specs.declared.difference.Difference.{Difference as a_difference};
 ghost use Rattle.cli_record.specs.declared.difference.Difference.TheVariants.{NotRecorded, RecordedAlone};
-ghost use Rattle.cli_record.specs.Compared.{held_fault};
+ghost use Rattle.cli_record.specs.Compared.{Compares};
 ghost use Rattle.cli_record.specs.Differences.{OfCalendar, OfCalendars, is_among, of_entries};
 ghost use Rattle.cli_record.specs.Unless.{unless};
 
@@ -32,11 +32,9 @@ fn both_entries<S: Store, T: Store>(
     calendar: &Name,
 ) -> Result<Entries, CompareFault>
     requires open { IsOpen (S.standing store.old) }
-    ensures reads { Reads (held_fault result) (S.standing store.old) (S.standing store.new) }
-    ensures reads_other { OnOk result (Reads None (T.standing other.old) (T.standing other.new)) }
-    ensures value { (S.standing store.new).is_honest → (T.standing other.new).is_honest → IfOk result (λ both.
-        AreEntries (S.standing store.old).content.tables calendar.now both.held.items
-        × AreEntries (T.standing other.old).content.tables calendar.now both.recorded.items) }
+    ensures { Compares (λ held recorded both. AreEntries held calendar.now both.held.items
+        × AreEntries recorded calendar.now both.recorded.items)
+        result (S.standing store.old) (S.standing store.new) (T.standing other.old) (T.standing other.new) }
 {
     let held = store.entries(calendar)?;
     match other.entries(calendar) {
@@ -140,11 +138,9 @@ fn compare_calendar<S: Store, T: Store>(
     calendar: &NamedCalendar,
 ) -> Result<(), CompareFault>
     requires open { IsOpen (S.standing store.old) }
-    ensures reads { Reads (held_fault result) (S.standing store.old) (S.standing store.new) }
-    ensures reads_other { OnOk result (Reads None (T.standing other.old) (T.standing other.new)) }
-    ensures found { (S.standing store.new).is_honest → (T.standing other.new).is_honest
-        → OnOk result ((part : List a_difference) × (found.new.items ≡ found.old.items ++ part)
-        × OfCalendar (S.standing store.old).content.tables (T.standing other.old).content.tables calendar.now part) }
+    ensures { Compares (λ held recorded _. (part : List a_difference) × (found.new.items
+        ≡ found.old.items ++ part) × OfCalendar held recorded calendar.now part)
+        result (S.standing store.old) (S.standing store.new) (T.standing other.old) (T.standing other.new) }
 {
     let both = both_entries(store, other, &calendar.name)?;
     add_entries(alloc, found, &calendar.name, &both)?;
@@ -161,11 +157,9 @@ pub fn compare_calendars<S: Store, T: Store>(
 ) -> Result<(), CompareFault>
     requires open { IsOpen (S.standing store.old) }
     requires open_other { IsOpen (T.standing other.old) }
-    ensures reads { Reads (held_fault result) (S.standing store.old) (S.standing store.new) }
-    ensures reads_other { OnOk result (Reads None (T.standing other.old) (T.standing other.new)) }
-    ensures found { (S.standing store.new).is_honest → (T.standing other.new).is_honest
-        → OnOk result ((part : List a_difference) × (found.new.items ≡ found.old.items ++ part)
-        × OfCalendars (S.standing store.old).content.tables (T.standing other.old).content.tables calendars.now part) }
+    ensures { Compares (λ held recorded _. (part : List a_difference) × (found.new.items
+        ≡ found.old.items ++ part) × OfCalendars held recorded calendars.now part)
+        result (S.standing store.old) (S.standing store.new) (T.standing other.old) (T.standing other.new) }
 {
     for calendar in calendars {
         compare_calendar(alloc, found, store, other, calendar)?;

@@ -1,7 +1,6 @@
 //! The comparison of the tables of a database with those of a record.
-ghost use Rattle.std.specs.Prelude.{◌≡◌, IfOk, None, OnOk};
-ghost use Rattle.store.specs.Standing.{Reads};
-ghost use Rattle.cli_record.specs.Compared.{held_fault};
+ghost use Rattle.std.specs.Prelude.{◌≡◌};
+ghost use Rattle.cli_record.specs.Compared.{Compares};
 ghost use Rattle.cli_record.specs.Differences.{AreDifferences};
 
 use crate::adding::add_unless;
@@ -64,10 +63,8 @@ fn last_ticks<S: Store, T: Store>(
     store: &mut S,
     other: &mut T,
 ) -> Result<(Option<i64>, Option<i64>), CompareFault>
-    ensures reads { Reads (held_fault result) (S.standing store.old) (S.standing store.new) }
-    ensures reads_other { OnOk result (Reads None (T.standing other.old) (T.standing other.new)) }
-    ensures value { (S.standing store.new).is_honest → (T.standing other.new).is_honest → IfOk result (λ both.
-        (both.0 ≡ (S.standing store.old).content.tables.last_tick) × (both.1 ≡ (T.standing other.old).content.tables.last_tick)) }
+    ensures { Compares (λ held recorded both. (both.0 ≡ held.last_tick) × (both.1 ≡ recorded.last_tick))
+        result (S.standing store.old) (S.standing store.new) (T.standing other.old) (T.standing other.new) }
 {
     let held = store.last_tick()?;
     match other.last_tick() {
@@ -85,10 +82,8 @@ pub fn compare_tables<S: Store, T: Store>(
     store: &mut S,
     other: &mut T,
 ) -> Result<Vec<Difference>, CompareFault>
-    ensures reads { Reads (held_fault result) (S.standing store.old) (S.standing store.new) }
-    ensures reads_other { OnOk result (Reads None (T.standing other.old) (T.standing other.new)) }
-    ensures found { (S.standing store.new).is_honest → (T.standing other.new).is_honest → IfOk result (λ found.
-        AreDifferences building.now (S.standing store.old).content.tables (T.standing other.old).content.tables found.items) }
+    ensures { Compares (λ held recorded found. AreDifferences building.now held recorded found.items)
+        result (S.standing store.old) (S.standing store.new) (T.standing other.old) (T.standing other.new) }
 {
     let (held, recorded) = last_ticks(store, other)?;
     let mut found = Vec::new(alloc);

@@ -1,8 +1,8 @@
 //! The next numbers and the rows of panels.
-ghost use Rattle.std.specs.Prelude.{◌≡◌, ◌++◌, ℕ, IfOk, None, OnOk};
+ghost use Rattle.std.specs.Prelude.{◌≡◌, ◌++◌, ℕ};
 ghost use Rattle.std.specs.List.{flat_map};
-ghost use Rattle.store.specs.Standing.{IsOpen, Reads};
-ghost use Rattle.cli_record.specs.Compared.{held_fault};
+ghost use Rattle.store.specs.Standing.{IsOpen};
+ghost use Rattle.cli_record.specs.Compared.{Compares};
 ghost use Rattle.cli_record.specs.Differences.{between, end_number, first_number, numbers_of, of_command, of_panel};
 
 use crate::adding::add_unless;
@@ -20,10 +20,8 @@ fn nexts<S: Store, T: Store>(
     panel: &Name,
 ) -> Result<(u64, u64), CompareFault>
     requires open { IsOpen (S.standing store.old) }
-    ensures reads { Reads (held_fault result) (S.standing store.old) (S.standing store.new) }
-    ensures reads_other { OnOk result (Reads None (T.standing other.old) (T.standing other.new)) }
-    ensures value { (S.standing store.new).is_honest → (T.standing other.new).is_honest → IfOk result (λ both.
-        (both.0 ≡ (S.standing store.old).content.tables.next panel.now) × (both.1 ≡ (T.standing other.old).content.tables.next panel.now)) }
+    ensures { Compares (λ held recorded both. (both.0 ≡ held.next panel.now) × (both.1 ≡ recorded.next panel.now))
+        result (S.standing store.old) (S.standing store.new) (T.standing other.old) (T.standing other.new) }
 {
     let held = store.panel_next(panel)?;
     match other.panel_next(panel) {
@@ -40,11 +38,8 @@ fn rows<S: Store, T: Store>(
     number: u64,
 ) -> Result<(Option<CommandRow>, Option<CommandRow>), CompareFault>
     requires open { IsOpen (S.standing store.old) }
-    ensures reads { Reads (held_fault result) (S.standing store.old) (S.standing store.new) }
-    ensures reads_other { OnOk result (Reads None (T.standing other.old) (T.standing other.new)) }
-    ensures value { (S.standing store.new).is_honest → (T.standing other.new).is_honest → IfOk result (λ both.
-        (both.0 ≡ (S.standing store.old).content.tables.row panel.now number)
-        × (both.1 ≡ (T.standing other.old).content.tables.row panel.now number)) }
+    ensures { Compares (λ held recorded both. (both.0 ≡ held.row panel.now number) × (both.1 ≡ recorded.row panel.now number))
+        result (S.standing store.old) (S.standing store.new) (T.standing other.old) (T.standing other.new) }
 {
     let held = store.command(panel, number)?;
     match other.command(panel, number) {
@@ -61,11 +56,9 @@ fn compare_row<S: Store, T: Store>(
     number: u64,
 ) -> Result<(), CompareFault>
     requires open { IsOpen (S.standing store.old) }
-    ensures reads { Reads (held_fault result) (S.standing store.old) (S.standing store.new) }
-    ensures reads_other { OnOk result (Reads None (T.standing other.old) (T.standing other.new)) }
-    ensures found { (S.standing store.new).is_honest → (T.standing other.new).is_honest → OnOk result (found.new.items
-        ≡ found.old.items ++ of_command panel.now ((S.standing store.old).content.tables.row panel.now)
-        ((T.standing other.old).content.tables.row panel.now) number) }
+    ensures { Compares (λ held recorded _. found.new.items
+        ≡ found.old.items ++ of_command panel.now (held.row panel.now) (recorded.row panel.now) number)
+        result (S.standing store.old) (S.standing store.new) (T.standing other.old) (T.standing other.new) }
 {
     let (held, recorded) = rows(store, other, panel, number)?;
     let difference = Difference::Command {
@@ -87,11 +80,9 @@ fn compare_rows<S: Store, T: Store>(
 ) -> Result<(), CompareFault>
     requires open { IsOpen (S.standing store.old) }
     requires open_other { IsOpen (T.standing other.old) }
-    ensures reads { Reads (held_fault result) (S.standing store.old) (S.standing store.new) }
-    ensures reads_other { OnOk result (Reads None (T.standing other.old) (T.standing other.new)) }
-    ensures found { (S.standing store.new).is_honest → (T.standing other.new).is_honest → OnOk result (found.new.items
-        ≡ found.old.items ++ flat_map (of_command panel.now ((S.standing store.old).content.tables.row panel.now)
-        ((T.standing other.old).content.tables.row panel.now)) (between from end)) }
+    ensures { Compares (λ held recorded _. found.new.items
+        ≡ found.old.items ++ flat_map (of_command panel.now (held.row panel.now) (recorded.row panel.now)) (between from end))
+        result (S.standing store.old) (S.standing store.new) (T.standing other.old) (T.standing other.new) }
 {
     for number in from..end.max(from) {
         compare_row(found, store, other, panel, number)?;
@@ -124,11 +115,9 @@ fn compare_all_rows<S: Store, T: Store>(
 ) -> Result<(), CompareFault>
     requires open { IsOpen (S.standing store.old) }
     requires open_other { IsOpen (T.standing other.old) }
-    ensures reads { Reads (held_fault result) (S.standing store.old) (S.standing store.new) }
-    ensures reads_other { OnOk result (Reads None (T.standing other.old) (T.standing other.new)) }
-    ensures found { (S.standing store.new).is_honest → (T.standing other.new).is_honest → OnOk result (found.new.items
-        ≡ found.old.items ++ flat_map (of_command panel.now ((S.standing store.old).content.tables.row panel.now)
-        ((T.standing other.old).content.tables.row panel.now)) (numbers_of lesser greater)) }
+    ensures { Compares (λ held recorded _. found.new.items
+        ≡ found.old.items ++ flat_map (of_command panel.now (held.row panel.now) (recorded.row panel.now)) (numbers_of lesser greater))
+        result (S.standing store.old) (S.standing store.new) (T.standing other.old) (T.standing other.new) }
 {
     let first_end = end_number(lesser);
     compare_rows(found, store, other, panel, first_number(lesser), first_end)?;
@@ -143,11 +132,8 @@ fn compare_panel<S: Store, T: Store>(
     panel: &Panel,
 ) -> Result<(), CompareFault>
     requires open { IsOpen (S.standing store.old) }
-    ensures reads { Reads (held_fault result) (S.standing store.old) (S.standing store.new) }
-    ensures reads_other { OnOk result (Reads None (T.standing other.old) (T.standing other.new)) }
-    ensures found { (S.standing store.new).is_honest → (T.standing other.new).is_honest → OnOk result (found.new.items
-        ≡ found.old.items
-        ++ of_panel (S.standing store.old).content.tables (T.standing other.old).content.tables panel.now) }
+    ensures { Compares (λ held recorded _. found.new.items ≡ found.old.items ++ of_panel held recorded panel.now)
+        result (S.standing store.old) (S.standing store.new) (T.standing other.old) (T.standing other.new) }
 {
     let (held, recorded) = nexts(store, other, &panel.name)?;
     let difference = Difference::NextNumber {
@@ -175,11 +161,8 @@ pub fn compare_panels<S: Store, T: Store>(
 ) -> Result<(), CompareFault>
     requires open { IsOpen (S.standing store.old) }
     requires open_other { IsOpen (T.standing other.old) }
-    ensures reads { Reads (held_fault result) (S.standing store.old) (S.standing store.new) }
-    ensures reads_other { OnOk result (Reads None (T.standing other.old) (T.standing other.new)) }
-    ensures found { (S.standing store.new).is_honest → (T.standing other.new).is_honest → OnOk result (found.new.items
-        ≡ found.old.items
-        ++ flat_map (of_panel (S.standing store.old).content.tables (T.standing other.old).content.tables) panels.now) }
+    ensures { Compares (λ held recorded _. found.new.items ≡ found.old.items ++ flat_map (of_panel held recorded) panels.now)
+        result (S.standing store.old) (S.standing store.new) (T.standing other.old) (T.standing other.new) }
 {
     for panel in panels {
         compare_panel(found, store, other, panel)?;

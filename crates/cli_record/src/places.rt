@@ -1,8 +1,8 @@
 //! The values in the places of points.
-ghost use Rattle.std.specs.Prelude.{◌≡◌, ◌++◌, IfOk, None, OnOk};
+ghost use Rattle.std.specs.Prelude.{◌≡◌, ◌++◌};
 ghost use Rattle.std.specs.List.{flat_map};
-ghost use Rattle.store.specs.Standing.{IsOpen, Reads};
-ghost use Rattle.cli_record.specs.Compared.{held_fault};
+ghost use Rattle.store.specs.Standing.{IsOpen};
+ghost use Rattle.cli_record.specs.Compared.{Compares};
 ghost use Rattle.cli_record.specs.Differences.{of_point};
 
 use crate::adding::add_unless;
@@ -19,11 +19,8 @@ fn arrays<S: Store, T: Store>(
     point: &Name,
 ) -> Result<(PriorityArray, PriorityArray), CompareFault>
     requires open { IsOpen (S.standing store.old) }
-    ensures reads { Reads (held_fault result) (S.standing store.old) (S.standing store.new) }
-    ensures reads_other { OnOk result (Reads None (T.standing other.old) (T.standing other.new)) }
-    ensures value { (S.standing store.new).is_honest → (T.standing other.new).is_honest → IfOk result (λ both.
-        (both.0 ≡ (S.standing store.old).content.tables.places point.now)
-        × (both.1 ≡ (T.standing other.old).content.tables.places point.now)) }
+    ensures { Compares (λ held recorded both. (both.0 ≡ held.places point.now) × (both.1 ≡ recorded.places point.now))
+        result (S.standing store.old) (S.standing store.new) (T.standing other.old) (T.standing other.new) }
 {
     let held = store.array(point)?;
     match other.array(point) {
@@ -40,11 +37,8 @@ fn compare_point<S: Store, T: Store>(
     point: &Point,
 ) -> Result<(), CompareFault>
     requires open { IsOpen (S.standing store.old) }
-    ensures reads { Reads (held_fault result) (S.standing store.old) (S.standing store.new) }
-    ensures reads_other { OnOk result (Reads None (T.standing other.old) (T.standing other.new)) }
-    ensures found { (S.standing store.new).is_honest → (T.standing other.new).is_honest → OnOk result (found.new.items
-        ≡ found.old.items
-        ++ of_point (S.standing store.old).content.tables (T.standing other.old).content.tables point.now) }
+    ensures { Compares (λ held recorded _. found.new.items ≡ found.old.items ++ of_point held recorded point.now)
+        result (S.standing store.old) (S.standing store.new) (T.standing other.old) (T.standing other.new) }
 {
     let (held, recorded) = arrays(store, other, &point.name)?;
     for priority in 1..LOWEST_PRIORITY + 1 {
@@ -70,11 +64,8 @@ pub fn compare_points<S: Store, T: Store>(
 ) -> Result<(), CompareFault>
     requires open { IsOpen (S.standing store.old) }
     requires open_other { IsOpen (T.standing other.old) }
-    ensures reads { Reads (held_fault result) (S.standing store.old) (S.standing store.new) }
-    ensures reads_other { OnOk result (Reads None (T.standing other.old) (T.standing other.new)) }
-    ensures found { (S.standing store.new).is_honest → (T.standing other.new).is_honest → OnOk result (found.new.items
-        ≡ found.old.items
-        ++ flat_map (of_point (S.standing store.old).content.tables (T.standing other.old).content.tables) points.now) }
+    ensures { Compares (λ held recorded _. found.new.items ≡ found.old.items ++ flat_map (of_point held recorded) points.now)
+        result (S.standing store.old) (S.standing store.new) (T.standing other.old) (T.standing other.new) }
 {
     for point in points {
         compare_point(found, store, other, point)?;

@@ -1,8 +1,8 @@
 //! What schedules show.
-ghost use Rattle.std.specs.Prelude.{◌≡◌, ◌++◌, IfOk, None, OnOk};
+ghost use Rattle.std.specs.Prelude.{◌≡◌, ◌++◌};
 ghost use Rattle.std.specs.List.{flat_map};
-ghost use Rattle.store.specs.Standing.{IsOpen, Reads};
-ghost use Rattle.cli_record.specs.Compared.{held_fault};
+ghost use Rattle.store.specs.Standing.{IsOpen};
+ghost use Rattle.cli_record.specs.Compared.{Compares};
 ghost use Rattle.cli_record.specs.Differences.{of_schedule};
 
 use crate::comparing::CompareFault;
@@ -25,11 +25,9 @@ fn both_shown<S: Store, T: Store>(
     schedule: &Name,
 ) -> Result<Shown, CompareFault>
     requires open { IsOpen (S.standing store.old) }
-    ensures reads { Reads (held_fault result) (S.standing store.old) (S.standing store.new) }
-    ensures reads_other { OnOk result (Reads None (T.standing other.old) (T.standing other.new)) }
-    ensures value { (S.standing store.new).is_honest → (T.standing other.new).is_honest → IfOk result (λ both.
-        (both.held ≡ (S.standing store.old).content.tables.shown schedule.now)
-        × (both.recorded ≡ (T.standing other.old).content.tables.shown schedule.now)) }
+    ensures { Compares (λ held recorded both. (both.held ≡ held.shown schedule.now)
+        × (both.recorded ≡ recorded.shown schedule.now))
+        result (S.standing store.old) (S.standing store.new) (T.standing other.old) (T.standing other.new) }
 {
     let held = store.shown(schedule)?;
     match other.shown(schedule) {
@@ -45,11 +43,8 @@ fn compare_schedule<S: Store, T: Store>(
     schedule: &NamedSchedule,
 ) -> Result<(), CompareFault>
     requires open { IsOpen (S.standing store.old) }
-    ensures reads { Reads (held_fault result) (S.standing store.old) (S.standing store.new) }
-    ensures reads_other { OnOk result (Reads None (T.standing other.old) (T.standing other.new)) }
-    ensures found { (S.standing store.new).is_honest → (T.standing other.new).is_honest → OnOk result (found.new.items
-        ≡ found.old.items
-        ++ of_schedule (S.standing store.old).content.tables (T.standing other.old).content.tables schedule.now) }
+    ensures { Compares (λ held recorded _. found.new.items ≡ found.old.items ++ of_schedule held recorded schedule.now)
+        result (S.standing store.old) (S.standing store.new) (T.standing other.old) (T.standing other.new) }
 {
     let shown = both_shown(store, other, &schedule.name)?;
     if !is_same_shown(shown.held, shown.recorded) {
@@ -69,11 +64,9 @@ pub fn compare_schedules<S: Store, T: Store>(
 ) -> Result<(), CompareFault>
     requires open { IsOpen (S.standing store.old) }
     requires open_other { IsOpen (T.standing other.old) }
-    ensures reads { Reads (held_fault result) (S.standing store.old) (S.standing store.new) }
-    ensures reads_other { OnOk result (Reads None (T.standing other.old) (T.standing other.new)) }
-    ensures found { (S.standing store.new).is_honest → (T.standing other.new).is_honest → OnOk result (found.new.items
-        ≡ found.old.items
-        ++ flat_map (of_schedule (S.standing store.old).content.tables (T.standing other.old).content.tables) schedules.now) }
+    ensures { Compares (λ held recorded _. found.new.items
+        ≡ found.old.items ++ flat_map (of_schedule held recorded) schedules.now)
+        result (S.standing store.old) (S.standing store.new) (T.standing other.old) (T.standing other.new) }
 {
     for schedule in schedules {
         compare_schedule(found, store, other, schedule)?;
