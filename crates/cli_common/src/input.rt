@@ -15,7 +15,7 @@ pub struct Input<'a, R> {
 /// A file that a run of the program opens when its turn comes: the path as it was given, and the call that
 /// opens it.
 #[derive(Drop)]
-pub struct Listed<'a, O> {
+pub struct ListInput<'a, O> {
     /// The path as it was given.
     pub path: &'a str,
     /// Opens the file at its first byte.

@@ -6,7 +6,7 @@
 #![tactic(auto)]
 
 pub use fault_line::print_fault;
-pub use input::{Input, Listed};
+pub use input::{Input, ListInput};
 pub use printing::{flush, print_text, print_whole};
 pub use reading::{read_building, read_start};
 pub use run_fault::RunFault;

@@ -17,11 +17,11 @@ ghost use Rattle.cli_record.specs.RecordRun.{Differ, Finds, HasLeft, IsCompared,
 
 use crate::comparing::compare_tables;
 use crate::difference::Difference;
-use crate::record_fault::RecordFault;
+use crate::record_run_fault::RecordRunFault;
 use crate::record_text::{differences_text, unmade_line, whole_line};
 use crate::whole_list::read_whole;
 use building::Building;
-use cli_common::{Input, Listed, RunFault, Status, flush, print_text, read_start};
+use cli_common::{Input, ListInput, RunFault, Status, flush, print_text, read_start};
 use deliveries::Delivery;
 use desk::Desk;
 use desk_cli::read_deliveries;
@@ -56,7 +56,7 @@ fn compare_with<'a, S: Store, T: Store + Drop>(
     store: &mut S,
     empty: T,
     deliveries: &[Delivery],
-) -> Result<Vec<Difference>, RecordFault<'a>>
+) -> Result<Vec<Difference>, RecordRunFault<'a>>
     requires empty { (T.standing empty).content ≡ sound no_tables }
     requires honest { (t : T) → (T.standing t).is_honest }
     ensures reads { OnOk result (Reads None (S.standing store.old) (S.standing store.new)) }
@@ -66,7 +66,7 @@ fn compare_with<'a, S: Store, T: Store + Drop>(
     let mut of_record = deliver_all(alloc, replayed, empty, deliveries)?;
     match compare_tables(alloc, building, store, &mut of_record) {
         Ok(found) => Ok(found),
-        Err(fault) => Err(RecordFault::of_comparing(fault)),
+        Err(fault) => Err(RecordRunFault::of_comparing(fault)),
     }
 }
 
@@ -77,7 +77,7 @@ fn compare_deliveries<'a, S: Store>(
     file: &[u8],
     store: &mut S,
     deliveries: &[Delivery],
-) -> Result<Vec<Difference>, RecordFault<'a>>
+) -> Result<Vec<Difference>, RecordRunFault<'a>>
     ensures reads { OnOk result (Reads None (S.standing store.old) (S.standing store.new)) }
     ensures found { (S.standing store.new).is_honest → IfOk result (λ found.
         Differ building.now file.now deliveries.now (S.standing store.old).content.tables found.items) }
@@ -101,7 +101,7 @@ fn compare<'a, S: Store>(
     file: &[u8],
     store: &mut S,
     deliveries: &[Delivery],
-) -> Result<(Status, String), RecordFault<'a>>
+) -> Result<(Status, String), RecordRunFault<'a>>
     ensures compared { (S.standing store.new).is_honest → IfOk result (λ compared. IsCompared building.now file.now deliveries.now
         (S.standing store.old).content.tables compared.0 (string_bytes compared.1)) }
     ensures verdict { IfOk result (λ compared. IsVerdict (length deliveries.now) (string_bytes compared.1)) }
@@ -126,7 +126,7 @@ fn opened<'a, S: Store + Drop, O>(
     file: &[u8],
     database: &'a str,
     finder: O,
-) -> Result<S, RecordFault<'a>>
+) -> Result<S, RecordRunFault<'a>>
 where
     O: FnOnce() -> Result<Option<S>, OpenFault>,
     requires { O.IsAlwaysCallable finder }
@@ -136,12 +136,12 @@ where
     let building = Building::read(alloc, file)?;
     let store = match finder() {
         Ok(Some(store)) => store,
-        Ok(None) => return Err(RecordFault::NoDatabase { path: database }),
-        Err(fault) => return Err(RecordFault::of_opening(fault)),
+        Ok(None) => return Err(RecordRunFault::NoDatabase { path: database }),
+        Err(fault) => return Err(RecordRunFault::of_opening(fault)),
     };
     match Desk::open(alloc, building, store) {
         Ok(desk) => Ok(desk.into_store()),
-        Err((fault, _store)) => Err(RecordFault::from(fault)),
+        Err((fault, _store)) => Err(RecordRunFault::from(fault)),
     }
 }
 
@@ -149,7 +149,7 @@ where
 fn recorded<'a, D: Read + Drop, P>(
     alloc: Global,
     building: &Building,
-    list: Listed<'a, P>,
+    list: ListInput<'a, P>,
 ) -> Result<Vec<Delivery>, RunFault<'a>>
 where
     P: FnOnce() -> io::Result<BufReader<D>>,
@@ -188,10 +188,10 @@ struct Comparison<S> {
 fn compare_over<'a, B: Read + Drop, D: Read + Drop, P, S: Store + Drop, O>(
     alloc: Global,
     file: Input<'a, B>,
-    list: Listed<'a, P>,
+    list: ListInput<'a, P>,
     database: &'a str,
     finder: O,
-) -> Result<Comparison<S>, RecordFault<'a>>
+) -> Result<Comparison<S>, RecordRunFault<'a>>
 where
     P: FnOnce() -> io::Result<BufReader<D>>,
     O: FnOnce() -> Result<Option<S>, OpenFault>,
@@ -253,7 +253,7 @@ fn print_comparison<S: Drop, W: Write, F: Write>(
             store: Some(store),
         },
         Err(end) => {
-            let end = RecordFault::from(end).after(out.flush());
+            let end = RecordRunFault::from(end).after(out.flush());
             end.print(alloc, fault);
             RecordChecked {
                 status: end.status(),
@@ -282,7 +282,7 @@ pub struct RecordChecked<S> {
 pub fn check_record<'a, B: Read + Drop, D: Read + Drop, P, S: Store + Drop, O, W: Write, F: Write>(
     alloc: Global,
     file: Input<'a, B>,
-    list: Listed<'a, P>,
+    list: ListInput<'a, P>,
     database: &'a str,
     finder: O,
     out: &mut W,

@@ -4,7 +4,7 @@ ghost use Rattle.std.specs.Io.Buffered.{reader_remaining};
 ghost use Rattle.cli_record.specs.RecordRun.{HasLeft};
 ghost use Rattle.cli_record.specs.WholeLines.{IsCut};
 
-use cli_common::{Listed, RunFault};
+use cli_common::{ListInput, RunFault};
 use delivery_json::last_end;
 use std::alloc::Global;
 use std::io::{self, BufReader, Read};
@@ -41,7 +41,7 @@ fn read_left<'a, D: Read + Drop>(
 /// read and lack of memory are the faults.
 pub fn read_whole<'a, D: Read + Drop, O>(
     alloc: Global,
-    list: Listed<'a, O>,
+    list: ListInput<'a, O>,
 ) -> Result<Vec<u8>, RunFault<'a>>
 where
     O: FnOnce() -> io::Result<BufReader<D>>,
@@ -49,7 +49,7 @@ where
     ensures { IfOk result (λ whole. (bytes : List ℕ)
         → HasLeft (O.post list.entry.open) (reader_remaining D.remaining) bytes → IsCut bytes whole.items) }
 {
-    let Listed { path, open } = list;
+    let ListInput { path, open } = list;
     match open() {
         Ok(reader) => read_left(alloc, path, reader),
         Err(error) => Err(RunFault::of_read(&error, path)),

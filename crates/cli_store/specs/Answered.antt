@@ -4,8 +4,8 @@ use Rattle.std.specs.Io.KnownBytes.{Appends}
 use Rattle.building.specs.Building.{Building, contents_of}
 use Rattle.building.specs.BuildingFile.{building_of}
 use Rattle.cli_common.specs.Input.{bytes_of}
-use Rattle.cli_store.specs.declared.asked.Asked.{Asked}
-use Rattle.cli_store.specs.declared.asked.Asked.TheVariants as asked
+use Rattle.cli_store.specs.declared.clock_delivery.ClockDelivery.{ClockDelivery}
+use Rattle.cli_store.specs.declared.clock_delivery.ClockDelivery.TheVariants as clock
 use Rattle.deliveries.specs.declared.delivery.Delivery.{Delivery}
 use Rattle.deliveries.specs.declared.delivery.Delivery.TheVariants.{Tick}
 use Rattle.deliveries.specs.Delivered.{Holds}
@@ -31,9 +31,9 @@ abbrev pub IsImport : List ℕ → Building → Delivery → Type 0
 IsImport bytes building delivery = import_of building bytes ≡ parsed.Delivery delivery
 
 -- the delivery is what is asked over the building: the tick at the moment, or the import of the list's bytes, where these are known
-abbrev pub Asks : {L : Type 0} → (L → Option (List ℕ)) → Asked L → Building → Delivery → Type 0
-Asks {L} remaining (asked.Tick at) building delivery = delivery ≡ Tick at
-Asks remaining (asked.Import list) building delivery =
+abbrev pub Asks : {L : Type 0} → (L → Option (List ℕ)) → ClockDelivery L → Building → Delivery → Type 0
+Asks {L} remaining (clock.Tick at) building delivery = delivery ≡ Tick at
+Asks remaining (clock.Import list) building delivery =
     (bytes : List ℕ) → bytes_of remaining list.reader ≡ Some bytes → IsImport bytes building delivery
 
 -- The file is a building, and the delivery that is asked of it was answered: after whatever list of deliveries the store

@@ -10,7 +10,7 @@ ghost use Rattle.desk_record.specs.Recorded.{InStep, IsBehind, listed};
 ghost use Rattle.cli_store.specs.Answered.{Answers, Asks, IsAnswered, Opens};
 ghost use Rattle.cli_store.specs.Recorded.{Adds, IsRecorded, Records};
 
-use crate::asked::{Asked, read_asked};
+use crate::clock_delivery::{ClockDelivery, read_asked};
 use crate::ended::Stopped;
 use crate::keeper::{Opening, Recording, resume_at};
 use building::Building;
@@ -34,7 +34,7 @@ pub(crate) struct Answered<S, D> {
 
 /// What was answered, and the disk of the record, if one is kept.
 #[derive(Drop)]
-struct Delivered<D> {
+struct Replied<D> {
     reply: Reply,
     disk: Option<D>,
 }
@@ -153,7 +153,7 @@ fn deliver<'a, S: Store + Drop, D: Disk + Drop, Q, W: Write>(
     recording: Recording<'a, Q>,
     delivery: &Delivery,
     out: &mut W,
-) -> Result<Delivered<D>, RunFault<'a>>
+) -> Result<Replied<D>, RunFault<'a>>
 where
     Q: FnOnce() -> Result<D, OpenFault>,
     Q: Drop,
@@ -173,10 +173,10 @@ where
     let Recording { path, opener } = recording;
     let Some(path) = path else {
         let reply = deliver_kept(alloc, desk, &mut NoRecord, "", delivery, out)?;
-        return Ok(Delivered { reply, disk: None });
+        return Ok(Replied { reply, disk: None });
     };
     let (reply, disk) = deliver_recorded(alloc, desk, path, opener, delivery, out)?;
-    Ok(Delivered {
+    Ok(Replied {
         reply,
         disk: Some(disk),
     })
@@ -195,7 +195,7 @@ pub(crate) fn answer<
 >(
     alloc: Global,
     file: Input<'a, B>,
-    asked: Asked<'a, L>,
+    asked: ClockDelivery<'a, L>,
     opening: Opening<'a, O, Q>,
     out: &mut W,
 ) -> Result<Answered<S, D>, Stopped<'a, S>>
@@ -224,7 +224,7 @@ where
     let answered = deliver(alloc, &mut desk, recording, &delivery, out);
     let store = desk.into_store();
     match answered {
-        Ok(Delivered { reply, disk }) => Ok(Answered { reply, store, disk }),
+        Ok(Replied { reply, disk }) => Ok(Answered { reply, store, disk }),
         Err(fault) => Err(Stopped {
             fault,
             store: Some(store),

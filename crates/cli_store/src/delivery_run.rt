@@ -6,7 +6,7 @@ ghost use Rattle.cli_store.specs.Answered.{Asks, IsAnswered};
 ghost use Rattle.cli_store.specs.Recorded.{IsRecorded};
 
 use crate::answering::{Answered, answer};
-use crate::asked::Asked;
+use crate::clock_delivery::ClockDelivery;
 use crate::ended::{Delivered, Ended};
 use crate::keeper::Opening;
 use cli_common::{Input, Status};
@@ -35,7 +35,7 @@ pub fn deliver<
 >(
     alloc: Global,
     file: Input<'a, B>,
-    asked: Asked<'a, L>,
+    asked: ClockDelivery<'a, L>,
     opening: Opening<'a, O, Q>,
     out: &mut W,
     fault: &mut F,

@@ -8,7 +8,7 @@
 //! `deliver` hands back the disk of its record too, if it keeps one and was answered.
 #![tactic(auto)]
 
-pub use asked::Asked;
+pub use clock_delivery::ClockDelivery;
 pub use delivery_run::deliver;
 pub use ended::{Delivered, Ended, finish};
 pub use keeper::{Opening, Recording};
@@ -16,7 +16,7 @@ pub use report_run::report;
 pub use server_run::{Serving, serve};
 
 mod answering;
-mod asked;
+mod clock_delivery;
 mod connection;
 mod connections;
 mod delivery_run;

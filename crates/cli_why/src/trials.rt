@@ -1,7 +1,7 @@
 //! A worked day, and why its room has its value.
 
 use crate::why;
-use cli_common::{Input, Listed, Status};
+use cli_common::{Input, ListInput, Status};
 use std::alloc::Global;
 use std::io::BufReader;
 use std::process::Abort;
@@ -91,7 +91,7 @@ fn run(
         path: "building.toml",
         reader: Ok(BUILDING.as_bytes()),
     };
-    let list = Listed {
+    let list = ListInput {
         path: "list.jsonl",
         open: || BufReader::new(alloc, list.as_bytes()),
     };

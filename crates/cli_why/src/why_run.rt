@@ -8,7 +8,7 @@ ghost use Rattle.cli_why.specs.Why.{Explains, ExplainsNoMore, explanation, point
 
 use crate::why_fault::WhyFault;
 use building::Building;
-use cli_common::{Input, Listed, Status, flush, print_text, read_building};
+use cli_common::{Input, ListInput, Status, flush, print_text, read_building};
 use deliveries::Delivery;
 use desk_authors::point_at_end;
 use desk_cli::list_deliveries;
@@ -31,7 +31,7 @@ use std::io::{self, BufReader, Read, Write};
 pub fn why<B: Read + Drop, D: Read + Drop, O, W: Write, F: Write>(
     alloc: Global,
     file: Input<'_, B>,
-    list: Listed<'_, O>,
+    list: ListInput<'_, O>,
     point: &str,
     until: Option<i64>,
     out: &mut W,
@@ -63,7 +63,7 @@ where
 fn why_over<'a, B: Read + Drop, D: Read + Drop, O, W: Write>(
     alloc: Global,
     file: Input<'a, B>,
-    list: Listed<'a, O>,
+    list: ListInput<'a, O>,
     name: &'a str,
     until: Option<i64>,
     out: &mut W,

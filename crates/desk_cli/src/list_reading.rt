@@ -9,7 +9,7 @@ ghost use Rattle.desk_cli.specs.Replay.{Opens, lines_of, lines_until};
 use crate::list_end::is_past;
 use crate::list_lines::{is_empty, read_line};
 use building::Building;
-use cli_common::{Listed, RunFault};
+use cli_common::{ListInput, RunFault};
 use deliveries::Delivery;
 use delivery_json::{LineFault, ParsedLine, parse_line};
 use json::Scratch;
@@ -23,7 +23,7 @@ use std::io::{self, BufReader, Read};
 pub fn list_deliveries<'a, D: Read + Drop, O>(
     alloc: Global,
     building: &Building,
-    list: Listed<'a, O>,
+    list: ListInput<'a, O>,
     until: Option<i64>,
 ) -> Result<Vec<Delivery>, RunFault<'a>>
 where
@@ -33,7 +33,7 @@ where
         → Opens (O.post list.entry.open) (bytes_of (reader_remaining D.remaining)) bytes
         → Collects building.now (lines_until building.now until (lines_of bytes)) [] deliveries.items) }
 {
-    let Listed { path, open } = list;
+    let ListInput { path, open } = list;
     match open() {
         Ok(reader) => read_deliveries(alloc, building, path, reader, until),
         Err(error) => Err(RunFault::of_read(&error, path)),

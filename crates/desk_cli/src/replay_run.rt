@@ -17,7 +17,7 @@ ghost use Rattle.desk_cli.specs.Replay.{lines_of, lines_until, point_lines, stat
 use crate::line_answer::answer_line;
 use crate::list_end::is_past;
 use crate::list_lines::{is_empty, read_line};
-use cli_common::{Input, Listed, RunFault, Status, flush, print_text, read_building};
+use cli_common::{Input, ListInput, RunFault, Status, flush, print_text, read_building};
 use delivery_json::LineFault;
 use desk::Desk;
 use json::Scratch;
@@ -43,7 +43,7 @@ use store_memory::MemStore;
 pub fn replay<B: Read + Drop, D: Read + Drop, O, W: Write, F: Write>(
     alloc: Global,
     file: Input<'_, B>,
-    deliveries: Listed<'_, O>,
+    deliveries: ListInput<'_, O>,
     until: Option<i64>,
     out: &mut W,
     fault: &mut F,
@@ -74,7 +74,7 @@ where
 fn replay_over<'a, B: Read + Drop, D: Read + Drop, O, W: Write>(
     alloc: Global,
     file: Input<'a, B>,
-    deliveries: Listed<'a, O>,
+    deliveries: ListInput<'a, O>,
     until: Option<i64>,
     out: &mut W,
 ) -> Result<(), RunFault<'a>>
@@ -100,7 +100,7 @@ where
 fn print_list<'a, S: Store + Drop, D: Read + Drop, O, W: Write>(
     alloc: Global,
     desk: &mut Desk<S>,
-    deliveries: Listed<'a, O>,
+    deliveries: ListInput<'a, O>,
     until: Option<i64>,
     out: &mut W,
 ) -> Result<(), RunFault<'a>>
@@ -118,7 +118,7 @@ where
         → Holds desk.old.building [] (S.standing desk.old.store)
         → PrintsNoMore until file_bytes list_bytes (W.contents out.old) (W.contents out.new) }
 {
-    let Listed { path, open } = deliveries;
+    let ListInput { path, open } = deliveries;
     match open() {
         Ok(reader) => print_replies(alloc, desk, path, reader, until, out)?,
         Err(error) => return Err(RunFault::of_read(&error, path)),

@@ -12,7 +12,7 @@ ghost use Rattle.desk_cli.specs.Straighten.{Straightens, StraightensNoMore};
 
 use crate::list_reading::list_deliveries;
 use building::Building;
-use cli_common::{Input, Listed, RunFault, Status, flush, print_text, read_building};
+use cli_common::{Input, ListInput, RunFault, Status, flush, print_text, read_building};
 use deliveries::Delivery;
 use delivery_json::line_of_delivery;
 use std::alloc::Global;
@@ -29,7 +29,7 @@ use std::io::{self, BufReader, Read, Write};
 pub fn straighten<B: Read + Drop, D: Read + Drop, O, W: Write, F: Write>(
     alloc: Global,
     file: Input<'_, B>,
-    list: Listed<'_, O>,
+    list: ListInput<'_, O>,
     out: &mut W,
     fault: &mut F,
 ) -> Status
@@ -59,7 +59,7 @@ where
 fn straighten_over<'a, B: Read + Drop, D: Read + Drop, O, W: Write>(
     alloc: Global,
     file: Input<'a, B>,
-    list: Listed<'a, O>,
+    list: ListInput<'a, O>,
     out: &mut W,
 ) -> Result<(), RunFault<'a>>
 where

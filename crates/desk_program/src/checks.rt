@@ -1,6 +1,6 @@
 //! The check of a building file and a database beside it, and of a record beside both.
 use cli_check::{Detail, check_database};
-use cli_common::{Input, Listed, Status};
+use cli_common::{Input, ListInput, Status};
 use cli_record::check_record;
 use std::fs;
 use std::io::{self, BufReader, BufWriter, ErrorKind, Read, Write};
@@ -107,7 +107,7 @@ pub fn run_record<'a>(
         path: file,
         reader: fs::open(rt, file),
     };
-    let list = Listed {
+    let list = ListInput {
         path: record,
         open: || BufReader::new(rt.alloc(), fs::open(rt, record)?),
     };
@@ -123,7 +123,7 @@ pub fn run_record<'a>(
 fn run_record_over<'a, B: Read + Drop, D: Read + Drop, P, S: Store + Drop, O, W: Write, F: Write>(
     rt: &HostRuntime,
     building: Input<'a, B>,
-    list: Listed<'a, P>,
+    list: ListInput<'a, P>,
     found: Found<'a, O>,
     out: &mut W,
     fault: &mut F,

@@ -3,7 +3,7 @@
 
 use crate::runs::DatabaseRun;
 use cli_check::{Detail, check};
-use cli_common::{Input, Listed, Status};
+use cli_common::{Input, ListInput, Status};
 use cli_store::Serving;
 use cli_why::why;
 use cli_words::{ArgFault, Line};
@@ -129,7 +129,7 @@ fn run_list(
     let mut out = BufWriter::new(alloc, io::writer(rt))?;
     let fault = &mut rt.stderr();
     let building = building_at(rt, file);
-    let list = Listed {
+    let list = ListInput {
         path: deliveries,
         open: || open_list(rt, deliveries),
     };

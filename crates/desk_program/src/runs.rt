@@ -1,6 +1,8 @@
 //! The runs of the subcommands that take a database.
 use cli_common::{Input, Status};
-use cli_store::{Asked, Ended, Opening, Recording, Serving, deliver, finish, report, serve};
+use cli_store::{
+    ClockDelivery, Ended, Opening, Recording, Serving, deliver, finish, report, serve,
+};
 use sqlite_disk::Disk;
 use std::alloc::Global;
 use std::fs;
@@ -122,10 +124,18 @@ where
     match run {
         DatabaseRun::Import { holidays } => {
             let list = input_of(holidays);
-            deliver(alloc, file, Asked::Import { list }, opening, out, fault).into_ended()
+            deliver(
+                alloc,
+                file,
+                ClockDelivery::Import { list },
+                opening,
+                out,
+                fault,
+            )
+            .into_ended()
         }
         DatabaseRun::Tick { at } => {
-            let asked: Asked<'a, B> = Asked::Tick { at: *at };
+            let asked: ClockDelivery<'a, B> = ClockDelivery::Tick { at: *at };
             deliver(alloc, file, asked, opening, out, fault).into_ended()
         }
         DatabaseRun::Report { date } => report(alloc, file, opening.store, date, out, fault),

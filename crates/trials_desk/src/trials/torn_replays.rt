@@ -1,5 +1,5 @@
 //! A reader and a writer that fail in the midst.
-use cli_common::{Input, Listed, Status};
+use cli_common::{Input, ListInput, Status};
 use desk_cli::replay;
 use std::alloc::Global;
 use std::io::{self, BufReader, Read, Write};
@@ -68,7 +68,7 @@ fn run<D: Read + Drop, W: Write>(
         path: "building.toml",
         reader: Ok(BUILDING.as_bytes()),
     };
-    let list = Listed {
+    let list = ListInput {
         path: "list.jsonl",
         open: || BufReader::new(alloc, list),
     };

@@ -1,4 +1,4 @@
-//! What a run is asked to deliver.
+//! A delivery by the clock: a tick or an import.
 ghost use Rattle.std.specs.Prelude.{◌≡◌, List, ℕ, Some, IfOk};
 ghost use Rattle.cli_common.specs.Input.{bytes_of};
 ghost use Rattle.cli_store.specs.Answered.{Asks, IsImport};
@@ -11,9 +11,9 @@ use points::Listing;
 use std::alloc::Global;
 use std::io::Read;
 
-/// What a run is asked to deliver.
+/// What a run delivers: a tick or an import.
 #[derive(Drop)]
-pub enum Asked<'a, L> {
+pub enum ClockDelivery<'a, L> {
     /// A tick at a moment, in hundredths of a second since 1970: `desk tick`.
     Tick { at: i64 },
     /// The import of a holiday list: `desk import`.
@@ -24,13 +24,13 @@ pub enum Asked<'a, L> {
 pub(crate) fn read_asked<'a, L: Read + Drop>(
     alloc: Global,
     building: &Building,
-    asked: Asked<'a, L>,
+    asked: ClockDelivery<'a, L>,
 ) -> Result<Delivery, RunFault<'a>>
     ensures { IfOk result (Asks L.remaining asked.entry building.now) }
 {
     match asked {
-        Asked::Tick { at } => Ok(Delivery::Tick { at }),
-        Asked::Import { list } => read_import(alloc, building, list),
+        ClockDelivery::Tick { at } => Ok(Delivery::Tick { at }),
+        ClockDelivery::Import { list } => read_import(alloc, building, list),
     }
 }
 

@@ -11,17 +11,17 @@ use store::{OpenFault, StoreFault};
 
 /// Why the run stopped.
 #[derive(Clone, Copy)]
-pub(crate) enum RecordFault<'a> {
+pub(crate) enum RecordRunFault<'a> {
     /// As any run stops.
     Run(RunFault<'a>),
     /// There is no database at this path.
     NoDatabase { path: &'a str },
 }
 
-impl<'a> RecordFault<'a> {
+impl<'a> RecordRunFault<'a> {
     /// What ends a run whose store is not opened.
-    pub fn of_opening(fault: OpenFault) -> RecordFault<'a> {
-        RecordFault::Run(match fault {
+    pub fn of_opening(fault: OpenFault) -> RecordRunFault<'a> {
+        RecordRunFault::Run(match fault {
             OpenFault::NoMemory => RunFault::NoMemory,
             OpenFault::Failed => RunFault::Store(StoreFault::Failed),
             OpenFault::UnknownTables => RunFault::UnknownTables,
@@ -30,8 +30,8 @@ impl<'a> RecordFault<'a> {
     }
 
     /// What ends a run whose tables are not compared.
-    pub fn of_comparing(fault: CompareFault) -> RecordFault<'a> {
-        RecordFault::Run(match fault {
+    pub fn of_comparing(fault: CompareFault) -> RecordRunFault<'a> {
+        RecordRunFault::Run(match fault {
             CompareFault::Held(fault) | CompareFault::Recorded(fault) => RunFault::from(fault),
             CompareFault::NoMemory => RunFault::NoMemory,
         })
@@ -42,16 +42,16 @@ impl<'a> RecordFault<'a> {
         ensures { (result ≡ Status.Done) → ⊥ }
     {
         match self {
-            RecordFault::Run(fault) => fault.status(),
-            RecordFault::NoDatabase { .. } => Status::Fault,
+            RecordRunFault::Run(fault) => fault.status(),
+            RecordRunFault::NoDatabase { .. } => Status::Fault,
         }
     }
 
     /// The fault that is printed where the output is flushed after this one: of two ends the one that lost output.
-    pub fn after(self, flushed: io::Result<()>) -> RecordFault<'a> {
+    pub fn after(self, flushed: io::Result<()>) -> RecordRunFault<'a> {
         match flushed {
             Ok(()) => self,
-            Err(_) => RecordFault::Run(RunFault::OutputFailed),
+            Err(_) => RecordRunFault::Run(RunFault::OutputFailed),
         }
     }
 
@@ -61,39 +61,39 @@ impl<'a> RecordFault<'a> {
     }
 }
 
-impl fmt::Display for RecordFault<'_> {
+impl fmt::Display for RecordRunFault<'_> {
     fn fmt<W: fmt::Write>(&self, f: &mut fmt::Formatter<W>) -> fmt::Result {
         match self {
-            RecordFault::Run(fault) => write!(f, "{fault}"),
-            RecordFault::NoDatabase { path } => write!(f, "desk: no database at {path}"),
+            RecordRunFault::Run(fault) => write!(f, "{fault}"),
+            RecordRunFault::NoDatabase { path } => write!(f, "desk: no database at {path}"),
         }
     }
 }
 
-impl<'a> From<RunFault<'a>> for RecordFault<'a> {
-    ghost use Rattle.cli_record.specs.declared.record_fault.RecordFault.{RecordFault};
+impl<'a> From<RunFault<'a>> for RecordRunFault<'a> {
+    ghost use Rattle.cli_record.specs.declared.record_run_fault.RecordRunFault.{RecordRunFault};
 
-    ghost from_gives = { λ fault given. given ≡ RecordFault.Run fault };
+    ghost from_gives = { λ fault given. given ≡ RecordRunFault.Run fault };
 
     fn from(fault: RunFault<'a>) -> Self {
-        RecordFault::Run(fault)
+        RecordRunFault::Run(fault)
     }
 }
 
-impl From<BuildingFault> for RecordFault<'_> {
+impl From<BuildingFault> for RecordRunFault<'_> {
     fn from(fault: BuildingFault) -> Self {
-        RecordFault::Run(RunFault::from(fault))
+        RecordRunFault::Run(RunFault::from(fault))
     }
 }
 
-impl From<StoreFault> for RecordFault<'_> {
+impl From<StoreFault> for RecordRunFault<'_> {
     fn from(fault: StoreFault) -> Self {
-        RecordFault::Run(RunFault::from(fault))
+        RecordRunFault::Run(RunFault::from(fault))
     }
 }
 
-impl From<AllocError> for RecordFault<'_> {
+impl From<AllocError> for RecordRunFault<'_> {
     fn from(_error: AllocError) -> Self {
-        RecordFault::Run(RunFault::NoMemory)
+        RecordRunFault::Run(RunFault::NoMemory)
     }
 }
