@@ -1,4 +1,4 @@
-//! What has a panel's journal, what does a reply of the desk say a panel, and what is pressed by a line?
+//! What is in a panel's journal, what does a reply of the desk tell a panel, and what is pressed by a line?
 //!
 //! A journal is a text of lines, each one JSON object (`Entry`): the panel's name and its first number, then what was
 //! pressed, what was heard, and what was given up, in the order in which it was done. `line_of` writes an entry, and
