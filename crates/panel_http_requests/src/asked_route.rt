@@ -1,15 +1,15 @@
 //! The route that a head asks, with the length of its body.
 
-ghost use Rattle.std.specs.Prelude.{◌≡◌, IsUtf8, option_map};
+ghost use Rattle.std.specs.Prelude.{◌≡◌, IfSome, IsUtf8, option_map};
 ghost use Rattle.points.specs.FaultSteps.{result_map};
 ghost use Rattle.httparse.specs.Grammar.{RequestHead};
 ghost use Rattle.httparse.specs.Spans.{IsRequestAt, IsRequestWithin};
-ghost use Rattle.panel_http_requests.specs.Routes.{route_value, route_of};
+ghost use Rattle.panel_http_requests.specs.Routes.{limit_of, route_value, route_of};
 ghost use Rattle.panel_http_requests.specs.AskedRoute.{of_length, route_asked, shown, within_limit};
 
 use crate::content_length::body_length;
 use crate::refusal::Refusal;
-use crate::route::Route;
+use crate::route::{FoundRoute, Route};
 use crate::routes::Routes;
 use http::Method;
 use httparse::spans::{HeaderSpan, RequestSpans};
@@ -61,24 +61,32 @@ fn asked_by<'a>(
 {
     let length = length.ok_or(Refusal::UnclearLength)?;
     let target = text_of(target).ok_or(Refusal::NoRoute)?;
-    let route = route_of(alloc, routes, method, target).ok_or(Refusal::NoRoute)?;
-    within_limit(route, length)
+    let found = route_of(alloc, routes, method, target).ok_or(Refusal::NoRoute)?;
+    within_limit(found, length)
 }
 
 /// The route that a method's token and a target ask. A token of which no `Method` can be made has none: only one that
 /// is longer than any method of the table takes memory.
-fn route_of<'a>(alloc: Global, routes: &Routes, method: &[u8], target: &'a str) -> Option<Route<'a>>
-    ensures { option_map route_value result ≡ route_of method.now target.now }
+fn route_of<'a>(
+    alloc: Global,
+    routes: &Routes,
+    method: &[u8],
+    target: &'a str,
+) -> Option<FoundRoute<'a>>
+    ensures route { option_map (λ found. route_value found.route) result ≡ route_of method.now target.now }
+    ensures limit { IfSome result (λ found. found.limit ≡ limit_of (route_value found.route)) }
 {
     let method = Method::from_bytes(alloc, method).ok()?;
     routes.find(&method, target)
 }
 
-/// A route, with a body of this length.
-fn within_limit(route: Route<'_>, length: u32) -> Result<AskedRoute<'_>, Refusal>
-    ensures { result_map shown result ≡ within_limit (route_value route.entry) length }
+/// A route that is found, with a body of this length.
+fn within_limit(found: FoundRoute<'_>, length: u32) -> Result<AskedRoute<'_>, Refusal>
+    requires { found.entry.limit ≡ limit_of (route_value found.entry.route) }
+    ensures { result_map shown result ≡ within_limit (route_value found.entry.route) length }
 {
-    match route.body_limit() {
+    let FoundRoute { route, limit } = found;
+    match limit {
         None => Ok(AskedRoute { route, length: 0 }),
         Some(limit) if length <= limit => Ok(AskedRoute { route, length }),
         Some(_) => Err(Refusal::TooLong),

@@ -1,8 +1,5 @@
 //! What a request asks of the desk.
 
-ghost use Rattle.std.specs.Prelude.{◌≡◌};
-ghost use Rattle.panel_http_requests.specs.Routes.{route_value, limit_of};
-
 /// What a request asks, with the parameter of its route: one segment of the target that isn't empty, as it
 /// stands. Where the target has a byte past ASCII the parameter is `None`: no name and no date has such a byte.
 #[derive(Clone, Copy)]
@@ -33,15 +30,10 @@ pub enum Route<'a> {
     },
 }
 
-impl<'a> Route<'a> {
-    /// The greatest number of bytes in the body of a POST, and `None` for a GET, whose body is not looked at.
-    pub fn body_limit(&self) -> Option<u32>
-        ensures { result ≡ limit_of (route_value self.now) }
-    {
-        match self {
-            Route::Commands { .. } | Route::Skip { .. } | Route::Tick => Some(65_536),
-            Route::Imports => Some(262_144),
-            Route::Point { .. } | Route::Report { .. } => None,
-        }
-    }
+/// A route that is found, and the greatest number of bytes in its body.
+#[derive(Clone, Copy)]
+pub(crate) struct FoundRoute<'a> {
+    pub(crate) route: Route<'a>,
+    /// `None` for a GET, whose body is not looked at.
+    pub(crate) limit: Option<u32>,
 }

@@ -1,12 +1,12 @@
 //! The table of routes.
 
-ghost use Rattle.std.specs.Prelude.{◌≡◌, IfOk, option_copied, option_map};
+ghost use Rattle.std.specs.Prelude.{◌≡◌, IfOk, IfSome, option_copied, option_map};
 ghost use Rattle.std.specs.List.{list_all};
 ghost use Rattle.matchit.specs.Params.{walk};
-ghost use Rattle.panel_http_requests.specs.Routes.{route_value, get_rows, is_ascii_byte, part_taken, post_rows};
+ghost use Rattle.panel_http_requests.specs.Routes.{route_value, get_rows, limit_of, is_ascii_byte, part_taken, post_rows};
 ghost use Rattle.panel_http_requests.specs.Routes.{route_among, route_of, route_with, rows_of, with_row};
 
-use crate::route::Route;
+use crate::route::{FoundRoute, Route};
 use http::Method;
 use matchit::{Params, Router};
 use std::alloc::{AllocError, Global};
@@ -51,8 +51,9 @@ impl Routes {
     }
 
     /// The route that a method and a target ask.
-    pub fn find<'a>(&self, method: &Method, target: &'a str) -> Option<Route<'a>>
-        ensures { option_map route_value result ≡ route_of method.now target.now }
+    pub(crate) fn find<'a>(&self, method: &Method, target: &'a str) -> Option<FoundRoute<'a>>
+        ensures route { option_map (λ found. route_value found.route) result ≡ route_of method.now target.now }
+        ensures limit { IfSome result (λ found. found.limit ≡ limit_of (route_value found.route)) }
     {
         find_among(self.rows_of(method)?, target)
     }
@@ -72,8 +73,9 @@ impl Routes {
 }
 
 /// The route among these that a target asks.
-fn find_among<'a>(rows: &Router<Row>, target: &'a str) -> Option<Route<'a>>
-    ensures { option_map route_value result ≡ route_among target.now rows.now }
+fn find_among<'a>(rows: &Router<Row>, target: &'a str) -> Option<FoundRoute<'a>>
+    ensures route { option_map (λ found. route_value found.route) result ≡ route_among target.now rows.now }
+    ensures limit { IfSome result (λ found. found.limit ≡ limit_of (route_value found.route)) }
 {
     match rows.at(target) {
         Ok(found) => Some(route_with(*found.value, part_taken(&found.params, target))),
@@ -81,18 +83,20 @@ fn find_among<'a>(rows: &Router<Row>, target: &'a str) -> Option<Route<'a>>
     }
 }
 
-/// The route of a row, with its parameter.
-fn route_with(row: Row, parameter: Option<&str>) -> Route<'_>
-    ensures { route_value result ≡ route_with row (option_map (λ s. s.now) parameter.entry) }
+/// The route of a row, with its parameter and its limit.
+fn route_with(row: Row, parameter: Option<&str>) -> FoundRoute<'_>
+    ensures route { route_value result.route ≡ route_with row (option_map (λ s. s.now) parameter.entry) }
+    ensures limit { result.limit ≡ limit_of (route_value result.route) }
 {
-    match row {
-        Row::Commands => Route::Commands { panel: parameter },
-        Row::Skip => Route::Skip { panel: parameter },
-        Row::Tick => Route::Tick,
-        Row::Imports => Route::Imports,
-        Row::Point => Route::Point { point: parameter },
-        Row::Report => Route::Report { date: parameter },
-    }
+    let (route, limit) = match row {
+        Row::Commands => (Route::Commands { panel: parameter }, Some(65_536)),
+        Row::Skip => (Route::Skip { panel: parameter }, Some(65_536)),
+        Row::Tick => (Route::Tick, Some(65_536)),
+        Row::Imports => (Route::Imports, Some(262_144)),
+        Row::Point => (Route::Point { point: parameter }, None),
+        Row::Report => (Route::Report { date: parameter }, None),
+    };
+    FoundRoute { route, limit }
 }
 
 /// What the first parameter took of the target, if all of that is ASCII.

@@ -1,11 +1,11 @@
 //! What becomes of what is pressed at a panel, over both ends?
 //!
 //! A life (`specs/Life.antt`) is what one run of a panel's end does: it numbers from a first number on, presses, and
-//! gives up. Of any list of
-//! deliveries in which each of its panel's was sent by that life, or by an earlier one below the first number, with
-//! whatever is lost, repeated, reordered, or comes from others in between, the laws (`specs/Laws.antt`) say what the
-//! definitions of `deliveries` act on, and what each reply means (`specs/Means.antt`). Each is the contract of a
-//! function that does nothing. That a run of the end sends nothing else is the contract of `panel`.
+//! gives up. Of any list of deliveries in which each of its panel's was sent by that life, or by an earlier one below the
+//! first number, with whatever is lost, repeated, reordered, or comes from others in between, the laws
+//! (`specs/Laws.antt`) say what the definitions of `deliveries` act on, and what each reply means (`specs/Means.antt`).
+//! Each is the contract of a function that does nothing. That a run of the end sends nothing else is the contract of
+//! `panel`.
 #![tactic(auto)]
 
 ghost use Rattle.panel_laws.specs.Laws.{AtRestAllIsDone, CommandsAreApplied, CommandsAreFirst, CommandsArePressed};
