@@ -82,7 +82,7 @@ fn route_of<'a>(
 
 /// A route that is found, with a body of this length.
 fn within_limit(found: FoundRoute<'_>, length: u32) -> Result<AskedRoute<'_>, Refusal>
-    requires { found.entry.limit ≡ limit_of (route_value found.entry.route) }
+    requires { found.limit ≡ limit_of (route_value found.route) }
     ensures { result_map shown result ≡ within_limit (route_value found.entry.route) length }
 {
     let FoundRoute { route, limit } = found;

@@ -3,11 +3,12 @@ use Rattle.std.specs.Option.{is_some}
 use Rattle.std.proofs.lemmas.Bool.{false≢true}
 use Rattle.panel_http_requests.proofs.MethodLemmas.{no_route-of_long}
 use Rattle.panel_http_requests.specs.Routes.{route_value}
+use Rattle.panel_http_requests.specs.declared.route.FoundRoute.{FoundRoute}
 use Rattle.panel_http_requests.proofs.asked_route.route_of.Goals as goal
 
-pub returns-in_err-method : goal.returns-in_err-method
-returns-in_err-method c =
+pub returns-in_err-method-clause-route : goal.returns-in_err-method-clause-route
+returns-in_err-method-clause-route c =
     let failed = sym c.ok.ensures.variant ∙ ap is_some c.in_err-method.was in
     let made = c.from_bytes.ensures.no_memory_needed in
-    ap (option_map route_value) c.from_residual.ensures
+    ap (option_map (λ (found : FoundRoute). route_value found.route)) c.from_residual.ensures
     ∙ sym (no_route-of_long c.args.method.now c.args.target.now (λ token short. false≢true (sym failed ∙ made token short)))
