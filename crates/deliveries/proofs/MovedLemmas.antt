@@ -244,11 +244,11 @@ module _ (b : Building) (E : List Delivery) (d : Delivery) (ask : asks.Ask) (pla
   pub reply-answered : (answer : Answer) → first_answer b (tables b E).places who plan.apply ≡ Some answer
       → reply b E d ≡ reply_on plan.verdict (asks.front held) plan.next (number_in_reply d) answer
   reply-answered answer first = elim (is_applies plan.verdict) [
-      | inl applies ↦
-          reply-given
-          ∙ ap (reply_on plan.verdict (asks.front held) plan.next (number_in_reply d)) (is_same (sym (applies-given applies) ∙ first))
-      | inr other ↦ reply-other answer other
-    ]
+    | inl applies ↦
+        reply-given
+        ∙ ap (reply_on plan.verdict (asks.front held) plan.next (number_in_reply d)) (is_same (sym (applies-given applies) ∙ first))
+    | inr other ↦ reply-other answer other
+  ]
     where
       is_same : Some given ≡ Some answer → given ≡ answer
       is_same e = cc

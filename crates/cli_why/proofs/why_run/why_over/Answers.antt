@@ -12,8 +12,8 @@ use Rattle.cli_why.proofs.why_run.why_over.Goals as goal
 
 -- what is printed, once the building, the point and the list are read
 found : (g : given.Over) (c : After-print_text g) (file_bytes list_bytes : List ℕ)
-    → bytes_of g.B.Read.remaining c.args.file.entry.reader ≡ Some file_bytes
-    → Opens (g.O.FnOnce.post c.args.list.entry.open) (bytes_of (reader_remaining g.D.Read.remaining)) list_bytes
+    → bytes_of g.B.Read.remaining c.args.file.reader ≡ Some file_bytes
+    → Opens (g.O.FnOnce.post c.args.list.open) (bytes_of (reader_remaining g.D.Read.remaining)) list_bytes
     → Found file_bytes list_bytes c.args.name.now c.args.until c.in_ok-building.building c.in-Some.point.now
     c.in_ok-deliveries.deliveries.items c.as_bytes.result.now
 found g c file_bytes list_bytes file list =
