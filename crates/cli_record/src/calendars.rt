@@ -3,7 +3,7 @@ ghost use Rattle.std.specs.Prelude.{◌≡◌, ◌++◌, List, IfOk, OnOk, map, 
 ghost use Rattle.std.specs.List.{flat_map, list_any};
 ghost use Rattle.std.specs.Str.{bytes_eq};
 ghost use Rattle.dates.specs.Entry.{spelling};
-ghost use Rattle.store.specs.ListInput.{AreEntries};
+ghost use Rattle.store.specs.Listed.{AreEntries};
 ghost use Rattle.store.specs.Standing.{IsOpen};
 ghost use Rattle.cli_record.specs.declared.difference.Difference.{Difference as a_difference};
 ghost use Rattle.cli_record.specs.declared.difference.Difference.TheVariants.{NotRecorded, RecordedAlone};
