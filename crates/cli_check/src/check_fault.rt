@@ -46,7 +46,7 @@ impl<'a> CheckFault<'a> {
         }
     }
 
-    /// Tells the fault as one line, and its explanation as another.
+    /// Prints the fault as one line, and its explanation as another.
     pub fn print<F: Write>(&self, alloc: Global, out: &mut F) {
         match self {
             CheckFault::Run(fault) => fault.print(alloc, out),
@@ -58,7 +58,7 @@ impl<'a> CheckFault<'a> {
     }
 }
 
-/// Tells a fault and its explanation: in one write, or where memory is refused for that, the fault's line alone.
+/// Prints a fault and its explanation: in one write, or where memory is refused for that, the fault's line alone.
 fn print_explained<F: Write>(alloc: Global, fault: FileFault, explanation: &str, out: &mut F) {
     match explained_lines(alloc, fault, explanation) {
         Ok(lines) => {

@@ -19,10 +19,10 @@ pub compares-recorded : {A : Type 0} {IsSo : Tables → Tables → A → Type 0}
     → Reads None old new → Compares IsSo (Err (Recorded fault)) old new other_old other_new
 compares-recorded reads = record { reads = reads; reads_other = tt; found = λ honest honest_other. tt }
 
-pub compares-both : {A : Type 0} {IsSo : Tables → Tables → A → Type 0} {told : A} {old new other_old other_new : Standing}
+pub compares-both : {A : Type 0} {IsSo : Tables → Tables → A → Type 0} {compared : A} {old new other_old other_new : Standing}
     → Reads None old new → Reads None other_old other_new
-    → (new.is_honest → other_new.is_honest → IsSo old.content.tables other_old.content.tables told)
-    → Compares IsSo (Ok told) old new other_old other_new
+    → (new.is_honest → other_new.is_honest → IsSo old.content.tables other_old.content.tables compared)
+    → Compares IsSo (Ok compared) old new other_old other_new
 compares-both reads reads_other found = record { reads = reads; reads_other = reads_other; found = found }
 
 -- ---- what follows

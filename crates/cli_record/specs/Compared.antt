@@ -13,7 +13,7 @@ held_fault (Err (Held fault)) = Some fault
 held_fault (Err (Recorded fault)) = None
 held_fault {A} (Err NoMemory) = None
 
--- both stores are only read, and what is told is so of their tables
+-- both stores are only read, and what is found is so of their tables
 pub record Compares {A : Type 0} (IsSo : Tables → Tables → A → Type 0) (result : Result A CompareFault)
     (old new other_old other_new : Standing) : Type 0 where
   pub reads : Reads (held_fault result) old new

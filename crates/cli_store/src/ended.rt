@@ -49,7 +49,7 @@ impl<'a, S> From<RunFault<'a>> for Stopped<'a, S> {
 }
 
 impl<S> Stopped<'_, S> {
-    /// Tells the fault as one line, and hands the store on.
+    /// Prints the fault as one line, and hands the store on.
     pub(crate) fn print<F: Write>(self, alloc: Global, out: &mut F) -> Ended<S>
         ensures early { (result.status ≡ Status.Done) → ⊥ }
         ensures store { result.store ≡ self.entry.store }

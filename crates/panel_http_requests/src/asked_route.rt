@@ -5,7 +5,7 @@ ghost use Rattle.points.specs.FaultSteps.{result_map};
 ghost use Rattle.httparse.specs.Grammar.{RequestHead};
 ghost use Rattle.httparse.specs.Spans.{IsRequestAt, IsRequestWithin};
 ghost use Rattle.panel_http_requests.specs.Routes.{limit_of, route_value, route_of};
-ghost use Rattle.panel_http_requests.specs.AskedRoute.{of_length, route_asked, shown, within_limit};
+ghost use Rattle.panel_http_requests.specs.AskedRoute.{of_length, route_asked, shown, with_limit};
 
 use crate::content_length::body_length;
 use crate::refusal::Refusal;
@@ -80,10 +80,9 @@ fn route_of<'a>(
     routes.find(&method, target)
 }
 
-/// A route that is found, with a body of this length.
+/// A route that is found, with a body of this length, if its limit allows it.
 fn within_limit(found: FoundRoute<'_>, length: u32) -> Result<AskedRoute<'_>, Refusal>
-    requires { found.limit ≡ limit_of (route_value found.route) }
-    ensures { result_map shown result ≡ within_limit (route_value found.entry.route) length }
+    ensures { result_map shown result ≡ with_limit found.entry.limit (route_value found.entry.route) length }
 {
     let FoundRoute { route, limit } = found;
     match limit {

@@ -9,7 +9,7 @@ use std::io::{self, Read, Write};
 /// A reader or a writer, and how often it has failed.
 #[derive(Drop)]
 pub struct Counted<T> {
-    pub(crate) inner: T,
+    inner: T,
     failures: u64,
 }
 
@@ -36,7 +36,7 @@ impl<T> Counted<T> {
         self.inner
     }
 
-    pub(crate) fn count(&mut self)
+    fn count(&mut self)
         ensures risen { HasRisen self.old.failures self.new.failures }
         ensures inner { self.new.inner ≡ self.old.inner }
     {

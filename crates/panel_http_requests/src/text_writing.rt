@@ -4,7 +4,6 @@ ghost use Rattle.std.specs.Io.KnownBytes.{Appends};
 ghost use Rattle.panel_http_requests.specs.Counting.{Lost};
 
 use crate::counted_end::Counted;
-use points::write_whole;
 use std::io::Write;
 
 /// Writes a text, and answers whether it was written whole. If not, a beginning of it was, and the writer's count has
@@ -14,9 +13,12 @@ pub fn write_text<W: Write>(writer: &mut Counted<W>, text: &[u8]) -> bool
     ensures lost { result ≡ false
         → Lost (W.contents writer.old.inner) (W.contents writer.new.inner) text.now writer.old.failures writer.new.failures }
 {
-    if write_whole(&mut writer.inner, text) {
-        return true;
+    let mut rest = text;
+    while !rest.is_empty() {
+        match writer.write(rest) {
+            Ok(0) | Err(_) => return false,
+            Ok(count) => rest = &rest[count..],
+        }
     }
-    writer.count();
-    false
+    true
 }
