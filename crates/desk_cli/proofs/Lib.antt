@@ -1,5 +1,4 @@
 pub mod CollectLemmas
-pub mod CutLemmas
 pub mod LineLemmas
 pub mod ReplayLemmas
 pub mod StopLemmas
