@@ -1,4 +1,5 @@
 pub mod CollectLemmas
+pub mod CutLemmas
 pub mod LineLemmas
 pub mod ReplayLemmas
 pub mod StopLemmas

@@ -1,6 +1,6 @@
 //! The bytes of an input, gathered as they come.
 
-ghost use Rattle.std.specs.Prelude.{◌≡◌, ◌+◌, OnErr, OnOk, IfOk, length};
+ghost use Rattle.std.specs.Prelude.{◌≡◌, ◌<◌, ◌+◌, OnErr, OnOk, IfOk, length};
 ghost use Rattle.std.specs.Io.KnownBytes.{IsAtEnd, Keeps};
 ghost use Rattle.building.specs.Building.{Building as a_building};
 ghost use Rattle.panel_http.specs.Gathering.{Takes};
@@ -13,6 +13,9 @@ use std::io::{self, ErrorKind, Read};
 
 /// How many bytes are read at once at most.
 const READ: usize = 8_192;
+
+/// How many bytes are read at first at most: nearly every request is shorter, and each read clears its room.
+const FIRST_READ: usize = 1_024;
 
 /// How many reads an input has at a turn, so that none holds the others up.
 const READS: u32 = 8;
@@ -72,9 +75,25 @@ pub fn take_some<R: Read>(reader: &mut R, come: &mut Vec<u8>) -> io::Result<usiz
     ensures none { OnErr result (Keeps (R.remaining reader.old) (R.remaining reader.new)) }
     ensures same { OnErr result (come.new.items ≡ come.old.items) }
 {
-    let mut scratch = [0; READ];
-    come.reserve_exact(READ)?;
-    let count = reader.read(&mut scratch)?;
+    if come.is_empty() {
+        take_into(reader, &mut [0; FIRST_READ], come)
+    } else {
+        take_into(reader, &mut [0; READ], come)
+    }
+}
+
+/// Reads once into `scratch`, and puts what was read behind what has come. Where it fails, for lack of memory too,
+/// nothing was read.
+fn take_into<R: Read>(reader: &mut R, scratch: &mut [u8], come: &mut Vec<u8>) -> io::Result<usize>
+    requires room { 0 < length scratch.old }
+    ensures taken { OnOk result (Takes (R.remaining reader.old) (R.remaining reader.new) come.old.items come.new.items) }
+    ensures count { IfOk result (λ count. length come.new.items ≡ length come.old.items + count) }
+    ensures end { IfOk result (λ count. count ≡ 0 → IsAtEnd (R.remaining reader.new)) }
+    ensures none { OnErr result (Keeps (R.remaining reader.old) (R.remaining reader.new)) }
+    ensures same { OnErr result (come.new.items ≡ come.old.items) }
+{
+    come.reserve_exact(scratch.len())?;
+    let count = reader.read(scratch)?;
     come.extend_from_slice(&scratch[..count])?;
     Ok(count)
 }

@@ -1,5 +1,5 @@
 -- The text of the places, one place after the other.
-use Rattle.std.proofs.Common.{◌≡◌, ◌∙◌, ◌≤◌, ◌+◌, ◌-◌, ℕ, List, [], ◌∷◌, ◌++◌, codes, sym, ap, arith, append_assoc}
+use Rattle.std.proofs.Common.{◌≡◌, ◌∙◌, ◌≤◌, ◌+◌, ◌-◌, ℕ, List, [], ◌∷◌, ◌++◌, codes, sym, ap, arith}
 use Rattle.std.proofs.lemmas.List.{flat_map_more, map-id}
 use Rattle.std.proofs.lemmas.List.FromFn.{map-range_with_len_more}
 use Rattle.std.specs.FinMap.{get}
@@ -19,15 +19,13 @@ range-more : (a n j : ℕ) → a + n ≡ j → range_with_len a (n + 1) ≡ rang
 range-more a n j e =
     sym (map-id (range_with_len a (n + 1))) ∙ map-range_with_len_more (λ x. x) a n j e ∙ ap (λ l. l ++ j ∷ []) (map-id (range_with_len a n))
 
-pub places-more : (places : Places) (priority : ℕ) (text place : List ℕ) → 2 ≤ priority → text ≡ places_before places priority
-    → place ≡ place_text (get places priority) → (text ++ codes ",") ++ place ≡ places_before places (priority + 1)
-places-more places priority text place least so_far reported =
+pub places-more : (places : Places) (priority : ℕ) (text : List ℕ) → 2 ≤ priority → text ≡ places_before places priority
+    → text ++ other_place places priority ≡ places_before places (priority + 1)
+places-more places priority text least so_far =
     let start = place_text (get places 1) in
     let others = flat_map (other_place places) in
     let next : priority + 1 - 2 ≡ priority - 2 + 1 = omega arith in
-    append_assoc text (codes ",") place
-    ∙ ap (λ l. text ++ (codes "," ++ l)) reported
-    ∙ ap (λ l. l ++ other_place places priority) so_far
+    ap (λ l. l ++ other_place places priority) so_far
     ∙ flat_map_more (other_place places) start (range_with_len 2 (priority - 2)) priority
     ∙ ap (λ l. start ++ others l) (sym (range-more 2 (priority - 2) priority (omega arith)))
     ∙ ap (λ n. start ++ others (range_with_len 2 n)) (sym next)

@@ -35,6 +35,9 @@ impl fmt::Display for ContentType {
     }
 }
 
+/// Room for a head, in bytes: none is longer.
+const HEAD_ROOM: usize = 128;
+
 /// The response of a status with a body.
 #[tactic(auto, unfolding(crate::specs::Response::response_text))]
 pub(crate) fn respond(
@@ -46,7 +49,9 @@ pub(crate) fn respond(
     ensures { IfOk result (Says (record { status = status; content = content; body = body.now })) }
 {
     let length = body.len();
-    let text = format!(in alloc;
+    let mut text = String::with_capacity(alloc, length.saturating_add(HEAD_ROOM))?;
+    write!(
+        text,
         "HTTP/1.1 {status}\r\nContent-Type: {content}\r\nContent-Length: {length}\r\nConnection: close\r\n\r\n{body}"
     )?;
     Ok(Response { status, text })

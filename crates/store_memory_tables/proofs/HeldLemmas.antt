@@ -1,15 +1,19 @@
 -- What a change of one entry of a table leaves at each name, and what a list of changes does.
 use Rattle.std.proofs.Common.{◌≡◌, ℕ, zero, suc, Bool, true, false, cond, List, [], ◌∷◌, Option, Some, None, IsSome, is_some, refl, sym, ap}
-use Rattle.std.proofs.Common.{◌∙◌, subst, inl, inr}
+use Rattle.std.proofs.Common.{◌∙◌, subst, inl, inr, slice_get, option_map}
 use Rattle.std.proofs.Common.{◌+◌, ◌-◌, ◌<◌, ◌≤◌, ◌&&◌, ◌||◌, get_or, drop, length, add-one, drop-cons, arith, Result, Ok, Err, OnOk, OnErr}
-use Rattle.std.specs.Cmp.Lexicographic.{slice_cmp}
+use Rattle.std.specs.Cmp.Lexicographic.{nat_list_eq_equiv, slice_cmp}
+use Rattle.std.specs.HashMap.{HashMap, IsUnique, get, values}
 use Rattle.std.specs.List.{All}
 use Rattle.std.specs.Ordering.{nat_cmp, is_eq}
 use Rattle.std.specs.Str.{bytes_eq}
 use Rattle.std.proofs.lemmas.Bool.{cases_Bool, cases_order, false≢true}
 use Rattle.std.proofs.lemmas.List.{get_or_default}
 use Rattle.std.proofs.lemmas.Map.Text.{is_eq-slice_cmp}
+use Rattle.std.proofs.lemmas.Option.{slice_get-map}
 use Rattle.std.proofs.lemmas.Slice.Eq.{bytes_eq-Decides}
+use Rattle.indexmap.specs.IndexMap.{with_value_at}
+use Rattle.indexmap.proofs.CallerLemmas.{updates-with_value_at}
 use Rattle.points.specs.declared.command_row.CommandRow.{CommandRow}
 use Rattle.points.specs.Run.{Rows, IsRun, row_before, rows_from}
 use Rattle.store.specs.Change.{with_each}
@@ -64,6 +68,19 @@ module _ {A : Type 0} {key : List ℕ} {was : Option A} {made : A} {old now : Li
             let at_q : seen (now q) ≡ seen (old q) = ap seen is_old in
             rw apart at_q
       ]
+
+-- a write by index changes the entry of the name that is there
+pub alters_at : {A S : Type 0} (m : HashMap (List ℕ) A S) (i : ℕ) (name : List ℕ) (was made : A) → IsUnique bytes_eq m
+    → (value : A) × (slice_get m.entries i ≡ Some (name, value)) × (get bytes_eq m name ≡ Some value)
+    → Some was ≡ slice_get (values m) i
+    → Alters name (Some was) made (get bytes_eq m) (get bytes_eq (with_value_at m i made))
+alters_at m i name was made unique entry here =
+    let there : slice_get (values m) i ≡ Some entry.0 =
+    slice_get-map (λ (e : List ℕ × _). e.1) m.entries i ∙ ap (option_map (λ (e : List ℕ × _). e.1)) entry.1 in
+    record {
+      before = entry.2 ∙ sym (here ∙ there);
+      after = (updates-with_value_at m i made nat_list_eq_equiv unique name entry.0 entry.1).0;
+    }
 
 -- what is seen of an entry that replaces any other
 pub replaced : {A B : Type 0} (seen : Option A → B) (b : Bool) (v : A) (was now : Option A) → now ≡ cond b (Some v) was

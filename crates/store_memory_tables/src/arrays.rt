@@ -8,15 +8,18 @@ ghost use Rattle.store.specs.Listed.{AreTexts};
 ghost use Rattle.store_memory_tables.specs.Slots.{IsStanding};
 ghost use Rattle.points.specs.Texts.{Text};
 
+use crate::found_last::{find, index_of};
+use indexmap::IndexMap;
 use points::{LOWEST_PRIORITY, Name, PriorityArray};
 use std::alloc::{AllocError, Global};
-use std::collections::HashMap;
 use store::PlaceValue;
 
 /// The priority arrays of points. A point without values may have an array too, which makes room for them.
 #[derive(Drop)]
 pub struct Arrays {
-    arrays: HashMap<Name, PriorityArray>,
+    arrays: IndexMap<Name, PriorityArray>,
+    // The index of the array that was found last.
+    last: usize,
 }
 
 fn has_value(array: &PriorityArray) -> bool
@@ -36,15 +39,17 @@ impl Arrays {
         ensures { (point : Text) → array_at result point ≡ None }
     {
         Arrays {
-            arrays: HashMap::new(alloc),
+            arrays: IndexMap::new(alloc),
+            last: 0,
         }
     }
 
     /// The array of a point.
-    pub fn array(&self, point: &Name) -> Result<PriorityArray, AllocError>
-        ensures { IfOk result (λ array. array ≡ places_of self.now point.now) }
+    pub fn array(&mut self, point: &Name) -> Result<PriorityArray, AllocError>
+        ensures array { IfOk result (λ array. array ≡ places_of self.old point.now) }
+        ensures same { self.new.arrays ≡ self.old.arrays }
     {
-        match self.arrays.get(point) {
+        match find(&self.arrays, &mut self.last, point) {
             Some(array) => array.clone(),
             None => Ok(PriorityArray::new()),
         }
@@ -70,7 +75,7 @@ impl Arrays {
         ensures stays { (q : Text) → IsSome (array_at self.old q) → IsSome (array_at self.new q) }
         ensures same { (q : Text) → places_of self.new q ≡ places_of self.old q }
     {
-        if !self.arrays.contains_key(point) {
+        if find(&self.arrays, &mut self.last, point).is_none() {
             self.arrays.insert(*point, PriorityArray::new())?;
         }
         Ok(())
@@ -101,7 +106,10 @@ impl Arrays {
         ensures places { (q : Text) → places_of self.new q ≡ with_place item.now (places_of self.old) q }
         ensures stays { (q : Text) → IsSome (array_at self.old q) → IsSome (array_at self.new q) }
     {
-        if let Some(array) = self.arrays.get_mut(&item.point) {
+        let Some(index) = index_of(&self.arrays, &mut self.last, &item.point) else {
+            return;
+        };
+        if let Some(array) = self.arrays.get_index_mut(index) {
             array.set(item.priority, item.value);
         }
     }

@@ -15,6 +15,7 @@ pub use spelled_entry::{SpelledEntry, spell};
 mod arrays;
 mod calendar_table;
 mod calendars;
+mod found_last;
 mod panel_table;
 mod panels;
 mod shown_values;

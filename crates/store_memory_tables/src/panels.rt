@@ -8,17 +8,20 @@ ghost use Rattle.store.specs.Listed.{AreTexts};
 ghost use Rattle.store_memory_tables.specs.Slots.{IsStanding};
 ghost use Rattle.points.specs.Texts.{Text};
 
+use crate::found_last::{find, index_of};
 use crate::panel_table::PanelTable;
+use indexmap::IndexMap;
 use points::{CommandRow, Name, NumberedRow};
 use std::alloc::{AllocError, Global};
-use std::collections::HashMap;
 use store::{KeptRow, NextNumber, RowsBelow};
 
 /// The next numbers of panels and the rows of their commands. A panel of which nothing is kept may have a
 /// table too, which makes room for it.
 #[derive(Drop)]
 pub struct Panels {
-    tables: HashMap<Name, PanelTable>,
+    tables: IndexMap<Name, PanelTable>,
+    // The index of the table that was found last.
+    last: usize,
 }
 
 impl Panels {
@@ -27,25 +30,28 @@ impl Panels {
         ensures { (panel : Text) → table_at result panel ≡ None }
     {
         Panels {
-            tables: HashMap::new(alloc),
+            tables: IndexMap::new(alloc),
+            last: 0,
         }
     }
 
     /// The next number of a panel.
-    pub fn next(&self, panel: &Name) -> u64
-        ensures { result ≡ next_of self.now panel.now }
+    pub fn next(&mut self, panel: &Name) -> u64
+        ensures next { result ≡ next_of self.old panel.now }
+        ensures same { self.new.tables ≡ self.old.tables }
     {
-        match self.tables.get(panel) {
+        match find(&self.tables, &mut self.last, panel) {
             Some(table) => table.next,
             None => 1,
         }
     }
 
     /// The row under a number of a panel.
-    pub fn row(&self, panel: &Name, number: u64) -> Option<CommandRow>
-        ensures { result ≡ row_of self.now panel.now number }
+    pub fn row(&mut self, panel: &Name, number: u64) -> Option<CommandRow>
+        ensures row { result ≡ row_of self.old panel.now number }
+        ensures same { self.new.tables ≡ self.old.tables }
     {
-        match self.tables.get(panel) {
+        match find(&self.tables, &mut self.last, panel) {
             Some(table) => table.row(number),
             None => None,
         }
@@ -54,16 +60,17 @@ impl Panels {
     /// The rows of a panel at the numbers from `from` up to and without `upto`, then those from `upto` on
     /// that follow without gap.
     pub fn run(
-        &self,
+        &mut self,
         alloc: Global,
         panel: &Name,
         from: u64,
         upto: u64,
     ) -> Result<Vec<NumberedRow>, AllocError>
         requires { from ≤ upto }
-        ensures { IfOk result (λ run. IsRun (row_of self.now panel.now) from upto run.items) }
+        ensures run { IfOk result (λ run. IsRun (row_of self.old panel.now) from upto run.items) }
+        ensures same { self.new.tables ≡ self.old.tables }
     {
-        match self.tables.get(panel) {
+        match find(&self.tables, &mut self.last, panel) {
             Some(table) => table.run(alloc, from, upto),
             None => Ok(Vec::new(alloc)),
         }
@@ -88,7 +95,7 @@ impl Panels {
         ensures room { OnOk result (IsSome (table_at self.new panel.now)) }
         ensures grows { Grows self.old self.new }
     {
-        if !self.tables.contains_key(panel) {
+        if find(&self.tables, &mut self.last, panel).is_none() {
             self.tables.insert(*panel, PanelTable::new(alloc))?;
         }
         Ok(())
@@ -100,7 +107,10 @@ impl Panels {
         ensures room { OnOk result (IsSome (slot_of self.new panel.now number)) }
         ensures grows { Grows self.old self.new }
     {
-        match self.tables.get_mut(panel) {
+        let Some(index) = index_of(&self.tables, &mut self.last, panel) else {
+            return Ok(());
+        };
+        match self.tables.get_index_mut(index) {
             Some(table) => table.make_room(number),
             None => Ok(()),
         }
@@ -139,7 +149,10 @@ impl Panels {
         ensures rows { (q : Text) (n : ℕ) → row_of self.new q n ≡ row_of self.old q n }
         ensures room { KeepsRoom self.old self.new }
     {
-        if let Some(table) = self.tables.get_mut(&item.panel) {
+        let Some(index) = index_of(&self.tables, &mut self.last, &item.panel) else {
+            return;
+        };
+        if let Some(table) = self.tables.get_index_mut(index) {
             table.next = item.next;
         }
     }
@@ -150,7 +163,10 @@ impl Panels {
         ensures next { (q : Text) → next_of self.new q ≡ next_of self.old q }
         ensures room { KeepsRoom self.old self.new }
     {
-        if let Some(table) = self.tables.get_mut(&item.panel) {
+        let Some(index) = index_of(&self.tables, &mut self.last, &item.panel) else {
+            return;
+        };
+        if let Some(table) = self.tables.get_index_mut(index) {
             table.set_row(item.number, item.row);
         }
     }
@@ -163,7 +179,10 @@ impl Panels {
         if item.number == 0 {
             return;
         }
-        if let Some(table) = self.tables.get_mut(&item.panel) {
+        let Some(index) = index_of(&self.tables, &mut self.last, &item.panel) else {
+            return;
+        };
+        if let Some(table) = self.tables.get_index_mut(index) {
             table.drop_below(item.number);
         }
     }

@@ -1,11 +1,19 @@
 -- What an answer of rows says of the rows that it shows.
-use Rattle.std.proofs.Common.{◌≡◌, List, [], ◌∷◌, filter, map, length, Bool, ◌≤◌, refl, sym, ap, ◌∙◌, arith}
+use Rattle.std.proofs.Common.{◌≡◌, List, [], ◌∷◌, filter, map, length, Bool, true, ◌≤◌, refl, sym, ap, ◌∙◌, arith}
 use Rattle.std.specs.List.Sorted.{IsPermutation}
-use Rattle.std.proofs.lemmas.List.Sorted.{length_permutation}
+use Rattle.std.proofs.lemmas.List.Sorted.{IsPermutation-sym, length_permutation}
+use Rattle.sqlite_rules.specs.Lists.{Has}
+use Rattle.sqlite_rules.proofs.ListLemmas.{all_from, all_has, has_filtered, has_kept}
+use Rattle.sqlite_rules.proofs.ProbeLemmas.{has_mapped, mapped_has}
+use Rattle.sqlite_trees.proofs.ListLemmas.{all-permutation}
 use Rattle.sqlite.proofs.Callers.{one_permutation}
 use Rattle.sqlite_value.specs.Order.{Row}
 use Rattle.store_sql_rows.specs.Looking.{Finds}
 use Rattle.store_sql_reads.specs.Asking.{AreSeveral}
+
+has_permuted : (rows answer : List Row) (row : Row) → IsPermutation rows answer → Has answer row → Has rows row
+has_permuted rows answer row same =
+    all_has (Has rows) answer row (all-permutation (Has rows) rows answer same (all_from (Has rows) rows (λ e here. here)))
 
 module _ (pick : Row → Bool) (show : Row → Row) where
   none_from : (picked answer : List Row) → IsPermutation (map show picked) answer → answer ≡ [] → picked ≡ []
@@ -37,6 +45,21 @@ module _ (pick : Row → Bool) (show : Row → Row) where
   pub found_two : (rows answer : List Row) (a b : Row) (more : List Row) → Finds pick show rows answer → answer ≡ a ∷ b ∷ more
       → (x : Row) × (y : Row) × (others : List Row) × (filter pick rows ≡ x ∷ y ∷ others)
   found_two rows answer a b more found two = two_from (filter pick rows) answer a b more found.shown two
+
+  -- a row of the answer shows a row that is picked
+  pub found_origin : (rows answer : List Row) (shown : Row) → Finds pick show rows answer → Has answer shown
+      → (row : Row) × Has rows row × (pick row ≡ true) × (shown ≡ show row)
+  found_origin rows answer shown found had =
+      let from = has_mapped show (filter pick rows) shown (has_permuted (map show (filter pick rows)) answer shown found.shown had) in
+      let is = has_filtered pick rows from.0 from.1 in
+      (from.0, is.0, is.1, from.2)
+
+  -- a row that is picked is shown
+  pub found_shown : (rows answer : List Row) (row : Row) → Finds pick show rows answer → Has rows row → pick row ≡ true
+      → Has answer (show row)
+  found_shown rows answer row found here is =
+      has_permuted answer (map show (filter pick rows)) (show row) (IsPermutation-sym _ _ found.shown)
+      (mapped_has show (filter pick rows) row (has_kept pick rows row here is))
 
 pub several_of : (rows : List Row) → 2 ≤ length rows → AreSeveral rows
 several_of [] long = absurd (omega (arith, long))

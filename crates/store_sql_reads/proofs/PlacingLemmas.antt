@@ -11,21 +11,19 @@ use Rattle.std.proofs.lemmas.List.Sorted.{IsPermutation-map}
 use Rattle.points.specs.Name.{IsName}
 use Rattle.points.specs.PriorityArray.{Places}
 use Rattle.sqlite_rules.specs.Lists.{Has}
-use Rattle.sqlite_rules.proofs.ListLemmas.{all_from, all_has, has_at, has_filtered, has_kept}
-use Rattle.sqlite_rules.proofs.ProbeLemmas.{has_mapped, mapped_has}
-use Rattle.sqlite_trees.proofs.ListLemmas.{IsPermutation-filter, all-permutation, filter-map, map-map}
+use Rattle.sqlite_rules.proofs.ListLemmas.{has_at, has_filtered}
+use Rattle.sqlite_trees.proofs.ListLemmas.{IsPermutation-filter, filter-map, map-map}
 use Rattle.sqlite_value.specs.declared.value.Value.{Value}
 use Rattle.sqlite_value.specs.declared.value.Value.TheVariants.{Blob, Int, Null, Real, Text}
 use Rattle.sqlite_value.specs.Order.{Row, column}
 use Rattle.store_sql_rows.specs.Looking.{Finds}
 use Rattle.std.specs.List.{cons_option, list_all, list_any}
 use Rattle.std.specs.Str.{bytes_eq}
-use Rattle.std.proofs.lemmas.List.Sorted.{IsPermutation-sym}
 use Rattle.store.specs.Asked.Asked.{ArrayOf}
 use Rattle.store.specs.declared.change.PlaceValue.{PlaceValue}
 use Rattle.store_sql_reads.specs.Asking.{AreSeveral}
 use Rattle.store_sql_reads.specs.Placing.{AreReported, IsPlaced, cannot_place, is_taken_in, rows_at}
-use Rattle.store_sql_reads.proofs.FoundLemmas.{found_none, found_one, found_two}
+use Rattle.store_sql_reads.proofs.FoundLemmas.{found_none, found_one, found_origin, found_shown, found_two}
 use Rattle.store_sql_reads.proofs.CellLemmas.{name_here}
 use Rattle.store_sql_reads.proofs.ParsedLemmas.{count_given, place_none, place_one}
 use Rattle.store_sql_rows.specs.Broken.{cannot_stand_in}
@@ -266,19 +264,9 @@ module _ (point : List ℕ) (kept : Kept) (answer : List Row) (named : IsName po
 
   -- ---- a row that cannot be placed
 
-  origin : (row : Row) → Has answer row → (r : Row) × Has kept.place r × (is_text point (column r 1) ≡ true) × (row ≡ both r)
-  origin row had =
-      let picked = filter (λ (r : Row). is_text point (column r 1)) kept.place in
-      let there : Has (map both picked) row =
-      all_has (Has (map both picked)) answer row (all-permutation (Has (map both picked)) (map both picked) answer found.shown
-      (all_from (Has (map both picked)) (map both picked) (λ e h. h))) had in
-      let from = has_mapped both picked row there in
-      let is = has_filtered (λ (r : Row). is_text point (column r 1)) kept.place from.0 from.1 in
-      (from.0, is.0, is.1, from.2)
-
   no_priority : (row : Row) → Has answer row → count_in 1 16 (column row 0) ≡ None → cannot_stand_in kept (ArrayOf point) ≡ true
   no_priority row had unread =
-      let it = origin row had in
+      let it = found_origin _ _ kept.place answer row found had in
       let reads : count_in 1 16 (column it.0 2) ≡ None = ap (λ r. count_in 1 16 (column r 0)) (sym it.3) ∙ unread in
       broken_here place_said (λ r. is_text point (column r 1)) same_place kept.place it.0 it.1 it.2
       (rw (name_here point (column it.0 1) named it.2, reads) refl)
@@ -286,7 +274,7 @@ module _ (point : List ℕ) (kept : Kept) (answer : List Row) (named : IsName po
   no_value : (row : Row) (priority : ℕ) → Has answer row → count_in 1 16 (column row 0) ≡ Some priority → number_in (column row 1) ≡ None
       → cannot_stand_in kept (ArrayOf point) ≡ true
   no_value row priority had at unread =
-      let it = origin row had in
+      let it = found_origin _ _ kept.place answer row found had in
       let counted : count_in 1 16 (column it.0 2) ≡ Some priority = ap (λ r. count_in 1 16 (column r 0)) (sym it.3) ∙ at in
       let reads : number_in (column it.0 3) ≡ None = ap (λ r. number_in (column r 1)) (sym it.3) ∙ unread in
       broken_here place_said (λ r. is_text point (column r 1)) same_place kept.place it.0 it.1 it.2
@@ -368,12 +356,7 @@ module _ (point : List ℕ) (kept : Kept) (answer : List Row) (named : IsName po
   each_said : (array : Places) → AreReported answer array → (row : Row) → Has kept.place row → is_text point (column row 1) ≡ true
       → is_some (place_said row) ≡ true
   each_said array reported row here of =
-      let there : Has answer (both row) =
-      all_has (Has answer) (map both (filter (λ (r : Row). is_text point (column r 1)) kept.place)) (both row)
-      (all-permutation (Has answer) answer (map both (filter (λ (r : Row). is_text point (column r 1)) kept.place))
-      (IsPermutation-sym _ _ found.shown) (all_from (Has answer) answer (λ e h. h)))
-      (mapped_has both (filter (λ (r : Row). is_text point (column r 1)) kept.place) row
-      (has_kept (λ (r : Row). is_text point (column r 1)) kept.place row here of)) in
+      let there = found_shown _ _ kept.place answer row found here of in
       let placed = reported.each (both row) there in
       rw (name_here point (column row 1) named of, placed.0.1, placed.1.1) refl
 

@@ -1,5 +1,5 @@
 -- Reads one after the other.
-use Rattle.std.proofs.Common.{◌≡◌, ◌≤◌, inl, inr, false, refl, sym, ap, ◌∙◌, subst, arith, IsTrue, true≢false, Result, Ok, Err, Some, None, IfOk, IfErr, Option}
+use Rattle.std.proofs.Common.{◌≡◌, ◌≤◌, inl, inr, refl, sym, ◌∙◌, subst, arith, IsTrue, true≢false, Result, Ok, Err, Some, None, IfOk, Option}
 use Rattle.std.specs.Result.{result_err}
 use Rattle.sqlite_trees.specs.View.{doubt}
 use Rattle.sqlite.specs.State.{HasCleanDisk, IsUnchanged, State, Survives}
@@ -173,12 +173,11 @@ module _ {A : Type 0} {Holds : Kept → A → Type 0} {Broken : Kept → Type 0}
   answers_failed {fault = BadRow} failed is_fault = absurd (true≢false (sym failed))
 
   -- what is made of it
-  pub answers_made : {r : Result A ReadFault} → IfErr r (λ fault. fault ≡ BadRow)
-      → (IsOurs a.now → Known (kept_in a.now.trees) → IfOk r (Holds (kept_in a.now.trees)))
+  pub answers_made : {r : Result A ReadFault} → (IsOurs a.now → Known (kept_in a.now.trees) → IfOk r (Holds (kept_in a.now.trees)))
       → (IsOurs a.now → Known (kept_in a.now.trees) → r ≡ Err BadRow → Broken (kept_in a.now.trees)) → Answers Holds Broken a b r
-  answers_made {r = Ok x} own holds broken = answers_ok holds
-  answers_made {r = Err fault} own holds broken =
-      subst (λ it. Answers Holds Broken a b (Err it)) (sym own) (answers_bad (λ ours known. broken ours known (ap Err own)))
+  answers_made {r = Ok x} holds broken = answers_ok holds
+  answers_made {r = Err (Sql e)} holds broken = answers_failed refl refl
+  answers_made {r = Err BadRow} holds broken = answers_bad (λ ours known. broken ours known refl)
 
 -- one read, of which less is said
 pub answers_as : {A : Type 0} {Tells Holds : Kept → A → Type 0} {Worse Broken : Kept → Type 0} {a b : State} {r : Result A ReadFault}
@@ -216,14 +215,12 @@ refused_first {Holds} {Broken} {a} {b} one broken is_fault = subst (Answers Hold
 
 -- what is made of reads, where each row that was asked for can stand
 pub answers_sound : {A : Type 0} {Holds : Kept → A → Type 0} {Sound Broken Known : Kept → Type 0} {a b : State} {r : Result A ReadFault}
-    → HasRead Known a b → IfErr r (λ fault. fault ≡ BadRow)
-    → (IsOurs a.now → Known (kept_in a.now.trees) → IfOk r (Holds (kept_in a.now.trees)))
+    → HasRead Known a b → (IsOurs a.now → Known (kept_in a.now.trees) → IfOk r (Holds (kept_in a.now.trees)))
     → (IsOurs a.now → Known (kept_in a.now.trees) → IfOk r (λ _. Sound (kept_in a.now.trees)))
     → (IsOurs a.now → Known (kept_in a.now.trees) → r ≡ Err BadRow → Broken (kept_in a.now.trees))
     → Answers (λ kept it. Holds kept it × Sound kept) Broken a b r
-answers_sound {A} {Holds} {Sound} {a} {r} one own holds sound broken =
-    answers_made one own
-    (λ ours known. both r (Holds (kept_in a.now.trees)) (Sound (kept_in a.now.trees)) (holds ours known) (sound ours known)) broken
+answers_sound {A} {Holds} {Sound} {a} {r} one holds sound broken =
+    answers_made one (λ ours known. both r (Holds (kept_in a.now.trees)) (Sound (kept_in a.now.trees)) (holds ours known) (sound ours known)) broken
   where
     both : (r : Result A ReadFault) (P : A → Type 0) (Q : Type 0) → IfOk r P → IfOk r (λ _. Q) → IfOk r (λ x. P x × Q)
     both (Ok x) P Q p q = (p, q)

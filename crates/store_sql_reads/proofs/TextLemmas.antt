@@ -138,7 +138,7 @@ texts_none holds = record {
 }
 
 -- a text that comes next, and that holds
-pub texts_more : (holds : Text → Type 0) (from x : Text) (texts : List Text) → AreTextsBefore holds from texts → IsTextAt holds from x
+texts_more : (holds : Text → Type 0) (from x : Text) (texts : List Text) → AreTextsBefore holds from texts → IsTextAt holds from x
     → holds x → AreTextsBefore holds (after x) (texts ++ x ∷ [])
 texts_more holds from x texts far at is = record {
   rise = sorted_push texts x far.rise (from_contains (λ t. IsBefore t x) texts (λ t here. before_far t from x (far.below t here) at.past));

@@ -1,26 +1,28 @@
 //! A calendar's entries, in the byte order of their texts.
-ghost use Rattle.std.specs.Prelude.{◌≡◌, ◌&&◌, false, true, Err, IfErr, IfOk, IsTrue, Some, string_bytes};
+ghost use Rattle.std.specs.Prelude.{◌≡◌, ◌&&◌, [], ◌∷◌, false, true, map, Err, IfErr, IfOk};
+ghost use Rattle.std.specs.List.{Contains};
 ghost use Rattle.std.specs.Result.{result_err};
 ghost use Rattle.sqlite.specs.Held.{state};
 ghost use Rattle.sqlite.specs.State.{HasCleanDisk, Survives};
 ghost use Rattle.sqlite_value.specs.Order.{column};
 ghost use Rattle.store_sql_rows.specs.Broken.{cannot_stand_in};
 ghost use Rattle.store.specs.Asked.Asked.{EntriesOf};
-ghost use Rattle.store_sql_rows.specs.Looking.{FindsLeast, is_from_text};
+ghost use Rattle.store_sql_rows.specs.Looking.{Finds, FindsLeast, is_from_text};
 ghost use Rattle.store_sql_rows.specs.Ours.{IsOurs, kept_in};
-ghost use Rattle.store_sql_reads.specs.Asking.{Answers, is_sql};
+ghost use Rattle.store_sql_reads.specs.Asking.{Answers};
 ghost use Rattle.dates.specs.Entry.{spelling};
-ghost use Rattle.store.specs.Listed.{AreEntries};
+ghost use Rattle.store.specs.Listed.{AreEntries, AreTexts};
 ghost use Rattle.store_sql_rows.specs.Cells.{is_text};
 ghost use Rattle.store_sql_rows.specs.declared.read_fault.ReadFault.TheVariants.{BadRow};
 ghost use Rattle.store_sql_rows.specs.Stored.{Kept, tables_in};
 ghost use Rattle.store_sql_reads.specs.Texts.{IsNextEntry};
 
-use crate::memory::{no_memory, push, text_after};
+use crate::memory::{no_memory, push};
 use dates::Entry;
 use points::Name;
 use sqlite::{Alter, Connection, Row};
-use std::alloc::Global;
+use std::alloc::{AllocError, Global};
+use store_memory_tables::CalendarTable;
 use store_sql_rows::{ReadFault, calendars, entry_at};
 
 // What the answer of the query on the least entry says.
@@ -55,13 +57,37 @@ pub fn next_entry<S: Alter>(
     parsed_entry(calendar, from, rows)
 }
 
-// The text of an entry.
-fn text_of(alloc: Global, entry: &Entry) -> Result<String, ReadFault>
-    ensures value { IfOk result (λ text. string_bytes text ≡ spelling entry.now) }
-    ensures fault { IfErr result (λ fault. IsTrue (is_sql (Some fault))) }
+// ---- the entries of a calendar
+
+// Entries in the byte order of their texts, none twice.
+fn in_order(alloc: Global, entries: &[Entry]) -> Result<Vec<Entry>, AllocError>
+    ensures { IfOk result (λ ordered. AreTexts (Contains (map spelling entries.now)) (map spelling ordered.items)) }
 {
-    match entry.write(alloc) {
-        Ok(text) => Ok(text),
+    let mut table = CalendarTable::new(alloc);
+    table.keep_each(alloc, entries)?;
+    table.list(alloc)
+}
+
+// What the answer of the query on the entries of a calendar says.
+fn parsed_entries(alloc: Global, calendar: &Name, rows: Vec<Row>) -> Result<Vec<Entry>, ReadFault>
+    ensures value { (kept : Kept)
+        → Finds (λ row. is_text calendar.now (column row 1)) (λ row. column row 2 ∷ []) kept.imported rows.items
+        → IfOk result (λ it. AreEntries (tables_in kept) calendar.now it.items) }
+    ensures bad { (kept : Kept)
+        → Finds (λ row. is_text calendar.now (column row 1)) (λ row. column row 2 ∷ []) kept.imported rows.items
+        → IfErr result (λ fault. fault ≡ BadRow → cannot_stand_in kept (EntriesOf calendar.now) ≡ true) }
+    ensures stood { (kept : Kept)
+        → Finds (λ row. is_text calendar.now (column row 1)) (λ row. column row 2 ∷ []) kept.imported rows.items
+        → IfOk result (λ _. cannot_stand_in kept (EntriesOf calendar.now) ≡ false) }
+{
+    // What is asked for is a name, as a row's own has to be.
+    let _name = calendar.as_str();
+    let mut entries = Vec::new(alloc);
+    for row in &rows {
+        push(&mut entries, entry_at(row, 0)?)?;
+    }
+    match in_order(alloc, &entries) {
+        Ok(ordered) => Ok(ordered),
         Err(_) => Err(no_memory()),
     }
 }
@@ -77,19 +103,6 @@ pub fn entries_of<S: Alter>(
         (λ kept. cannot_stand_in kept (EntriesOf calendar.now) ≡ true)
         (state S.Store connection.old) (state S.Store connection.new) result }
 {
-    // What is asked for is a name, as a row's own has to be.
-    let _name = calendar.as_str();
-    let mut entries = Vec::new(alloc);
-    let mut from = String::new(alloc);
-    for _ in 0..u64::MAX {
-        match next_entry(connection, calendar, &from)? {
-            Some(entry) => {
-                from = text_after(alloc, &text_of(alloc, &entry)?)?;
-                push(&mut entries, entry)?;
-            }
-            None => return Ok(entries),
-        }
-    }
-    // So many entries have no room in memory.
-    Err(no_memory())
+    let rows = calendars::of_calendar(connection, calendar)?;
+    parsed_entries(alloc, calendar, rows)
 }

@@ -23,11 +23,11 @@ use Rattle.store_sql_rows.specs.Meanings.{compared_with, given, passes}
 use Rattle.store_sql_rows.specs.Ours.{Adds, Changes, IsInside, IsOurs, Loses}
 use Rattle.store_sql_rows.specs.Slot.{On, imported_slot}
 use Rattle.store_sql_rows.proofs.CellLemmas.{from_text, and_true, cast_null, equal_text}
-use Rattle.store_sql_rows.proofs.RestLemmas.{finds_least, least_same}
-use Rattle.store_sql_rows.specs.Looking.{FindsLeast, is_from_text}
+use Rattle.store_sql_rows.proofs.RestLemmas.{finds, finds_least, finds_same, least_same}
+use Rattle.store_sql_rows.specs.Looking.{Finds, FindsLeast, is_from_text}
 use Rattle.store_sql_rows.proofs.SlotLemmas.{gains, is_imported, loses}
 use Rattle.store_sql_rows.proofs.TypeLemmas.{IsFilled, first_filled, ruled, second_filled}
-use Rattle.store_sql_rows.proofs.ImportedTexts.{add_runs, add_text, clear_runs, clear_text, next_entry_runs, next_entry_text}
+use Rattle.store_sql_rows.proofs.ImportedTexts.{add_runs, add_text, clear_runs, clear_text, next_entry_runs, next_entry_text, of_calendar_runs, of_calendar_text}
 use Rattle.store_sql_rows.specs.Cells.{is_text}
 use Rattle.store_sql_rows.specs.Rows.{of_entry}
 
@@ -111,3 +111,19 @@ next_entry_shown items calendar from old new (Ok v) ours shown =
     (λ row h. passes_next_entry old.now ours calendar from row h)
     (finds_least next_entry_text next_entry_runs.plain next_entry_runs.unlisted imported_tree (given 1 0 ∷ compared_with Ge 2 1 ∷ []) 2
     (codes "entry" ∷ []) next_entry_runs.is old new (Text calendar ∷ Text from ∷ []) (items v) ours.schema_is shown)
+
+passes_calendar : (db : Database) → IsOurs db → (calendar : List ℕ) (row : Row) → Has (db.trees imported_tree) row
+    → passes (given 1 0 ∷ []) (Text calendar ∷ []) row ≡ is_text calendar (column row 1)
+passes_calendar db ours calendar row h =
+    let cells = imported_cells db ours row h in
+    rw (equal_text calendar (column row 1) cells.0.of cells.0.filled, and_true) refl
+
+pub of_calendar_shown : {V : Type 0} (items : V → List Row) (calendar : List ℕ) (old new : State) (r : Result V Error) → IsOurs old.now
+    → IfOk r (λ v. Shown of_calendar_text (Text calendar ∷ []) old new (items v))
+    → IfOk r (λ v. Finds (λ row. is_text calendar (column row 1)) (λ row. column row 2 ∷ []) (old.now.trees imported_tree) (items v))
+of_calendar_shown items calendar old new (Err e) ours shown = tt
+of_calendar_shown items calendar old new (Ok v) ours shown =
+    finds_same (passes (given 1 0 ∷ []) (Text calendar ∷ [])) (λ row. is_text calendar (column row 1)) (λ row. column row 2 ∷ [])
+    (old.now.trees imported_tree) (items v) (λ row h. passes_calendar old.now ours calendar row h)
+    (finds of_calendar_text of_calendar_runs.plain of_calendar_runs.unlisted imported_tree (given 1 0 ∷ []) (col 1 2 ∷ [])
+    (codes "entry" ∷ []) of_calendar_runs.is old new (Text calendar ∷ []) (items v) ours.schema_is shown)

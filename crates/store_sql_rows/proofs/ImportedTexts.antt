@@ -8,7 +8,7 @@ use Rattle.sqlite_sql.specs.Term.{lit, col}
 use Rattle.sqlite.specs.Listing.{understood}
 use Rattle.sqlite_tied.specs.Compute.{everything}
 use Rattle.store_sql_create.specs.Schema.{imported_tree}
-use Rattle.store_sql_rows.specs.Meanings.{compared_with, deletion, given, least}
+use Rattle.store_sql_rows.specs.Meanings.{compared_with, deletion, given, least, selection}
 use Rattle.store_sql_rows.proofs.Texts.{Runs}
 
 abbrev pub clear_text : List ℕ
@@ -44,3 +44,11 @@ pub next_entry_runs : Runs next_entry_text
     (least imported_tree (given 1 0 ∷ compared_with Ge 2 1 ∷ []) 2 (codes "entry" ∷ []))
 unfolding understood everything
 next_entry_runs = record { is = refl; plain = (refl, refl); unlisted = refl }
+
+abbrev pub of_calendar_text : List ℕ
+of_calendar_text = codes "SELECT entry FROM imported WHERE calendar = ?1"
+
+pub of_calendar_runs : Runs of_calendar_text
+    (selection imported_tree (given 1 0 ∷ []) (col 1 2 ∷ []) (codes "entry" ∷ []))
+unfolding understood everything
+of_calendar_runs = record { is = refl; plain = (refl, refl); unlisted = refl }

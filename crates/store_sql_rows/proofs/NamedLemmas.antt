@@ -1,4 +1,4 @@
--- The names and the entries in the cells of the six tables are texts.
+-- The names in the cells of the six tables are texts.
 use Rattle.std.proofs.Common.{◌≡◌, List, ℕ, refl, sym, true≢false}
 use Rattle.sqlite_value.specs.declared.value.Value.{Value}
 use Rattle.sqlite_value.specs.declared.value.Value.TheVariants.{Blob, Int, Null, Real, Text}
@@ -39,8 +39,3 @@ shown_texted db ours row h = text_in (column row 1) (shown_cells db ours row h)
 
 pub imported_texted : (db : Database) → IsOurs db → AreTexted (kept_in db.trees).imported
 imported_texted db ours row h = text_in (column row 1) (imported_cells db ours row h).0
-
--- and the entry of an imported row is one too
-pub entry_texted : (db : Database) → IsOurs db → (row : Row) → Has (kept_in db.trees).imported row
-    → (text : List ℕ) × (column row 2 ≡ Text text)
-entry_texted db ours row h = text_in (column row 2) (imported_cells db ours row h).1

@@ -3,7 +3,7 @@ ghost use Rattle.std.specs.Prelude.{◌<◌, ◌&&◌, [], ◌∷◌};
 ghost use Rattle.sqlite.specs.Held.{state};
 ghost use Rattle.sqlite_value.specs.declared.value.Value.TheVariants.{Text};
 ghost use Rattle.sqlite_value.specs.Order.{column};
-ghost use Rattle.store_sql_rows.specs.Looking.{FindsLeast, Reads, is_from_text};
+ghost use Rattle.store_sql_rows.specs.Looking.{Finds, FindsLeast, Reads, is_from_text};
 ghost use Rattle.store_sql_rows.specs.Ours.{Adds, Changes, Loses};
 ghost use Rattle.store_sql_rows.specs.Slot.{On, imported_slot};
 ghost use Rattle.store_sql_rows.specs.Steps.{Moves, StaysIfTaken};
@@ -77,5 +77,21 @@ pub fn next_entry<S: Alter>(
         connection,
         "SELECT entry FROM imported WHERE calendar = ?1 AND entry >= ?2 ORDER BY entry LIMIT 1",
         &[text(calendar), words(from)],
+    )
+}
+
+/// The cells `entry` of a calendar's entries.
+pub fn of_calendar<S: Alter>(
+    connection: &mut Connection<S>,
+    calendar: &Name,
+) -> Result<Vec<Row>, Error>
+    ensures reads { Reads (λ kept rows. Finds (λ row. is_text calendar.now (column row 1))
+        (λ row. column row 2 ∷ []) kept.imported rows.items)
+        (state S.Store connection.old) (state S.Store connection.new) result }
+{
+    ask(
+        connection,
+        "SELECT entry FROM imported WHERE calendar = ?1",
+        &[text(calendar)],
     )
 }

@@ -8,6 +8,6 @@ returns g c =
     let kept = kept_in (state g.S.Store c.args.connection.now).now.trees in
     record {
       answers = answers_sound (read_found c.in_ok-rows.ensures.reads)
-          c.parsed_last.ensures.fault (λ _ found. c.parsed_last.ensures.value kept found) (λ _ found. c.parsed_last.ensures.stood kept found)
+          (λ _ found. c.parsed_last.ensures.value kept found) (λ _ found. c.parsed_last.ensures.stood kept found)
           (λ _ found is. rw is at (c.parsed_last.ensures.bad kept found));
     }

@@ -8,5 +8,5 @@ returns g c =
     let kept = kept_in (state g.S.Store c.args.connection.now).now.trees in
     record {
       answers = answers_made (read_found c.in_ok-rows.ensures.reads)
-          c.parsed_numbers.ensures.fault (λ _ found. c.parsed_numbers.ensures.value kept found) (λ _ found is. rw is at (c.parsed_numbers.ensures.bad kept found));
+          (λ _ found. c.parsed_numbers.ensures.value kept found) (λ _ found is. rw is at (c.parsed_numbers.ensures.bad kept found));
     }

@@ -9,6 +9,6 @@ returns g c =
     let kept = kept_in (state g.S.Store c.args.connection.now).now.trees in
     record {
       answers = answers_made (read_found c.in_ok-rows.ensures.reads)
-          c.parsed_name.ensures.fault (λ _ found. c.parsed_name.ensures.value kept.panel found)
+          (λ _ found. c.parsed_name.ensures.value kept.panel found)
           (λ _ found is. bad_numbered kept (rw is at (c.parsed_name.ensures.bad kept.panel found)));
     }

@@ -1,15 +1,15 @@
-use Rattle.std.proofs.Common.{◌∙◌, sym, None, unwrap_or}
+use Rattle.std.proofs.Common.{None, unwrap_or, rules}
 use Rattle.std.specs.HashMap as hash
 use Rattle.std.specs.Str.{bytes_eq}
 use Rattle.std.specs.FinMap.{empty}
 use Rattle.store_memory_tables.specs.Held.{array_at}
-use Rattle.store_memory_tables.proofs.HeldLemmas.{Alters, is_none, stands_for}
+use Rattle.store_memory_tables.proofs.HeldLemmas.{Alters, stands_for}
 use Rattle.store_memory_tables.proofs.arrays.Arrays.make_array.Goals.{In_ok-insert}
 use Rattle.store_memory_tables.proofs.arrays.Arrays.make_array.Goals as goal
 
 alters : (c : In_ok-insert) → Alters c.args.point.now None c.new.result (array_at c.args.self.now) (hash.get bytes_eq c.insert.new.self)
 alters c = record {
-  before = is_none _ (sym c.contains_key.ensures ∙ c.if-not-contains_key.true);
+  before = search rules;
   after = c.in_ok-insert.ensures.updates.0;
 }
 

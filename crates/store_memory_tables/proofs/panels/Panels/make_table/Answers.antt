@@ -1,15 +1,15 @@
-use Rattle.std.proofs.Common.{◌∙◌, sym, ap, refl, None, IsSome, is_some}
+use Rattle.std.proofs.Common.{ap, refl, None, IsSome, is_some, ◌∙◌, rules}
 use Rattle.std.specs.HashMap as hash
 use Rattle.std.specs.Str.{bytes_eq}
 use Rattle.store_memory_tables.specs.Held.{next_in, slot_in, table_at}
 use Rattle.store_memory_tables.specs.Slots.{flatten}
-use Rattle.store_memory_tables.proofs.HeldLemmas.{Alters, changed, is_none, stands_for}
+use Rattle.store_memory_tables.proofs.HeldLemmas.{Alters, changed, stands_for}
 use Rattle.store_memory_tables.proofs.panels.Panels.make_table.Goals.{In_ok-insert}
 use Rattle.store_memory_tables.proofs.panels.Panels.make_table.Goals as goal
 
 alters : (c : In_ok-insert) → Alters c.args.panel.now None c.new.result (table_at c.args.self.now) (hash.get bytes_eq c.insert.new.self)
 alters c = record {
-  before = is_none _ (sym c.contains_key.ensures ∙ c.if-not-contains_key.true);
+  before = search rules;
   after = c.in_ok-insert.ensures.updates.0;
 }
 

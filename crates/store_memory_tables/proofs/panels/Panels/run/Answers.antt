@@ -4,6 +4,6 @@ use Rattle.store_memory_tables.specs.Slots.{flatten}
 use Rattle.store_memory_tables.proofs.HeldLemmas.{IsRun-none}
 use Rattle.store_memory_tables.proofs.panels.Panels.run.Goals as goal
 
-pub returns-in-None : goal.returns-in-None
-returns-in-None c = rw c.new.ensures.items (IsRun-none (row_of c.args.self.now c.args.panel.now) c.args.from c.args.upto
-    (λ n. ap (λ o. flatten (slot_in o n)) (sym c.in-None.ensures.value)))
+pub returns-in-None-clause-run : goal.returns-in-None-clause-run
+returns-in-None-clause-run c = rw c.new.ensures.items (IsRun-none (row_of c.args.self.now c.args.panel.now) c.args.from c.args.upto
+    (λ n. ap (λ o. flatten (slot_in o n)) (sym c.in-None.ensures)))
