@@ -2,3 +2,4 @@ mod GrammarLemmas
 mod LineEndLemmas
 mod ReadingLemmas
 mod UsualLemmas
+mod WrittenLemmas

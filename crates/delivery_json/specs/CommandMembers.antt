@@ -1,9 +1,11 @@
 -- What was read of an object's members, under a command's keys.
-use Rattle.std.specs.Prelude.{◌≡◌, ℕ, List, Option, Some, true, codes, option_map}
-use Rattle.serde_json.specs.Data.{Data, Members}
+use Rattle.std.specs.Prelude.{◌≡◌, ℕ, List, [], ◌∷◌, Option, Some, true, codes, option_map}
+use Rattle.serde_json.specs.Data.{Data, Members, object}
 use Rattle.serde_json.specs.Find.{get_member}
 use Rattle.delivery_json.specs.Readings.{command_keys, has_only, integer_in, name_in, priority_in, value_in}
+use Rattle.delivery_json.specs.PanelLine.{command_body_in}
 use Rattle.delivery_json.specs.declared.command_members.CommandMembers.{CommandMembers}
+use Rattle.delivery_json.specs.declared.panel_line.CommandBody.{CommandBody}
 
 -- what was read is what the member with the key tells, where there is one, and nothing where there is none
 abbrev pub Reads : {A : Type 0} → (Data → Option A) → List ℕ → Members → Option A → Type 0
@@ -19,3 +21,12 @@ IsReadAs reported ms = record {
   priority : Reads (λ d. priority_in (Some d)) (codes "priority") ms reported.priority;
   value : Reads value_in (codes "value") ms reported.value;
 }
+
+-- the keys of a command without its panel
+abbrev pub body_keys : List (List ℕ)
+body_keys = codes "number" ∷ codes "point" ∷ codes "priority" ∷ codes "value" ∷ []
+
+-- the value is an object that tells this command without its panel, and has no other key
+abbrev pub IsBody : Option Data → CommandBody → Type 0
+IsBody value command = (ms : Members) × (value ≡ Some (object ms)) × (command_body_in (object ms) ≡ Some command)
+    × (has_only body_keys ms ≡ true)

@@ -19,6 +19,7 @@ pub use object_members::read_members;
 pub use panel_line::{CommandBody, command_body_in, name_in, priority_in, value_in};
 pub use parsed_line::ParsedLine;
 pub use reply_text::{RefusedImportText, ReplyText};
+pub use written_command::written_body;
 
 mod clock_line;
 mod command_members;
@@ -33,3 +34,4 @@ mod parsed_line;
 mod reply_text;
 mod scalars;
 mod usual_command;
+mod written_command;

@@ -7,12 +7,24 @@ ghost use Rattle.delivery_json.specs.DeliveryLine.{delivery_in, json_of};
 
 use crate::command_members::CommandMembers;
 use crate::object_members::read_members;
+use crate::written_command::written_command;
 use deliveries::Delivery;
 use json::Scratch;
 use points::{Content, LOWEST_PRIORITY, text_of};
 
-/// The command that a line of the usual form says; nothing of any other, or where memory is refused.
+/// The command that a line of the usual form says; nothing of any other, or where memory is refused. A line in the form
+/// in which the desk writes one itself is compared with that form; any other is read token by token.
 pub(crate) fn usual_command(scratch: &mut Scratch, line: &[u8]) -> Option<Delivery>
+    ensures { IfSome result (λ command. option_and_then delivery_in (json_of line.now) ≡ Some command) }
+{
+    match written_command(line) {
+        Some(command) => Some(command),
+        None => command_by_members(scratch, line),
+    }
+}
+
+/// The command that the members of a line's object say.
+fn command_by_members(scratch: &mut Scratch, line: &[u8]) -> Option<Delivery>
     ensures { IfSome result (λ command. option_and_then delivery_in (json_of line.now) ≡ Some command) }
 {
     let members = read_members(scratch, text_of(line)?)?;

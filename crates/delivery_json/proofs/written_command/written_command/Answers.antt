@@ -1,0 +1,20 @@
+use Rattle.std.proofs.Common.{◌≡◌, ◌∙◌, ◌++◌, ◌^◌, ◌<◌, IfSome, ap, of_z, to_z, w64, rules}
+use Rattle.std.specs.Int.Signed.{mag}
+use Rattle.delivery_json.proofs.WrittenLemmas.{line_pieces, written_line}
+use Rattle.delivery_json.proofs.written_command.written_command.Goals as goal
+
+pub returns : goal.returns
+returns c =
+    let number = c.in_ok-number.number in
+    let panel = c.in_ok-panel-2.panel in
+    let content = c.in_ok-content.content in
+    let whole : to_z w64 (of_z w64 number) ≡ number = search rules in
+    let fits : mag number < 2 ^ 63 = search rules in
+    let priority : mag content.priority < 2 ^ 63 = search rules in
+    let value : IfSome content.value (λ z. mag z < 2 ^ 63) = search rules in
+    let named = c.in_ok-panel.ensures ∙ ap (λ l. l ++ c.in_ok-panel.rest.now) c.in_ok-panel-2.ensures.0 in
+    let same = line_pieces c.args.line.now c.in_ok-rest.rest.now c.in_ok-number.rest.now c.in_ok-rest-2.rest.now
+    c.in_ok-panel.rest.now c.in_ok-rest-3.rest.now panel number content c.in_ok-rest.ensures c.in_ok-number.ensures
+    c.in_ok-rest-2.ensures named c.in_ok-rest-3.ensures c.in_ok-content.ensures.0 in
+    rw whole
+    (written_line c.args.line.now panel number content c.in_ok-panel-2.ensures.1 c.in_ok-content.ensures.1 fits (priority, value) same)

@@ -1,0 +1,121 @@
+//! The command of a line in the form in which `line_of_delivery` writes one.
+
+ghost use Rattle.std.specs.Prelude.{◌≡◌, ◌++◌, IfSome, IsTrue, Some, codes, option_and_then};
+ghost use Rattle.std.specs.Fmt.{signed_decimal};
+ghost use Rattle.points.specs.Name.{IsName};
+ghost use Rattle.delivery_json.specs.CommandMembers.{IsBody};
+ghost use Rattle.delivery_json.specs.DeliveryLine.{delivery_in, json_of};
+ghost use Rattle.delivery_json.specs.DeliveryText.{content_text, value_text};
+
+use crate::panel_line::CommandBody;
+use deliveries::Delivery;
+use itoa::Buffer;
+use memchr::memchr;
+use points::{Content, Name, name_of, text_of};
+
+/// The command of a line, without its line end, that is written as `line_of_delivery` writes one: compact, its keys in
+/// byte order, each number in the fewest digits. Nothing of a line of any other form.
+pub(crate) fn written_command(line: &[u8]) -> Option<Delivery>
+    ensures { IfSome result (λ command. option_and_then delivery_in (json_of line.now) ≡ Some command) }
+{
+    let rest = after(b"{\"number\":", line)?;
+    let (number, rest) = integer_before(b',', rest)?;
+    let rest = after(b",\"panel\":\"", rest)?;
+    let (panel, rest) = split_before(b'"', rest)?;
+    let panel = name_in(panel)?;
+    let rest = after(b"\",", rest)?;
+    let content = content_to_end(rest)?;
+    Some(Delivery::Command {
+        panel,
+        number,
+        content,
+    })
+}
+
+/// The command in a text without its panel, written in the same way: an object of its number and its content. Nothing of
+/// a text of any other form, which may say a command too.
+pub fn written_body(body: &[u8]) -> Option<CommandBody>
+    ensures { IfSome result (λ command. IsBody (json_of body.now) command) }
+{
+    let rest = after(b"{\"number\":", body)?;
+    let (number, rest) = integer_before(b',', rest)?;
+    let rest = after(b",", rest)?;
+    let content = content_to_end(rest)?;
+    Some(CommandBody { number, content })
+}
+
+/// The content of a command that fills a text, with the brace that closes its object.
+fn content_to_end(text: &[u8]) -> Option<Content>
+    ensures { IfSome result (λ content. (text.now ≡ content_text content ++ codes "}") × IsName content.point) }
+{
+    let rest = after(b"\"point\":\"", text)?;
+    let (point, rest) = split_before(b'"', rest)?;
+    let point = name_in(point)?;
+    let rest = after(b"\",\"priority\":", rest)?;
+    let (priority, rest) = integer_before(b',', rest)?;
+    let rest = after(b",\"value\":", rest)?;
+    let value = value_to_end(rest)?;
+    Some(Content {
+        point,
+        priority,
+        value,
+    })
+}
+
+/// The value that fills a text, with the brace that closes its object.
+fn value_to_end(text: &[u8]) -> Option<Option<i64>>
+    ensures { IfSome result (λ value. text.now ≡ value_text value ++ codes "}") }
+{
+    if text == b"null}".as_slice() {
+        return Some(None);
+    }
+    let (value, rest) = integer_before(b'}', text)?;
+    if rest == b"}".as_slice() {
+        Some(Some(value))
+    } else {
+        None
+    }
+}
+
+/// What follows a mark at the beginning of a text.
+fn after<'a>(mark: &[u8], text: &'a [u8]) -> Option<&'a [u8]>
+    ensures { IfSome result (λ rest. text.now ≡ mark.now ++ rest.now) }
+{
+    text.strip_prefix(mark)
+}
+
+/// A text up to the first such byte, and from there on.
+fn split_before(end: u8, text: &[u8]) -> Option<(&[u8], &[u8])>
+    ensures { IfSome result (λ it. text.now ≡ it.0.now ++ it.1.now) }
+{
+    text.split_at_checked(memchr(end, text)?)
+}
+
+/// The name that bytes are.
+fn name_in(bytes: &[u8]) -> Option<Name>
+    ensures { IfSome result (λ name. (bytes.now ≡ name) × IsName name) }
+{
+    name_of(text_of(bytes)?)
+}
+
+/// The integer from the beginning of a text up to the first such byte, and the text from there on. It is none where it
+/// has a sign or zeros that it does not need.
+fn integer_before(end: u8, text: &[u8]) -> Option<(i64, &[u8])>
+    ensures { IfSome result (λ it. text.now ≡ signed_decimal it.0 ++ it.1.now) }
+{
+    let (digits, rest) = split_before(end, text)?;
+    let number = text_of(digits)?.parse::<i64>().ok()?;
+    if is_written_as(digits, number) {
+        Some((number, rest))
+    } else {
+        None
+    }
+}
+
+/// Whether a text is what the desk writes for a number.
+fn is_written_as(text: &[u8], number: i64) -> bool
+    ensures { IsTrue result → text.now ≡ signed_decimal number }
+{
+    let mut written = Buffer::new();
+    written.format(number).as_bytes() == text
+}
