@@ -1,4 +1,4 @@
--- A command's line in the form in which it is written is read as that command.
+-- A line in the form in which a delivery is written is read as that delivery.
 use Rattle.std.proofs.Common.{◌≡◌, ◌∙◌, ℕ, ℤ, pos, negsuc, ◌^◌, ◌<◌, ◌≤◌, ◌&&◌, Bool, true, List, [], ◌∷◌, ◌++◌, Option, Some, None, codes, length, nat_lt, nat_le, IfSome, option_and_then, option_map, refl, sym, ap, arith, append_assoc, append-nil, lt-ltb}
 use Rattle.std.proofs.lemmas.Bool.{ltb-true}
 use Rattle.std.proofs.lemmas.Bool.Decides.{nat_tests}
@@ -29,10 +29,12 @@ use Rattle.points.specs.Name.{IsName, is_name_byte}
 use Rattle.points.specs.Texts.{text_of}
 use Rattle.points.specs.declared.content.Content.{Content}
 use Rattle.points.proofs.NameLemmas.{name_is_utf8}
-use Rattle.deliveries.specs.declared.delivery.Delivery.TheVariants.{Command}
+use Rattle.deliveries.specs.declared.delivery.Delivery.TheVariants.{Command, Skip, Tick}
+use Rattle.delivery_json.specs.ClockLine.{tick_in}
 use Rattle.delivery_json.specs.CommandMembers.{IsBody}
 use Rattle.delivery_json.specs.DeliveryLine.{delivery_in, json_of}
-use Rattle.delivery_json.specs.PanelLine.{command_body_in, command_in, panel_delivery_in, value_in}
+use Rattle.delivery_json.specs.Members.{lone_integer}
+use Rattle.delivery_json.specs.PanelLine.{command_body_in, command_in, panel_delivery_in, skip_in, value_in}
 use Rattle.delivery_json.proofs.UsualLemmas.{read_delivery}
 use Rattle.delivery_json.specs.DeliveryText.{content_text, value_text}
 
@@ -55,6 +57,11 @@ pub body_pieces : (body a b c : List ℕ) (n : ℤ) (content : Content) → body
     → a ≡ signed_decimal n ++ b → b ≡ codes "," ++ c → c ≡ content_text content ++ codes "}"
     → body ≡ codes "{\"number\":" ++ (signed_decimal n ++ (codes "," ++ (content_text content ++ codes "}")))
 body_pieces body a b c n content f g h i = rw (f, g, h, i) refl
+
+pub skip_pieces : (line a b c panel : List ℕ) (n : ℤ) → line ≡ codes "{\"panel\":\"" ++ a → a ≡ panel ++ b
+    → b ≡ codes "\",\"skip\":" ++ c → c ≡ signed_decimal n ++ codes "}"
+    → line ≡ codes "{\"panel\":\"" ++ (panel ++ (codes "\",\"skip\":" ++ (signed_decimal n ++ codes "}")))
+skip_pieces line a b c panel n f g h i = rw (f, g, h, i) refl
 
 -- ---- a name has nothing to escape
 
@@ -145,6 +152,25 @@ line_text-is panel n content named point_named =
     (append_assoc panel (codes "\"") (members_text true (content_members content))
     ∙ ap (λ l. panel ++ (34 ∷ l)) (content_text-is content point_named)))
 
+abbrev skip_members : List ℕ → ℤ → Members
+skip_members panel n = member (codes "panel") (string panel) (member (codes "skip") (number (of_integer n)) no_members)
+
+abbrev tick_members : ℤ → Members
+tick_members n = member (codes "tick") (number (of_integer n)) no_members
+
+skip_text-is : (panel : List ℕ) (n : ℤ) → IsName panel
+    → compact_text (object (skip_members panel n))
+    ≡ codes "{\"panel\":\"" ++ (panel ++ (codes "\",\"skip\":" ++ (signed_decimal n ++ codes "}")))
+unfolding escape_byte
+skip_text-is panel n named =
+    rw (number_text-of n, escape-name panel named)
+    (ap (λ l. codes "{\"panel\":\"" ++ l)
+    (append_assoc panel (codes "\"") (codes ",\"skip\":" ++ (signed_decimal n ++ codes "}"))))
+
+tick_text-is : (n : ℤ) → compact_text (object (tick_members n)) ≡ codes "{\"tick\":" ++ (signed_decimal n ++ codes "}")
+unfolding escape_byte
+tick_text-is n = rw (number_text-of n) refl
+
 -- ---- each is read as it is
 
 abbrev Has64Bits : ℤ → Type 0
@@ -200,6 +226,18 @@ line_read text panel n content named point_named fits all same =
     (rw (value_depth content.value) (omega arith))
     (rw (number_json n fits, number_json content.priority all.0, value_json content.value all.1) refl)
 
+skip_read : (text panel : List ℕ) (n : ℤ) → IsName panel → Has64Bits n
+    → text ≡ codes "{\"panel\":\"" ++ (panel ++ (codes "\",\"skip\":" ++ (signed_decimal n ++ codes "}")))
+    → read text ≡ Some (object (skip_members panel n))
+skip_read text panel n named fits same =
+    object_read text (skip_members panel n) (same ∙ sym (skip_text-is panel n named)) (tt, (number_is n fits, tt)) (omega arith)
+    (rw (number_json n fits) refl)
+
+tick_read : (text : List ℕ) (n : ℤ) → Has64Bits n → text ≡ codes "{\"tick\":" ++ (signed_decimal n ++ codes "}")
+    → read text ≡ Some (object (tick_members n))
+tick_read text n fits same =
+    object_read text (tick_members n) (same ∙ sym (tick_text-is n)) (number_is n fits, tt) (omega arith) (rw (number_json n fits) refl)
+
 -- ---- each is UTF-8
 
 literal_utf8 : (text : List ℕ) → list_all (λ byte. nat_lt byte 128) text ≡ true → IsUtf8 text
@@ -240,6 +278,19 @@ line_utf8 panel n content named point_named fits all =
     IsUtf8-append (codes "{\"number\":") _ (literal_utf8 (codes "{\"number\":") refl)
     (IsUtf8-append (signed_decimal n) _ (integer_utf8 n fits) after_number)
 
+integer_utf8-braced : (n : ℤ) → Has64Bits n → IsUtf8 (signed_decimal n ++ codes "}")
+integer_utf8-braced n fits = IsUtf8-append (signed_decimal n) (codes "}") (integer_utf8 n fits) (literal_utf8 (codes "}") refl)
+
+skip_utf8 : (panel : List ℕ) (n : ℤ) → IsName panel → Has64Bits n
+    → IsUtf8 (codes "{\"panel\":\"" ++ (panel ++ (codes "\",\"skip\":" ++ (signed_decimal n ++ codes "}"))))
+skip_utf8 panel n named fits =
+    IsUtf8-append (codes "{\"panel\":\"") _ (literal_utf8 (codes "{\"panel\":\"") refl)
+    (IsUtf8-append panel _ (name_is_utf8 panel named)
+    (IsUtf8-append (codes "\",\"skip\":") _ (literal_utf8 (codes "\",\"skip\":") refl) (integer_utf8-braced n fits)))
+
+tick_utf8 : (n : ℤ) → Has64Bits n → IsUtf8 (codes "{\"tick\":" ++ (signed_decimal n ++ codes "}"))
+tick_utf8 n fits = IsUtf8-append (codes "{\"tick\":") _ (literal_utf8 (codes "{\"tick\":") refl) (integer_utf8-braced n fits)
+
 text_is : (bytes text : List ℕ) → bytes ≡ text → IsUtf8 text → text_of bytes ≡ Some bytes
 text_is bytes text same utf8 = rw (ap is_utf8 same ∙ is_utf8-from_IsUtf8 text utf8) refl
 
@@ -260,14 +311,36 @@ unfolding delivery_in panel_delivery_in command_in command_body_in
 line_told panel n content named point_named fits all =
     rw (named, as_i64-of n fits, point_named, as_i64-of content.priority all.0, value_told content.value all.1) refl
 
-pub written_line : (line panel : List ℕ) (n : ℤ) (content : Content) → IsName panel → IsName content.point → Has64Bits n
+skip_told : (panel : List ℕ) (n : ℤ) → IsName panel → Has64Bits n
+    → delivery_in (object (skip_members panel n)) ≡ Some (Skip panel n)
+unfolding delivery_in panel_delivery_in skip_in
+skip_told panel n named fits = rw (named, as_i64-of n fits) refl
+
+tick_told : (n : ℤ) → Has64Bits n → delivery_in (object (tick_members n)) ≡ Some (Tick n)
+unfolding delivery_in tick_in lone_integer
+tick_told n fits = rw (as_i64-of n fits) refl
+
+pub written_command : (line panel : List ℕ) (n : ℤ) (content : Content) → IsName panel → IsName content.point → Has64Bits n
     → Have64Bits content
     → line ≡ codes "{\"number\":" ++ (signed_decimal n ++ (codes ",\"panel\":\"" ++ (panel ++ (codes "\"," ++ (content_text content ++ codes "}")))))
     → option_and_then delivery_in (json_of line) ≡ Some (Command panel n content)
-written_line line panel n content named point_named fits all same =
+written_command line panel n content named point_named fits all same =
     read_delivery line line (object (line_members panel n content)) (Command panel n content)
     (text_is line _ same (line_utf8 panel n content named point_named fits all))
     (line_read line panel n content named point_named fits all same) (line_told panel n content named point_named fits all)
+
+pub written_skip : (line panel : List ℕ) (n : ℤ) → IsName panel → Has64Bits n
+    → line ≡ codes "{\"panel\":\"" ++ (panel ++ (codes "\",\"skip\":" ++ (signed_decimal n ++ codes "}")))
+    → option_and_then delivery_in (json_of line) ≡ Some (Skip panel n)
+written_skip line panel n named fits same =
+    read_delivery line line (object (skip_members panel n)) (Skip panel n) (text_is line _ same (skip_utf8 panel n named fits))
+    (skip_read line panel n named fits same) (skip_told panel n named fits)
+
+pub written_tick : (line : List ℕ) (n : ℤ) → Has64Bits n → line ≡ codes "{\"tick\":" ++ (signed_decimal n ++ codes "}")
+    → option_and_then delivery_in (json_of line) ≡ Some (Tick n)
+written_tick line n fits same =
+    read_delivery line line (object (tick_members n)) (Tick n) (text_is line _ same (tick_utf8 n fits)) (tick_read line n fits same)
+    (tick_told n fits)
 
 pub written_object : (body : List ℕ) (n : ℤ) (content : Content) → IsName content.point → Has64Bits n → Have64Bits content
     → body ≡ codes "{\"number\":" ++ (signed_decimal n ++ (codes "," ++ (content_text content ++ codes "}")))

@@ -13,7 +13,7 @@ ghost use Rattle.store.specs.declared.StoreFault.TheVariants.{NoMemory};
 
 use crate::clock_line::{import_in, tick_in};
 use crate::panel_line::panel_delivery_in;
-use crate::usual_command::usual_command;
+use crate::usual_line::usual_delivery;
 use crate::{LineFault, ParsedLine};
 use building::Building;
 use deliveries::Delivery;
@@ -23,9 +23,9 @@ use serde_json::Value;
 use std::alloc::Global;
 use store::StoreFault;
 
-/// What a line says, without its line end; an import is one of entries for calendars of the building. A command of
-/// the usual form is read in one pass, which memory may be refused for too: then the line is read as any other. One
-/// `scratch` is lent to each line: it is the memory that the pass needs, and to make it costs more than a line.
+/// What a line says, without its line end; an import is one of entries for calendars of the building. A line of a usual
+/// form is read in one pass, which memory may be refused for too: then the line is read as any other. One `scratch` is
+/// lent to each line: it is the memory that the pass needs, and to make it costs more than a line.
 #[tactic(auto, unfolding(crate::specs::DeliveryLine::parse_line))]
 pub fn parse_line(
     alloc: Global,
@@ -35,8 +35,8 @@ pub fn parse_line(
 ) -> Result<ParsedLine, LineFault>
     ensures { Tells (parse_line building.now line.now) result }
 {
-    if let Some(command) = usual_command(scratch, line) {
-        return Ok(ParsedLine::Delivery(command));
+    if let Some(delivery) = usual_delivery(scratch, line) {
+        return Ok(ParsedLine::Delivery(delivery));
     }
     let value = value_of(alloc, line)?;
     parsed_in(alloc, building, &value)

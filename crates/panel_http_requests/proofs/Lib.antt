@@ -9,3 +9,4 @@ mod BodyLemmas
 pub mod MethodLemmas
 pub mod RequestLemmas
 pub mod WholeLemmas
+mod WrittenBodyLemmas

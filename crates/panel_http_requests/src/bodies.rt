@@ -5,14 +5,15 @@ ghost use Rattle.delivery_json.specs.ClockLine.{import_of};
 ghost use Rattle.delivery_json.specs.LineFault.{Tells};
 ghost use Rattle.panel_http_requests.specs.RequestBody.{command_body, of_import, skip_body, tick_body};
 
-use crate::panel_bodies::{command_of, skip_of};
+use crate::panel_bodies::{command_by, command_of, named, skip_of};
 use crate::request::Request;
 use building::Building;
 use deliveries::Delivery;
-use delivery_json::{LineFault, ParsedLine, import_of, lone_integer, value_of};
+use delivery_json::{LineFault, ParsedLine, import_of, lone_integer, value_of, written_body};
 use std::alloc::Global;
 
-/// The command in a body, by the panel that a segment of the target names.
+/// The command in a body, by the panel that a segment of the target names. A body in the form in which the desk writes a
+/// command itself is compared with that form, which costs a fraction of what reading its JSON does.
 #[tactic(auto, unfolding(crate::specs::RequestBody::command_body))]
 pub(crate) fn command_body(
     alloc: Global,
@@ -21,6 +22,9 @@ pub(crate) fn command_body(
 ) -> Result<Request, LineFault>
     ensures { Tells (command_body (option_map (λ s. s.now) panel.entry) body.now) result }
 {
+    if let Some(command) = written_body(body) {
+        return Ok(command_by(named(panel), command));
+    }
     let value = value_of(alloc, body)?;
     command_of(panel, &value).ok_or(LineFault::NotDelivery)
 }

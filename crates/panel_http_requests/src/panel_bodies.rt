@@ -47,7 +47,8 @@ fn command_in(value: &Value) -> Option<CommandBody>
     }
 }
 
-fn command_by(panel: Option<Name>, command: CommandBody) -> Request
+/// A command of a panel that the target names.
+pub(crate) fn command_by(panel: Option<Name>, command: CommandBody) -> Request
     ensures { result ≡ command_by panel command }
 {
     match panel {

@@ -3,7 +3,7 @@ use Rattle.serde_json.specs.Data.{object}
 use Rattle.points.specs.Texts.{text_of}
 use Rattle.delivery_json.specs.DeliveryLine.{delivery_in, json_of}
 use Rattle.delivery_json.proofs.UsualLemmas.{read_delivery, some-weaker}
-use Rattle.delivery_json.proofs.usual_command.command_by_members.Goals as goal
+use Rattle.delivery_json.proofs.usual_line.command_by_members.Goals as goal
 
 pub returns : goal.returns
 returns c =

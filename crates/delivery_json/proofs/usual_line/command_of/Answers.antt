@@ -1,6 +1,6 @@
 use Rattle.std.proofs.Common.{◌≡◌, pos, of_z, to_z, unwrap_or, w64, rules}
 use Rattle.delivery_json.proofs.UsualLemmas.{command_reported}
-use Rattle.delivery_json.proofs.usual_command.command_of.Goals as goal
+use Rattle.delivery_json.proofs.usual_line.command_of.Goals as goal
 
 pub returns : goal.returns
 returns c = λ ms is.

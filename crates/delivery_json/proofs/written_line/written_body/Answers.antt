@@ -1,7 +1,7 @@
 use Rattle.std.proofs.Common.{◌≡◌, ◌^◌, ◌<◌, IfSome, of_z, to_z, w64, rules}
 use Rattle.std.specs.Int.Signed.{mag}
 use Rattle.delivery_json.proofs.WrittenLemmas.{body_pieces, written_object}
-use Rattle.delivery_json.proofs.written_command.written_body.Goals as goal
+use Rattle.delivery_json.proofs.written_line.written_body.Goals as goal
 
 pub returns : goal.returns
 returns c =

@@ -1,6 +1,6 @@
 use Rattle.std.proofs.Common.{◌≡◌, ◌∙◌, ◌++◌, ap, of_z, to_z, w64, rules}
 use Rattle.delivery_json.proofs.WrittenLemmas.{content_pieces}
-use Rattle.delivery_json.proofs.written_command.content_to_end.Goals as goal
+use Rattle.delivery_json.proofs.written_line.content_to_end.Goals as goal
 
 pub returns : goal.returns
 returns c =

@@ -1,4 +1,4 @@
-//! The command that a line of the usual form says, read in one pass.
+//! What a line of a usual form says, read in one pass.
 
 ghost use Rattle.std.specs.Prelude.{◌≡◌, IfSome, Some, option_and_then};
 ghost use Rattle.serde_json.specs.Data.{Members, object};
@@ -7,18 +7,18 @@ ghost use Rattle.delivery_json.specs.DeliveryLine.{delivery_in, json_of};
 
 use crate::command_members::CommandMembers;
 use crate::object_members::read_members;
-use crate::written_command::written_command;
+use crate::written_line::written_delivery;
 use deliveries::Delivery;
 use json::Scratch;
 use points::{Content, LOWEST_PRIORITY, text_of};
 
-/// The command that a line of the usual form says; nothing of any other, or where memory is refused. A line in the form
-/// in which the desk writes one itself is compared with that form; any other is read token by token.
-pub(crate) fn usual_command(scratch: &mut Scratch, line: &[u8]) -> Option<Delivery>
-    ensures { IfSome result (λ command. option_and_then delivery_in (json_of line.now) ≡ Some command) }
+/// What a line of a usual form says; nothing of any other, or where memory is refused. A line in the form in which the
+/// desk writes one itself is compared with that form; a command in another form is read token by token.
+pub(crate) fn usual_delivery(scratch: &mut Scratch, line: &[u8]) -> Option<Delivery>
+    ensures { IfSome result (λ delivery. option_and_then delivery_in (json_of line.now) ≡ Some delivery) }
 {
-    match written_command(line) {
-        Some(command) => Some(command),
+    match written_delivery(line) {
+        Some(delivery) => Some(delivery),
         None => command_by_members(scratch, line),
     }
 }

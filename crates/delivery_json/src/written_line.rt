@@ -1,6 +1,6 @@
-//! The command of a line in the form in which `line_of_delivery` writes one.
+//! The delivery of a line in the form in which `line_of_delivery` writes one.
 
-ghost use Rattle.std.specs.Prelude.{◌≡◌, ◌++◌, IfSome, IsTrue, Some, codes, option_and_then};
+ghost use Rattle.std.specs.Prelude.{◌≡◌, ◌++◌, ℕ, List, IfSome, IsTrue, Some, codes, option_and_then};
 ghost use Rattle.std.specs.Fmt.{signed_decimal};
 ghost use Rattle.points.specs.Name.{IsName};
 ghost use Rattle.delivery_json.specs.CommandMembers.{IsBody};
@@ -13,13 +13,26 @@ use itoa::Buffer;
 use memchr::memchr;
 use points::{Content, Name, name_of, text_of};
 
-/// The command of a line, without its line end, that is written as `line_of_delivery` writes one: compact, its keys in
-/// byte order, each number in the fewest digits. Nothing of a line of any other form.
-pub(crate) fn written_command(line: &[u8]) -> Option<Delivery>
-    ensures { IfSome result (λ command. option_and_then delivery_in (json_of line.now) ≡ Some command) }
+/// The delivery of a line, without its line end, that is written as `line_of_delivery` writes one: compact, its keys in
+/// byte order, each number in the fewest digits. Nothing of a line of any other form, or of an import.
+pub(crate) fn written_delivery(line: &[u8]) -> Option<Delivery>
+    ensures { IfSome result (λ delivery. option_and_then delivery_in (json_of line.now) ≡ Some delivery) }
 {
-    let rest = after(b"{\"number\":", line)?;
-    let (number, rest) = integer_before(b',', rest)?;
+    if let Some(rest) = after(b"{\"number\":", line) {
+        return command_to_end(rest);
+    }
+    if let Some(rest) = after(b"{\"panel\":\"", line) {
+        return skip_to_end(rest);
+    }
+    tick_to_end(after(b"{\"tick\":", line)?)
+}
+
+/// The command of which this is the text, but for its beginning up to the number.
+fn command_to_end(text: &[u8]) -> Option<Delivery>
+    ensures { IfSome result (λ command. (line : List ℕ) → line ≡ codes "{\"number\":" ++ text.now
+        → option_and_then delivery_in (json_of line) ≡ Some command) }
+{
+    let (number, rest) = integer_before(b',', text)?;
     let rest = after(b",\"panel\":\"", rest)?;
     let (panel, rest) = split_before(b'"', rest)?;
     let panel = name_in(panel)?;
@@ -30,6 +43,27 @@ pub(crate) fn written_command(line: &[u8]) -> Option<Delivery>
         number,
         content,
     })
+}
+
+/// The skip of which this is the text, but for its beginning up to the panel.
+fn skip_to_end(text: &[u8]) -> Option<Delivery>
+    ensures { IfSome result (λ skip. (line : List ℕ) → line ≡ codes "{\"panel\":\"" ++ text.now
+        → option_and_then delivery_in (json_of line) ≡ Some skip) }
+{
+    let (panel, rest) = split_before(b'"', text)?;
+    let panel = name_in(panel)?;
+    let rest = after(b"\",\"skip\":", rest)?;
+    let upto = integer_to_end(rest)?;
+    Some(Delivery::Skip { panel, upto })
+}
+
+/// The tick of which this is the text, but for its beginning up to the moment.
+fn tick_to_end(text: &[u8]) -> Option<Delivery>
+    ensures { IfSome result (λ tick. (line : List ℕ) → line ≡ codes "{\"tick\":" ++ text.now
+        → option_and_then delivery_in (json_of line) ≡ Some tick) }
+{
+    let at = integer_to_end(text)?;
+    Some(Delivery::Tick { at })
 }
 
 /// The command in a text without its panel, written in the same way: an object of its number and its content. Nothing of
@@ -69,9 +103,16 @@ fn value_to_end(text: &[u8]) -> Option<Option<i64>>
     if text == b"null}".as_slice() {
         return Some(None);
     }
-    let (value, rest) = integer_before(b'}', text)?;
+    Some(Some(integer_to_end(text)?))
+}
+
+/// The integer that fills a text, with the brace that closes its object.
+fn integer_to_end(text: &[u8]) -> Option<i64>
+    ensures { IfSome result (λ number. text.now ≡ signed_decimal number ++ codes "}") }
+{
+    let (number, rest) = integer_before(b'}', text)?;
     if rest == b"}".as_slice() {
-        Some(Some(value))
+        Some(number)
     } else {
         None
     }

@@ -1,10 +1,10 @@
 use Rattle.std.proofs.Common.{◌≡◌, ◌∙◌, ◌++◌, ◌^◌, ◌<◌, IfSome, ap, of_z, to_z, w64, rules}
 use Rattle.std.specs.Int.Signed.{mag}
-use Rattle.delivery_json.proofs.WrittenLemmas.{line_pieces, written_line}
-use Rattle.delivery_json.proofs.written_command.written_command.Goals as goal
+use Rattle.delivery_json.proofs.WrittenLemmas.{line_pieces, written_command}
+use Rattle.delivery_json.proofs.written_line.command_to_end.Goals as goal
 
 pub returns : goal.returns
-returns c =
+returns c = λ line begins.
     let number = c.in_ok-number.number in
     let panel = c.in_ok-panel-2.panel in
     let content = c.in_ok-content.content in
@@ -13,8 +13,8 @@ returns c =
     let priority : mag content.priority < 2 ^ 63 = search rules in
     let value : IfSome content.value (λ z. mag z < 2 ^ 63) = search rules in
     let named = c.in_ok-panel.ensures ∙ ap (λ l. l ++ c.in_ok-panel.rest.now) c.in_ok-panel-2.ensures.0 in
-    let same = line_pieces c.args.line.now c.in_ok-rest.rest.now c.in_ok-number.rest.now c.in_ok-rest-2.rest.now
-    c.in_ok-panel.rest.now c.in_ok-rest-3.rest.now panel number content c.in_ok-rest.ensures c.in_ok-number.ensures
-    c.in_ok-rest-2.ensures named c.in_ok-rest-3.ensures c.in_ok-content.ensures.0 in
+    let same = line_pieces line c.args.text.now c.in_ok-number.rest.now c.in_ok-rest.rest.now
+    c.in_ok-panel.rest.now c.in_ok-rest-2.rest.now panel number content begins c.in_ok-number.ensures
+    c.in_ok-rest.ensures named c.in_ok-rest-2.ensures c.in_ok-content.ensures.0 in
     rw whole
-    (written_line c.args.line.now panel number content c.in_ok-panel-2.ensures.1 c.in_ok-content.ensures.1 fits (priority, value) same)
+    (written_command line panel number content c.in_ok-panel-2.ensures.1 c.in_ok-content.ensures.1 fits (priority, value) same)
