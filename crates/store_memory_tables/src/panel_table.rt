@@ -1,5 +1,6 @@
 //! What is kept of one panel.
-ghost use Rattle.std.specs.Prelude.{◌≡◌, ℕ, ◌<◌, ◌≤◌, IfOk, IsSome, OnOk, Some, None, is_some, nat_lt, ◌==◌, if◌then◌else◌, cond};
+ghost use Rattle.std.specs.Bool.{IsTrue};
+ghost use Rattle.std.specs.Prelude.{◌≡◌, ℕ, ◌<◌, ◌≤◌, ◌↔◌, IfOk, IsSome, OnOk, Some, None, is_some, nat_lt, ◌==◌, if◌then◌else◌, cond};
 ghost use Rattle.std.specs.BTreeMap.{get, keys};
 ghost use Rattle.std.specs.Ordering.{nat_cmp};
 ghost use Rattle.std.specs.List.{list_any};
@@ -35,11 +36,22 @@ impl PanelTable {
         }
     }
 
+    // Whether a number is past each that has an entry, as that of nearly every new command is. The last entry
+    // tells so for a fraction of what a search costs.
+    fn is_past_all(&self, number: u64) -> bool
+        ensures { IsTrue result ↔ ((n : ℕ) → IsSome (get nat_cmp self.now.rows n) → n < number) }
+    {
+        match self.rows.last_key_value() {
+            Some((last, _)) => *last < number,
+            None => true,
+        }
+    }
+
     /// The row under a number, if one is kept.
     pub fn row(&self, number: u64) -> Option<CommandRow>
         ensures { result ≡ kept_rows self.now number }
     {
-        if number < self.first {
+        if number < self.first || self.is_past_all(number) {
             return None;
         }
         match self.rows.get(&number) {
@@ -92,7 +104,7 @@ impl PanelTable {
         ensures same { (n : ℕ) → kept_rows self.new n ≡ kept_rows self.old n }
         ensures next { self.new.next ≡ self.old.next }
     {
-        if !self.rows.contains_key(&number) {
+        if self.is_past_all(number) || !self.rows.contains_key(&number) {
             self.rows.insert(number, None)?;
         }
         Ok(())
