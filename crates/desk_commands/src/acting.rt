@@ -4,7 +4,8 @@ ghost use Rattle.std.specs.List.{All};
 ghost use Rattle.std.specs.Result.{result_err};
 ghost use Rattle.points.specs.declared.command_row.CommandState.TheVariants.{Answered};
 ghost use Rattle.points.specs.PriorityArray.{Places, present_of};
-ghost use Rattle.points.specs.Rights.{names_no_place};
+ghost use Rattle.building.specs.Building.{Building as a_building};
+ghost use Rattle.points.specs.Rights.{names_no_place, point_named};
 ghost use Rattle.window.specs.declared.numbered_content.NumberedContent.{NumberedContent as an_entry};
 ghost use Rattle.deliveries.specs.Accepted.{panel_named};
 ghost use Rattle.deliveries.specs.Machine.{answer_to, commanded, default_of, done_of, places_after};
@@ -15,7 +16,9 @@ ghost use Rattle.points.specs.Texts.{Text};
 ghost use Rattle.desk_commands.specs.Written.{Acts, commanding, places_at, written};
 
 use building::Building;
-use points::{Answer, CommandRow, CommandState, Content, Name, Panel, PriorityArray};
+use points::{
+    Answer, CommandRow, CommandState, Content, Name, Panel, Point, PriorityArray, permit_for,
+};
 use std::alloc::{AllocError, Global};
 use store::{KeptRow, PlaceValue, Store, StoreFault};
 use window::NumberedContent;
@@ -40,10 +43,12 @@ fn with_written(mut array: PriorityArray, values: &[PlaceValue], point: &Name) -
     array
 }
 
-fn relinquish_default(building: &Building, point: &Name) -> i64
-    ensures { result ≡ default_of building.now point.now }
+// The relinquish default of a point, where it was found.
+fn relinquish_default(point: Option<&Point>) -> i64
+    ensures { (building : a_building) (name : Text) → option_copied point.entry ≡ point_named building.points name
+        → result ≡ default_of building name }
 {
-    match building.find_point(point) {
+    match point {
         Some(point) => point.relinquish_default,
         None => 0,
     }
@@ -81,13 +86,15 @@ fn push_value(
     Ok(())
 }
 
-// Writes a permitted content in its place, and answers what its point presents then.
+// Writes a permitted content in its place, and answers what its point presents then, which was found by its name.
 fn write<S: Store>(
     store: &mut S,
     building: &Building,
+    point: Option<&Point>,
     values: &mut Vec<PlaceValue>,
     content: &Content,
 ) -> Result<Answer, StoreFault>
+    requires found { option_copied point ≡ point_named building.now.points content.now.point }
     requires permitted { names_no_place content.now.priority ≡ false }
     requires places { All IsPlace values.old.items }
     ensures reads { Reads (result_err result) (S.standing store.old) (S.standing store.new) }
@@ -104,7 +111,7 @@ fn write<S: Store>(
     let mut array = with_written(held, values.as_slice(), &content.point);
     push_value(values, &array, content)?;
     command_array(&mut array, content);
-    let (present, priority) = array.present(relinquish_default(building, &content.point));
+    let (present, priority) = array.present(relinquish_default(point));
     Ok(Answer::Done { present, priority })
 }
 
@@ -128,8 +135,9 @@ fn answer_command<S: Store>(
     ensures places { OnOk result (All IsPlace values.new.items) }
     ensures state { IfOk result (λ answer. IsState (Answered answer)) }
 {
-    match building.permit(panel, content) {
-        Ok(()) => write(store, building, values, content),
+    let point = building.find_point(&content.point);
+    match permit_for(point, panel, content) {
+        Ok(()) => write(store, building, point, values, content),
         Err(rule) => Ok(Answer::Refused(rule)),
     }
 }

@@ -13,7 +13,7 @@ returns-clause-answer g c = λ honest.
     let whole : to_z w64 (of_z w64 c.present-present.result.0) ≡ c.present-present.result.0 = search rules in
     let kept : to_z w64 (of_z w64 c.relinquish_default.result) ≡ c.relinquish_default.result = search rules in
     let base : to_z w64 (of_z w64 c.relinquish_default.result) ≡ default_of c.args.building.now content.point =
-    kept ∙ c.relinquish_default.ensures in
+    kept ∙ c.relinquish_default.ensures c.args.building.now content.point c.requires.found in
     let read : c.in_ok-held.held ≡ held content.point = c.in_ok-held.ensures.value honest in
     let array : c.command_array.new.array ≡ commanded (written values held content.point) content =
     c.command_array.ensures ∙ ap (λ (places : Places). commanded places content)
