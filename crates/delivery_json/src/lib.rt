@@ -20,7 +20,7 @@ pub use object_members::read_members;
 pub use panel_line::{CommandBody, command_body_in, name_in, priority_in, value_in};
 pub use parsed_line::ParsedLine;
 pub use reply_text::{RefusedImportText, ReplyText};
-pub use written_line::written_body;
+pub use written_line::{written_body, written_delivery};
 
 mod clock_line;
 mod command_members;

@@ -15,7 +15,7 @@ use points::{Content, Name, name_of, text_of};
 
 /// The delivery of a line, without its line end, that is written as `line_of_delivery` writes one: compact, its keys in
 /// byte order, each number in the fewest digits. Nothing of a line of any other form, or of an import.
-pub(crate) fn written_delivery(line: &[u8]) -> Option<Delivery>
+pub fn written_delivery(line: &[u8]) -> Option<Delivery>
     ensures { IfSome result (λ delivery. option_and_then delivery_in (json_of line.now) ≡ Some delivery) }
 {
     if let Some(rest) = after(b"{\"number\":", line) {

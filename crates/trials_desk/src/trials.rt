@@ -10,3 +10,4 @@ mod members;
 mod runs;
 mod torn_replays;
 mod worked_request;
+mod written;
