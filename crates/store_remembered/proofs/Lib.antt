@@ -1,3 +1,2 @@
-pub mod FreeLemmas
 pub mod KnownLemmas
 pub mod RememberLemmas

@@ -1,4 +1,3 @@
-pub mod Free
 pub mod Known
 pub mod Recalled
 pub mod Remembering
