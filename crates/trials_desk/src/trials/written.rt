@@ -23,7 +23,8 @@ fn a_written_body_is_recognised(rt: HostRuntime) -> Result<(), Fail> {
 fn a_written_command_is_recognised(rt: HostRuntime) -> Result<(), Fail> {
     let line =
         b"{\"number\":1,\"panel\":\"P1\",\"point\":\"LIGHT\",\"priority\":16,\"value\":null}".as_slice();
-    match written_delivery(line) {
+    let delivery = written_delivery(line);
+    match &delivery {
         Some(
             Delivery::Command {
                 panel,
@@ -31,8 +32,8 @@ fn a_written_command_is_recognised(rt: HostRuntime) -> Result<(), Fail> {
                 content,
             },
         ) => {
-            assert!(rt; panel == Name::read("P1")?, "the panel");
-            assert_eq!(rt; number, 1);
+            assert!(rt; *panel == Name::read("P1")?, "the panel");
+            assert_eq!(rt; *number, 1);
             assert_eq!(rt; content.value, None);
         }
         _ => return Err(Fail::new("no command")),
