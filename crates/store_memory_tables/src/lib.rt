@@ -1,7 +1,8 @@
 //! What do the parts of the desk's tables hold in memory?
 //!
 //! The next numbers and the rows of panels, the priority arrays of points, what schedules show and the entries of
-//! calendars, each over std's maps. Room is made for a change first, which is all that can fail; then it is written.
+//! calendars, over maps of std, and of `indexmap` where what was found last is looked at first. Room is made for a change
+//! first, which is all that can fail; then it is written.
 #![tactic(auto)]
 
 pub use arrays::Arrays;
