@@ -1,2 +1,3 @@
+pub mod FreeLemmas
 pub mod KnownLemmas
 pub mod RememberLemmas

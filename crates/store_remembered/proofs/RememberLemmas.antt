@@ -3,7 +3,7 @@ use Rattle.std.proofs.Common.{◌≡◌, Bool, true, false, None, Some, Result, 
 use Rattle.std.specs.Bool.{IsTrue}
 use Rattle.std.specs.Result.{result_err}
 use Rattle.store.specs.Asked.{Asked, Judges}
-use Rattle.store.specs.Asked.Asked.{ArrayOf, EntriesOf, LastTick, NextOf, ShownBy}
+use Rattle.store.specs.Asked.Asked.{ArrayOf, EntriesOf, LastTick, NextOf, RowOf, ShownBy}
 use Rattle.store.specs.Change.{with_change}
 use Rattle.store.specs.Standing.{Commits, Reads, Standing}
 use Rattle.store.specs.Tables.{Tables}
@@ -66,6 +66,11 @@ still_recalls : (memory : Memory) (tables : Tables) (old new : Asked → Bool) �
     → Recalls memory tables old → Recalls memory tables new
 still_recalls memory tables old new stands recalls = record {
   nexts = λ name value is. let both = recalls.nexts name value is in (both.0, stands (NextOf name) both.1);
+  free = λ panel value is. (
+    λ n after before. let both = (recalls.free panel value is).0 n after before in
+        (both.0, λ broken. true≢false (sym broken.1 ∙ stands (RowOf panel n) (not_true (old (RowOf panel n)) (λ was. both.1 (broken.0, was))))),
+    refl,
+  );
   arrays = λ name value is. let both = recalls.arrays name value is in (both.0, stands (ArrayOf name) both.1);
   shown = λ name value is. let both = recalls.shown name value is in (both.0, stands (ShownBy name) both.1);
   entries = λ name value is. let both = recalls.entries name value is in (both.0, stands (EntriesOf name) both.1);

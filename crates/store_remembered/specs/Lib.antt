@@ -1,3 +1,4 @@
+pub mod Free
 pub mod Known
 pub mod Recalled
 pub mod Remembering

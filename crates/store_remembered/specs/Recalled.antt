@@ -12,10 +12,15 @@ use Rattle.store.specs.Listed.{AreTexts}
 use Rattle.store.specs.Tables.{Tables}
 use Rattle.points.specs.Texts.{Text}
 use Rattle.store_remembered.specs.declared.memory.Memory.{Memory}
+use Rattle.store_remembered.specs.declared.free_numbers.FreeNumbers.{FreeNumbers}
+use Rattle.store_remembered.specs.Free.{AreFreeIn}
 use Rattle.store_remembered.specs.Known.{Has, Knows}
 
 abbrev pub known_next : Memory → Text → Option ℕ
 known_next memory panel = get bytes_eq memory.nexts panel
+
+abbrev pub known_free : Memory → Text → Option FreeNumbers
+known_free memory panel = get bytes_eq memory.free panel
 
 abbrev pub known_array : Memory → Text → Option Places
 known_array memory point = get bytes_eq memory.arrays point
@@ -33,6 +38,8 @@ AreImported imported calendar entries = AreTexts (λ text. IsTrue (imported cale
 -- whatever is known is what the tables have, and its rows can stand
 pub record Recalls (memory : Memory) (tables : Tables) (cannot_stand : Asked → Bool) : Type 0 where
   pub nexts : Knows (known_next memory) (Has tables.next) (λ panel. cannot_stand (NextOf panel))
+  -- each row is judged by its own number, and the panel by none
+  pub free : Knows (known_free memory) (AreFreeIn tables.row cannot_stand) (λ panel. false)
   pub arrays : Knows (known_array memory) (Has tables.places) (λ point. cannot_stand (ArrayOf point))
   pub shown : Knows (known_shown memory) (Has tables.shown) (λ schedule. cannot_stand (ShownBy schedule))
   pub entries : Knows (known_entries memory) (AreImported tables.imported) (λ calendar. cannot_stand (EntriesOf calendar))

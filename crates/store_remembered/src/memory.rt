@@ -1,28 +1,33 @@
 //! What was read of a store's tables.
-ghost use Rattle.std.specs.Prelude.{◌≡◌, Bool, false, IfSome, ℕ, ℤ, Option, option_map};
+ghost use Rattle.std.specs.Prelude.{◌≡◌, Bool, false, IfSome, IsTrue, ℕ, ℤ, Option, option_map};
 ghost use Rattle.points.specs.PriorityArray.{Places};
-ghost use Rattle.store.specs.Asked.{Asked};
+ghost use Rattle.store.specs.Asked.{Asked, IsBrokenRow};
 ghost use Rattle.store.specs.Asked.Asked.{ArrayOf, EntriesOf, LastTick, NextOf, ShownBy};
-ghost use Rattle.store.specs.Change.{CanStand, IsPlace, with_change, with_each, with_imported, with_last_tick, with_next, with_place, with_shown};
+ghost use Rattle.store.specs.Change.{CanStand, IsPlace, with_change, with_each, with_imported, with_last_tick, with_next, with_place, with_row, with_shown};
 ghost use Rattle.std.specs.HashMap.{get};
 ghost use Rattle.std.specs.List.{All};
 ghost use Rattle.std.specs.Str.{bytes_eq};
 ghost use Rattle.store.specs.Listed.{AreEntries};
 ghost use Rattle.store.specs.Tables.{Tables};
 ghost use Rattle.points.specs.Texts.{Text};
+ghost use Rattle.points.specs.Run.{Rows};
+ghost use Rattle.store_remembered.specs.Free.{AreFree, AreFreeIn};
 ghost use Rattle.store_remembered.specs.Known.{Has, Knows};
 ghost use Rattle.store_remembered.specs.Recalled.{AreImported, Recalls};
 
+use crate::free_numbers::FreeNumbers;
 use dates::Entry;
 use points::{Listing, Name, PriorityArray};
 use std::alloc::{AllocError, Global};
 use std::collections::HashMap;
-use store::{Change, ImportedEntry, NextNumber, PlaceValue, ShownValue};
+use store::{Change, ImportedEntry, KeptRow, NextNumber, PlaceValue, ShownValue};
 
-/// What was read of the tables, by the names for which it was asked. The rows of commands are not kept.
+/// What was read of the tables, by the names for which it was asked. The rows of commands are not kept, but it is known
+/// of some numbers of a panel that they have none.
 #[derive(Drop)]
 pub(crate) struct Memory {
     nexts: HashMap<Name, u64>,
+    free: HashMap<Name, FreeNumbers>,
     arrays: HashMap<Name, PriorityArray>,
     shown: HashMap<Name, Option<Option<i64>>>,
     entries: HashMap<Name, Listing<Entry>>,
@@ -46,6 +51,25 @@ fn put_next(known: &mut HashMap<Name, u64>, item: &NextNumber)
 {
     if let Some(next) = known.get_mut(&item.panel) {
         *next = item.next;
+    }
+}
+
+/// Takes the numbers of new rows out of those that are known to have none.
+fn put_rows(known: &mut HashMap<Name, FreeNumbers>, items: &[KeptRow])
+    ensures { (rows : Text → Rows) (cannot_stand : Asked → Bool) → Knows (get bytes_eq known.old) (AreFreeIn rows cannot_stand) (λ panel. false)
+        → Knows (get bytes_eq known.new) (AreFreeIn (with_each with_row items.now rows) cannot_stand) (λ panel. false) }
+{
+    for item in items {
+        put_row(known, item);
+    }
+}
+
+fn put_row(known: &mut HashMap<Name, FreeNumbers>, item: &KeptRow)
+    ensures { (rows : Text → Rows) (cannot_stand : Asked → Bool) → Knows (get bytes_eq known.old) (AreFreeIn rows cannot_stand) (λ panel. false)
+        → Knows (get bytes_eq known.new) (AreFreeIn (with_row item.now rows) cannot_stand) (λ panel. false) }
+{
+    if let Some(free) = known.get_mut(&item.panel) {
+        *free = free.without(item.number);
     }
 }
 
@@ -123,6 +147,7 @@ impl Memory {
     {
         Memory {
             nexts: HashMap::new(alloc),
+            free: HashMap::new(alloc),
             arrays: HashMap::new(alloc),
             shown: HashMap::new(alloc),
             entries: HashMap::new(alloc),
@@ -144,6 +169,27 @@ impl Memory {
             → tables.next panel.now ≡ next → cannot_stand (NextOf panel.now) ≡ false → Recalls self.new tables cannot_stand }
     {
         self.nexts.insert(*panel, next)?;
+        Ok(())
+    }
+
+    /// Whether it is known that no row of a panel stands from a number on up to and with another.
+    pub(crate) fn are_free(&self, panel: &Name, first: u64, last: u64) -> bool
+        ensures { (tables : Tables) (cannot_stand : Asked → Bool) → Recalls self.now tables cannot_stand → IsTrue result
+            → AreFree (tables.row panel.now) (IsBrokenRow cannot_stand panel.now) first last }
+    {
+        match self.free.get(panel) {
+            Some(free) => free.has_all(first, last),
+            None => false,
+        }
+    }
+
+    /// Keeps that no row of a panel stands at these numbers.
+    pub(crate) fn keep_free(&mut self, panel: &Name, free: FreeNumbers) -> Result<(), AllocError>
+        ensures { (tables : Tables) (cannot_stand : Asked → Bool) → Recalls self.old tables cannot_stand
+            → AreFree (tables.row panel.now) (IsBrokenRow cannot_stand panel.now) free.first free.last
+            → Recalls self.new tables cannot_stand }
+    {
+        self.free.insert(*panel, free)?;
         Ok(())
     }
 
@@ -234,6 +280,7 @@ impl Memory {
             → Recalls self.new (with_change change.now tables) cannot_stand }
     {
         put_nexts(&mut self.nexts, &change.nexts);
+        put_rows(&mut self.free, &change.rows);
         put_places(&mut self.arrays, &change.places);
         put_all_shown(&mut self.shown, &change.shown);
         forget_imported(&mut self.entries, &change.imported);

@@ -1,15 +1,21 @@
 //! A store that answers from memory.
-ghost use Rattle.std.specs.Prelude.{◌≡◌, IfErr, IfOk, None, Some};
+ghost use Rattle.std.specs.Prelude.{◌≡◌, ◌≤◌, ℕ, IfErr, IfOk, None, Some};
 ghost use Rattle.std.specs.Result.{result_err};
+ghost use Rattle.points.specs.Run.{IsRun, Rows};
 ghost use Rattle.store.specs.Standing.{Reads};
+ghost use Rattle.store.specs.declared.fault.StoreFault.TheVariants.{BadRow};
 ghost use Rattle.store_remembered.specs.Remembering.{shut_after};
 
+use crate::free_numbers::FreeNumbers;
 use crate::memory::Memory;
 use dates::Entry;
 use points::{CommandRow, Listing, Name, NumberedRow, PriorityArray};
 use std::alloc::Global;
 use std::marker::Model;
 use store::{Change, Names, Store, StoreFault};
+
+/// How many numbers past those that are asked for are looked at too, where these have no row.
+const AHEAD: u64 = 64;
 
 /// A store over another one. What the store below has answered once it answers from memory, but for the rows of
 /// commands and the names; a commit goes down, and once it has succeeded what is remembered follows it. To a caller it
@@ -44,6 +50,21 @@ fn is_shut_after<T>(was_shut: bool, answer: &Result<T, StoreFault>) -> bool
     }
 }
 
+/// The numbers before the first row of a run, from one on, or all up to and with another where it has none.
+fn free_before(run: &[NumberedRow], from: u64, upto: u64) -> FreeNumbers
+    requires { from ≤ upto }
+    ensures { (rows : Rows) → IsRun rows from upto run.now
+        → (n : ℕ) → result.first ≤ n → n ≤ result.last → (from ≤ n) × (n ≤ upto) × (rows n ≡ None) }
+{
+    match run.first() {
+        Some(row) => FreeNumbers::between(from, row.number.min(upto)),
+        None => FreeNumbers {
+            first: from,
+            last: upto,
+        },
+    }
+}
+
 impl<S: Store + Drop> Remembered<S> {
     /// A store over one that is open, of which nothing is remembered but the last tick. The store below is only read,
     /// and is handed back with a fault.
@@ -60,6 +81,27 @@ impl<S: Store + Drop> Remembered<S> {
                 is_shut: false,
             }),
             Err(fault) => Err((fault, below)),
+        }
+    }
+
+    /// Reads which of a panel's numbers from one on, up to another and some past it, have no row, so that the panel's next
+    /// commands need not ask. A fault that shuts nothing is none of this read, whose answer may be left out.
+    fn look_ahead(&mut self, panel: &Name, from: u64, upto: u64) -> Result<(), StoreFault>
+        requires { from ≤ upto }
+        ensures reads { Reads (result_err result) (S.standing self.old) (S.standing self.new) }
+        ensures fault { IfErr result (λ fault. fault ≡ BadRow → ⊥) }
+    {
+        let far = upto.saturating_add(AHEAD);
+        let answer = self.below.commands_run(panel, from, far);
+        self.is_shut = is_shut_after(self.is_shut, &answer);
+        match answer {
+            Ok(rows) => {
+                // Where memory is refused it is not known.
+                let _kept = self.memory.keep_free(panel, free_before(&rows, from, far));
+                Ok(())
+            }
+            Err(StoreFault::NoMemory | StoreFault::BadRow) => Ok(()),
+            Err(fault) => Err(fault),
         }
     }
 
@@ -100,9 +142,19 @@ impl<S: Store + Drop> Store for Remembered<S> {
         from: u64,
         upto: u64,
     ) -> Result<Vec<NumberedRow>, StoreFault> {
+        if self.is_shut {
+            return Err(StoreFault::Shut);
+        }
+        if self.memory.are_free(panel, from, upto) {
+            return Ok(Vec::new(self.alloc));
+        }
         let answer = self.below.commands_run(panel, from, upto);
         self.is_shut = is_shut_after(self.is_shut, &answer);
-        answer
+        let rows = answer?;
+        if rows.is_empty() {
+            self.look_ahead(panel, from, upto)?;
+        }
+        Ok(rows)
     }
 
     fn array(&mut self, point: &Name) -> Result<PriorityArray, StoreFault> {

@@ -10,6 +10,7 @@ use Rattle.store_remembered.proofs.memory.Memory.keep_array.Goals as goal
 pub returns-in_err-insert : goal.returns-in_err-insert
 returns-in_err-insert c = λ tables rows recalls is stands. record {
   nexts = recalls.nexts;
+  free = recalls.free;
   arrays = known_same (Has tables.places) (λ point. rows (ArrayOf point))
       (get bytes_eq c.args.self.now.arrays) (get bytes_eq c.insert.new.self)
       (λ q. ap (λ l. lookup (bytes_eq q) l) c.in_err-insert.ensures.err) recalls.arrays;
@@ -21,6 +22,7 @@ returns-in_err-insert c = λ tables rows recalls is stands. record {
 pub returns : goal.returns
 returns c = λ tables rows recalls is stands. record {
   nexts = recalls.nexts;
+  free = recalls.free;
   arrays = known_more (Has tables.places) (λ point. rows (ArrayOf point))
       (get bytes_eq c.args.self.now.arrays) (get bytes_eq c.insert.new.self) c.args.point.now c.args.array
       c.in_ok-insert.ensures.updates.0 is stands recalls.arrays;

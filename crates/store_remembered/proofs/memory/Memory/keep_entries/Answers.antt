@@ -10,6 +10,7 @@ use Rattle.store_remembered.proofs.memory.Memory.keep_entries.Goals as goal
 pub returns-in_err-insert : goal.returns-in_err-insert
 returns-in_err-insert c = λ tables rows recalls is stands. record {
   nexts = recalls.nexts;
+  free = recalls.free;
   arrays = recalls.arrays;
   shown = recalls.shown;
   entries = known_same (AreImported tables.imported) (λ calendar. rows (EntriesOf calendar))
@@ -21,6 +22,7 @@ returns-in_err-insert c = λ tables rows recalls is stands. record {
 pub returns : goal.returns
 returns c = λ tables rows recalls is stands. record {
   nexts = recalls.nexts;
+  free = recalls.free;
   arrays = recalls.arrays;
   shown = recalls.shown;
   entries = known_more (AreImported tables.imported) (λ calendar. rows (EntriesOf calendar))

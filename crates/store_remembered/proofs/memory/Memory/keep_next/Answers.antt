@@ -12,6 +12,7 @@ returns-in_err-insert c = λ tables rows recalls is stands. record {
   nexts = known_same (Has tables.next) (λ panel. rows (NextOf panel))
       (get bytes_eq c.args.self.now.nexts) (get bytes_eq c.insert.new.self)
       (λ q. ap (λ l. lookup (bytes_eq q) l) c.in_err-insert.ensures.err) recalls.nexts;
+  free = recalls.free;
   arrays = recalls.arrays;
   shown = recalls.shown;
   entries = recalls.entries;
@@ -23,6 +24,7 @@ returns c = λ tables rows recalls is stands. record {
   nexts = known_more (Has tables.next) (λ panel. rows (NextOf panel))
       (get bytes_eq c.args.self.now.nexts) (get bytes_eq c.insert.new.self) c.args.panel.now c.args.next
       c.in_ok-insert.ensures.updates.0 is stands recalls.nexts;
+  free = recalls.free;
   arrays = recalls.arrays;
   shown = recalls.shown;
   entries = recalls.entries;

@@ -10,6 +10,7 @@ use Rattle.store_remembered.proofs.memory.Memory.keep_shown.Goals as goal
 pub returns-in_err-insert : goal.returns-in_err-insert
 returns-in_err-insert c = λ tables rows recalls is stands. record {
   nexts = recalls.nexts;
+  free = recalls.free;
   arrays = recalls.arrays;
   shown = known_same (Has tables.shown) (λ schedule. rows (ShownBy schedule))
       (get bytes_eq c.args.self.now.shown) (get bytes_eq c.insert.new.self)
@@ -21,6 +22,7 @@ returns-in_err-insert c = λ tables rows recalls is stands. record {
 pub returns : goal.returns
 returns c = λ tables rows recalls is stands. record {
   nexts = recalls.nexts;
+  free = recalls.free;
   arrays = recalls.arrays;
   shown = known_more (Has tables.shown) (λ schedule. rows (ShownBy schedule))
       (get bytes_eq c.args.self.now.shown) (get bytes_eq c.insert.new.self) c.args.schedule.now c.args.shown
