@@ -1,14 +1,7 @@
 -- A line in the form in which a delivery is written is read as that delivery.
 use Rattle.std.proofs.Common.{◌≡◌, ◌∙◌, ℕ, ℤ, pos, negsuc, ◌^◌, ◌<◌, ◌≤◌, ◌&&◌, Bool, true, List, [], ◌∷◌, ◌++◌, Option, Some, None, codes, length, nat_lt, nat_le, IfSome, option_and_then, option_map, refl, sym, ap, arith, append_assoc, append-nil, lt-ltb}
-use Rattle.std.proofs.lemmas.Bool.{ltb-true}
 use Rattle.std.proofs.lemmas.Bool.Decides.{nat_tests}
-use Rattle.std.proofs.lemmas.List.Elements.{All-weaker}
-use Rattle.std.proofs.lemmas.List.Sums.{AllPass-from_list_all}
-use Rattle.std.proofs.lemmas.Str.Ascii.{IsAscii-from_all}
-use Rattle.std.proofs.lemmas.Fmt.{IsAscii-signed}
-use Rattle.std.proofs.lemmas.Str.{IsUtf8-append, IsUtf8-from_ascii, is_utf8-from_IsUtf8}
 use Rattle.std.specs.Fmt.{signed_decimal}
-use Rattle.std.specs.Str.{IsUtf8, is_utf8}
 use Rattle.std.specs.List.{list_all}
 use Rattle.std.specs.Int.Signed.{mag}
 use Rattle.json.specs.Print.{escape, escape_byte}
@@ -28,7 +21,6 @@ use Rattle.serde_json.proofs.Texts.{print-outline}
 use Rattle.points.specs.Name.{IsName, is_name_byte}
 use Rattle.points.specs.Texts.{text_of}
 use Rattle.points.specs.declared.content.Content.{Content}
-use Rattle.points.proofs.NameLemmas.{name_is_utf8}
 use Rattle.deliveries.specs.declared.delivery.Delivery.TheVariants.{Command, Skip, Tick}
 use Rattle.delivery_json.specs.ClockLine.{tick_in}
 use Rattle.delivery_json.specs.CommandMembers.{IsBody}
@@ -238,62 +230,6 @@ tick_read : (text : List ℕ) (n : ℤ) → Has64Bits n → text ≡ codes "{\"t
 tick_read text n fits same =
     object_read text (tick_members n) (same ∙ sym (tick_text-is n)) (number_is n fits, tt) (omega arith) (rw (number_json n fits) refl)
 
--- ---- each is UTF-8
-
-literal_utf8 : (text : List ℕ) → list_all (λ byte. nat_lt byte 128) text ≡ true → IsUtf8 text
-literal_utf8 text e = IsUtf8-from_ascii text (IsAscii-from_all text
-    (All-weaker (λ byte. nat_lt byte 128 ≡ true) (λ byte. byte < 128) (λ byte less. ltb-true byte 128 less) text
-    (AllPass-from_list_all (λ byte. nat_lt byte 128) text e)))
-
-integer_utf8 : (z : ℤ) → Has64Bits z → IsUtf8 (signed_decimal z)
-integer_utf8 z h = IsUtf8-from_ascii (signed_decimal z) (IsAscii-signed z h)
-
-value_utf8 : (value : Option ℤ) → IfSome value Has64Bits → IsUtf8 (value_text value)
-value_utf8 None h = literal_utf8 (codes "null") refl
-value_utf8 (Some z) h = integer_utf8 z h
-
-content_utf8 : (content : Content) → IsName content.point → Have64Bits content → IsUtf8 (content_text content ++ codes "}")
-unfolding content_text
-content_utf8 content named all =
-    let brace = literal_utf8 (codes "}") refl in
-    let value = IsUtf8-append (codes ",\"value\":") (value_text content.value) (literal_utf8 (codes ",\"value\":") refl) (value_utf8 content.value all.1) in
-    let priority = IsUtf8-append (signed_decimal content.priority) _ (integer_utf8 content.priority all.0) value in
-    let after_point = IsUtf8-append (codes "\",\"priority\":") _ (literal_utf8 (codes "\",\"priority\":") refl) priority in
-    let point = IsUtf8-append content.point _ (name_is_utf8 content.point named) after_point in
-    IsUtf8-append _ (codes "}") (IsUtf8-append (codes "\"point\":\"") _ (literal_utf8 (codes "\"point\":\"") refl) point) brace
-
-body_utf8 : (n : ℤ) (content : Content) → IsName content.point → Has64Bits n → Have64Bits content
-    → IsUtf8 (codes "{\"number\":" ++ (signed_decimal n ++ (codes "," ++ (content_text content ++ codes "}"))))
-body_utf8 n content named fits all =
-    let after_number = IsUtf8-append (codes ",") _ (literal_utf8 (codes ",") refl) (content_utf8 content named all) in
-    IsUtf8-append (codes "{\"number\":") _ (literal_utf8 (codes "{\"number\":") refl)
-    (IsUtf8-append (signed_decimal n) _ (integer_utf8 n fits) after_number)
-
-line_utf8 : (panel : List ℕ) (n : ℤ) (content : Content) → IsName panel → IsName content.point → Has64Bits n → Have64Bits content
-    → IsUtf8 (codes "{\"number\":" ++ (signed_decimal n ++ (codes ",\"panel\":\"" ++ (panel ++ (codes "\"," ++ (content_text content ++ codes "}"))))))
-line_utf8 panel n content named point_named fits all =
-    let after_panel = IsUtf8-append (codes "\",") _ (literal_utf8 (codes "\",") refl) (content_utf8 content point_named all) in
-    let after_number = IsUtf8-append (codes ",\"panel\":\"") _ (literal_utf8 (codes ",\"panel\":\"") refl)
-    (IsUtf8-append panel _ (name_is_utf8 panel named) after_panel) in
-    IsUtf8-append (codes "{\"number\":") _ (literal_utf8 (codes "{\"number\":") refl)
-    (IsUtf8-append (signed_decimal n) _ (integer_utf8 n fits) after_number)
-
-integer_utf8-braced : (n : ℤ) → Has64Bits n → IsUtf8 (signed_decimal n ++ codes "}")
-integer_utf8-braced n fits = IsUtf8-append (signed_decimal n) (codes "}") (integer_utf8 n fits) (literal_utf8 (codes "}") refl)
-
-skip_utf8 : (panel : List ℕ) (n : ℤ) → IsName panel → Has64Bits n
-    → IsUtf8 (codes "{\"panel\":\"" ++ (panel ++ (codes "\",\"skip\":" ++ (signed_decimal n ++ codes "}"))))
-skip_utf8 panel n named fits =
-    IsUtf8-append (codes "{\"panel\":\"") _ (literal_utf8 (codes "{\"panel\":\"") refl)
-    (IsUtf8-append panel _ (name_is_utf8 panel named)
-    (IsUtf8-append (codes "\",\"skip\":") _ (literal_utf8 (codes "\",\"skip\":") refl) (integer_utf8-braced n fits)))
-
-tick_utf8 : (n : ℤ) → Has64Bits n → IsUtf8 (codes "{\"tick\":" ++ (signed_decimal n ++ codes "}"))
-tick_utf8 n fits = IsUtf8-append (codes "{\"tick\":") _ (literal_utf8 (codes "{\"tick\":") refl) (integer_utf8-braced n fits)
-
-text_is : (bytes text : List ℕ) → bytes ≡ text → IsUtf8 text → text_of bytes ≡ Some bytes
-text_is bytes text same utf8 = rw (ap is_utf8 same ∙ is_utf8-from_IsUtf8 text utf8) refl
-
 -- ---- what they tell
 
 value_told : (value : Option ℤ) → IfSome value Has64Bits → value_in (value_data value) ≡ Some value
@@ -321,33 +257,32 @@ unfolding delivery_in tick_in lone_integer
 tick_told n fits = rw (as_i64-of n fits) refl
 
 pub written_command : (line panel : List ℕ) (n : ℤ) (content : Content) → IsName panel → IsName content.point → Has64Bits n
-    → Have64Bits content
+    → Have64Bits content → text_of line ≡ Some line
     → line ≡ codes "{\"number\":" ++ (signed_decimal n ++ (codes ",\"panel\":\"" ++ (panel ++ (codes "\"," ++ (content_text content ++ codes "}")))))
     → option_and_then delivery_in (json_of line) ≡ Some (Command panel n content)
-written_command line panel n content named point_named fits all same =
-    read_delivery line line (object (line_members panel n content)) (Command panel n content)
-    (text_is line _ same (line_utf8 panel n content named point_named fits all))
+written_command line panel n content named point_named fits all is_text same =
+    read_delivery line line (object (line_members panel n content)) (Command panel n content) is_text
     (line_read line panel n content named point_named fits all same) (line_told panel n content named point_named fits all)
 
-pub written_skip : (line panel : List ℕ) (n : ℤ) → IsName panel → Has64Bits n
+pub written_skip : (line panel : List ℕ) (n : ℤ) → IsName panel → Has64Bits n → text_of line ≡ Some line
     → line ≡ codes "{\"panel\":\"" ++ (panel ++ (codes "\",\"skip\":" ++ (signed_decimal n ++ codes "}")))
     → option_and_then delivery_in (json_of line) ≡ Some (Skip panel n)
-written_skip line panel n named fits same =
-    read_delivery line line (object (skip_members panel n)) (Skip panel n) (text_is line _ same (skip_utf8 panel n named fits))
+written_skip line panel n named fits is_text same =
+    read_delivery line line (object (skip_members panel n)) (Skip panel n) is_text
     (skip_read line panel n named fits same) (skip_told panel n named fits)
 
-pub written_tick : (line : List ℕ) (n : ℤ) → Has64Bits n → line ≡ codes "{\"tick\":" ++ (signed_decimal n ++ codes "}")
+pub written_tick : (line : List ℕ) (n : ℤ) → Has64Bits n → text_of line ≡ Some line → line ≡ codes "{\"tick\":" ++ (signed_decimal n ++ codes "}")
     → option_and_then delivery_in (json_of line) ≡ Some (Tick n)
-written_tick line n fits same =
-    read_delivery line line (object (tick_members n)) (Tick n) (text_is line _ same (tick_utf8 n fits)) (tick_read line n fits same)
-    (tick_told n fits)
+written_tick line n fits is_text same =
+    read_delivery line line (object (tick_members n)) (Tick n) is_text (tick_read line n fits same) (tick_told n fits)
 
 pub written_object : (body : List ℕ) (n : ℤ) (content : Content) → IsName content.point → Has64Bits n → Have64Bits content
+    → text_of body ≡ Some body
     → body ≡ codes "{\"number\":" ++ (signed_decimal n ++ (codes "," ++ (content_text content ++ codes "}")))
     → IsBody (json_of body) (record { number = n; content = content })
-written_object body n content named fits all same = (
+written_object body n content named fits all is_text same = (
   body_members n content,
-  ap (λ o. option_and_then read o) (text_is body _ same (body_utf8 n content named fits all)) ∙ body_read body n content named fits all same,
+  ap (λ o. option_and_then read o) is_text ∙ body_read body n content named fits all same,
   body_told n content named fits all,
   refl,
 )

@@ -1,7 +1,11 @@
 //! The text of a reply.
 
+ghost use Rattle.std.specs.Prelude.{◌++◌};
+ghost use Rattle.std.specs.Fmt.{WritesOnOk, signed_decimal};
+
 use building_holidays::{ImportCause, ImportFault};
 use deliveries::Reply;
+use itoa::Buffer;
 use points::Answer;
 use std::fmt;
 
@@ -22,7 +26,7 @@ impl fmt::Display for ReplyText {
             Reply::Differs { number } => {
                 write!(f, "{{\"answer\":\"differs\",\"number\":{number}}}")
             }
-            Reply::Answered { number, answer } => write!(f, "{}", AnswerText { number, answer }),
+            Reply::Answered { number, answer } => AnswerText { number, answer }.fmt(f),
             Reply::Parked { next, number } => {
                 write!(
                     f,
@@ -62,6 +66,14 @@ impl fmt::Display for ReplyText {
     }
 }
 
+/// Writes a text and a number after it. Nearly every reply has three, which `itoa` writes for half of what `write!` takes.
+fn write_integer<W: fmt::Write>(f: &mut fmt::Formatter<W>, text: &str, number: i64) -> fmt::Result
+    ensures { WritesOnOk W.write_str_gives f.old result (text.now ++ signed_decimal number) f.new }
+{
+    f.write_str(text)?;
+    f.write_str(Buffer::new().format(number))
+}
+
 /// The answer to a command, with the command's number.
 #[derive(Clone, Copy)]
 struct AnswerText {
@@ -78,10 +90,12 @@ impl fmt::Display for AnswerText {
     fn fmt<W: fmt::Write>(&self, f: &mut fmt::Formatter<W>) -> fmt::Result {
         let number = self.number;
         match self.answer {
-            Answer::Done { present, priority } => write!(
-                f,
-                "{{\"answer\":\"done\",\"number\":{number},\"present\":{present},\"priority\":{priority}}}"
-            ),
+            Answer::Done { present, priority } => {
+                write_integer(f, "{\"answer\":\"done\",\"number\":", number)?;
+                write_integer(f, ",\"present\":", present)?;
+                write_integer(f, ",\"priority\":", i64::from(priority))?;
+                f.write_str("}")
+            }
             Answer::Refused(rule) => {
                 write!(
                     f,

@@ -4,7 +4,7 @@ use Rattle.delivery_json.proofs.WrittenLemmas.{line_pieces, written_command}
 use Rattle.delivery_json.proofs.written_line.command_to_end.Goals as goal
 
 pub returns : goal.returns
-returns c = λ line begins.
+returns c = λ line is_text begins.
     let number = c.in_ok-number.number in
     let panel = c.in_ok-panel-2.panel in
     let content = c.in_ok-content.content in
@@ -17,4 +17,4 @@ returns c = λ line begins.
     c.in_ok-panel.rest.now c.in_ok-rest-2.rest.now panel number content begins c.in_ok-number.ensures
     c.in_ok-rest.ensures named c.in_ok-rest-2.ensures c.in_ok-content.ensures.0 in
     rw whole
-    (written_command line panel number content c.in_ok-panel-2.ensures.1 c.in_ok-content.ensures.1 fits (priority, value) same)
+    (written_command line panel number content c.in_ok-panel-2.ensures.1 c.in_ok-content.ensures.1 fits (priority, value) is_text same)
