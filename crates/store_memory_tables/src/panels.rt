@@ -101,14 +101,25 @@ impl Panels {
         Ok(())
     }
 
-    // Makes an entry for a number in a panel's table.
-    fn make_slot(&mut self, panel: &Name, number: u64) -> Result<(), AllocError>
-        requires { IsSome (table_at self.old panel.now) }
+    // Makes a table with an entry for a number, for a panel that has no table.
+    fn make_table_for(&mut self, alloc: Global, panel: &Name, number: u64) -> Result<(), AllocError>
+        requires { table_at self.old panel.now ≡ None }
+        ensures room { OnOk result (IsSome (slot_of self.new panel.now number)) }
+        ensures grows { Grows self.old self.new }
+    {
+        let mut table = PanelTable::new(alloc);
+        table.make_room(number)?;
+        self.tables.insert(*panel, table)?;
+        Ok(())
+    }
+
+    // Makes an entry for a number in a panel's table, and the table where the panel has none.
+    fn make_slot(&mut self, alloc: Global, panel: &Name, number: u64) -> Result<(), AllocError>
         ensures room { OnOk result (IsSome (slot_of self.new panel.now number)) }
         ensures grows { Grows self.old self.new }
     {
         let Some(index) = index_of(&self.tables, &mut self.last, panel) else {
-            return Ok(());
+            return self.make_table_for(alloc, panel, number);
         };
         match self.tables.get_index_mut(index) {
             Some(table) => table.make_room(number),
@@ -137,8 +148,7 @@ impl Panels {
         ensures grows { Grows self.old self.new }
     {
         for item in rows {
-            self.make_table(alloc, &item.panel)?;
-            self.make_slot(&item.panel, item.number)?;
+            self.make_slot(alloc, &item.panel, item.number)?;
         }
         Ok(())
     }

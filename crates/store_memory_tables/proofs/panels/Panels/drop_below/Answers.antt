@@ -1,4 +1,4 @@
-use Rattle.std.proofs.Common.{◌∙◌, sym, ap, Some, None, is_some, nat_lt, cond}
+use Rattle.std.proofs.Common.{◌∙◌, Some, None, nat_lt, cond}
 use Rattle.std.specs.HashMap as hash
 use Rattle.std.specs.Str.{bytes_eq}
 use Rattle.indexmap.specs.IndexMap.{with_value_at}

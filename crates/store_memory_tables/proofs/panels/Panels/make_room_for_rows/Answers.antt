@@ -12,7 +12,6 @@ loop-item-preserved c =
       room = room-step (λ (x : KeptRow). IsSome (slot_of c.loop-item.self x.panel x.number)) (λ (x : KeptRow). IsSome
           (slot_of c.make_slot.new.self x.panel x.number)) c.args.rows.now
           c.loop-item.item-index c.item-item.result below c.item-item.is
-          (λ (x : KeptRow) here. c.make_slot.ensures.grows.room.slots x.panel x.number
-          (c.make_table.ensures.grows.room.slots x.panel x.number here)) c.loop-item.invariant.room c.in_ok-make_slot.ensures.room;
-      grows = Grows-then _ _ _ (Grows-then _ _ _ c.loop-item.invariant.grows c.make_table.ensures.grows) c.make_slot.ensures.grows;
+          (λ (x : KeptRow) here. c.make_slot.ensures.grows.room.slots x.panel x.number here) c.loop-item.invariant.room c.in_ok-make_slot.ensures.room;
+      grows = Grows-then _ _ _ c.loop-item.invariant.grows c.make_slot.ensures.grows;
     }

@@ -1,4 +1,4 @@
-use Rattle.std.proofs.Common.{sym, ap, refl, subst, Some, IsSome, is_some}
+use Rattle.std.proofs.Common.{sym, refl, subst, Some, IsSome}
 use Rattle.std.specs.Cmp.Lexicographic.{nat_list_eq_equiv}
 use Rattle.std.specs.HashMap as hash
 use Rattle.std.specs.Str.{bytes_eq}

@@ -1,4 +1,4 @@
-use Rattle.std.proofs.Common.{sym, ap, refl, Some, IsSome, is_some}
+use Rattle.std.proofs.Common.{refl, Some, IsSome}
 use Rattle.std.specs.HashMap as hash
 use Rattle.std.specs.Str.{bytes_eq}
 use Rattle.store_memory_tables.specs.declared.panel_table.PanelTable.{PanelTable}
