@@ -1,5 +1,5 @@
 -- A plan's change makes the tables of the plan.
-use Rattle.std.proofs.Common.{◌≡◌, ◌⊎◌, ◌++◌, true, false, List, ℕ, ℤ, [], ◌∷◌, Option, Some, None, Result, Ok, Err, IfOk, refl, sym, subst, ap, ◌∙◌, inl, inr, rules}
+use Rattle.std.proofs.Common.{◌≡◌, ◌⊎◌, ◌++◌, ◌-◌, ◌&&◌, nat_lt, if◌then◌else◌, arith, zero, suc, List, ℕ, ℤ, [], ◌∷◌, Option, Some, None, Result, Ok, Err, IfOk, refl, sym, subst, ap, ◌∙◌, inl, inr, rules}
 use Rattle.std.specs.Result.{result_err}
 use Rattle.points.specs.declared.answer.Answer.{Answer}
 use Rattle.points.specs.declared.answer.Answer.TheVariants.{Refused}
@@ -12,6 +12,11 @@ use Rattle.store.specs.Change.{with_change, with_each, with_imported, with_last_
 use Rattle.store.specs.Standing.{Commits, Content, Goes, IsOpen, Makes, Reads, Standing}
 use Rattle.store.specs.Tables.{Tables}
 use Rattle.points.specs.Texts.{Text}
+use Rattle.points.specs.Run.{Rows}
+use Rattle.points.specs.declared.command_row.CommandRow.{CommandRow}
+use Rattle.std.specs.Str.{bytes_eq}
+use Rattle.std.proofs.lemmas.Bool.Decides.{nat_tests}
+use Rattle.window.specs.Window.{remembered}
 use Rattle.store.proofs.ReadLemmas.{Commits-then, Goes-reported, changes_once_reported, changes_once_then}
 use Rattle.window.specs.declared.numbered_content.NumberedContent.{NumberedContent}
 use Rattle.window.specs.declared.plan.Plan.{Plan}
@@ -22,10 +27,20 @@ use Rattle.deliveries.specs.declared.reply.Reply.{Reply}
 use Rattle.deliveries.specs.Reply.{reply_on}
 use Rattle.deliveries.proofs.MovedLemmas.{is_applies}
 use Rattle.deliveries.proofs.ImportedLemmas.{imported_read, imported_then}
-use Rattle.deliveries.specs.Moved.{answered_rows, first_answer, moved, parked_rows, places_after_each}
+use Rattle.deliveries.specs.Moved.{answered_rows, first_answer, moved, parked_rows, places_after_each, rows_of}
 use Rattle.desk_commands.specs.declared.acting.Acted.{Acted}
-use Rattle.desk_commands.specs.Carried.{Becomes, Carries, IsChangeOf, MakesOnce, Replies, first_answer_in}
+use Rattle.desk_commands.specs.Carried.{Becomes, Carries, IsChangeOf, MakesOnce, Replies, dropped_below, first_answer_in}
 use Rattle.desk_commands.specs.Written.{written}
+
+-- below 0 no row stands
+none_below-0 : (p q : Text) (number : ℕ) (row : Option CommandRow)
+    → row ≡ (if bytes_eq p q && nat_lt number 0 then None else row)
+none_below-0 p q number row = grind (arith, nat_tests)
+
+dropped-without : (p : Text) (number : ℕ) (rows : Text → Rows)
+    → with_each without_rows (dropped_below p number) rows ≡ without_rows (record { panel = p; number = number }) rows
+dropped-without p zero rows = λ i q number. none_below-0 p q number (rows q number) i
+dropped-without p (suc number) rows = refl
 
 pub change-moved : (b : Building) (p : Text) (plan : Plan) (acted : Acted) (change : Change) (held : Tables)
     → IsChangeOf p plan acted change
@@ -35,10 +50,14 @@ pub change-moved : (b : Building) (p : Text) (plan : Plan) (acted : Acted) (chan
 unfolding with_change moved
 change-moved b p plan acted change held is rows places =
     let put = is.rows ∙ ap (λ items. items ++ parked_rows p plan.park) rows in
+    let dropped : with_each without_rows change.dropped.items (with_each with_row change.rows.items held.row)
+    ≡ without_rows (record { panel = p; number = plan.next - remembered }) (with_each with_row (rows_of b held.places p plan) held.row) =
+    (λ i. with_each without_rows (is.dropped i) (with_each with_row (put i) held.row))
+    ∙ dropped-without p (plan.next - remembered) (with_each with_row (rows_of b held.places p plan) held.row) in
     λ i. record {
       places = (ap (λ items. with_each with_place items held.places) is.places ∙ places) i;
       next = with_each with_next (is.nexts i) held.next;
-      row = with_each without_rows (is.dropped i) (with_each with_row (put i) held.row);
+      row = dropped i;
       shown = with_each with_shown (is.shown i) held.shown;
       imported = with_each with_imported (is.imported i) held.imported;
       last_tick = with_last_tick (is.last_tick i) held.last_tick;

@@ -15,7 +15,7 @@ use Rattle.store.specs.declared.fault.StoreFault.{StoreFault}
 use Rattle.store.specs.declared.fault.StoreFault.TheVariants.{NoMemory, Failed, Shut, BadRow}
 use Rattle.store.specs.Change.{IsNumber}
 use Rattle.store.specs.Standing.{Content, IsOpen, Reads, Standing, sound}
-use Rattle.store.proofs.ReadLemmas.{Goes-reported, stays_open}
+use Rattle.store.proofs.ReadLemmas.{stays_open}
 use Rattle.window.specs.declared.numbered_content.NumberedContent.{NumberedContent}
 use Rattle.window.specs.declared.plan.Plan.{Plan}
 use Rattle.points.specs.declared.numbered_row.TheConstants.{LAST_NUMBER}

@@ -1,5 +1,5 @@
 -- What carrying out a plan makes.
-use Rattle.std.specs.Prelude.{◌≡◌, ℕ, ◌+◌, ◌-◌, ◌≤◌, ◌⊎◌, Bool, true, false, ◌&&◌, nat_le, List, [], ◌∷◌, ◌++◌, Option, Some, None, Result, Ok, Err, IfOk, IfSome, ℤ}
+use Rattle.std.specs.Prelude.{◌≡◌, ℕ, zero, suc, ◌+◌, ◌-◌, ◌≤◌, ◌⊎◌, Bool, true, false, ◌&&◌, nat_le, List, [], ◌∷◌, ◌++◌, Option, Some, None, Result, Ok, Err, IfOk, IfSome, ℤ}
 use Rattle.std.specs.List.{All, list_all}
 use Rattle.std.specs.Option.{option_map_or}
 use Rattle.std.specs.Result.{result_err}
@@ -8,6 +8,7 @@ use Rattle.points.specs.declared.command_row.CommandState.{CommandState}
 use Rattle.points.specs.declared.command_row.CommandState.TheVariants.{Parked, Answered}
 use Rattle.store.specs.declared.change.Change.{Change}
 use Rattle.store.specs.declared.change.KeptRow.{KeptRow}
+use Rattle.store.specs.declared.change.RowsBelow.{RowsBelow}
 use Rattle.store.specs.declared.fault.StoreFault.{StoreFault}
 use Rattle.store.specs.declared.fault.StoreFault.TheVariants.{BadRow}
 use Rattle.store.specs.Change.{IsNumber}
@@ -67,11 +68,16 @@ pub record Replies (verdict : Verdict) (next after : ℕ) (number : ℤ) (answer
   pub other : (given : Answer) → (verdict ≡ Applies → ⊥) → result ≡ Ok (reply_on verdict next after number given)
   pub none : answer ≡ None → verdict ≡ Applies → result ≡ Err BadRow
 
+-- what drops the rows below a number: below 0 there is none
+abbrev pub dropped_below : Text → ℕ → List RowsBelow
+dropped_below panel zero = []
+dropped_below panel (suc number) = record { panel = panel; number = suc number } ∷ []
+
 -- the change of a plan, with what its commands made
 pub record IsChangeOf (panel : Text) (plan : Plan) (acted : Acted) (change : Change) : Type 0 where
   pub nexts : change.nexts.items ≡ record { panel = panel; next = plan.next } ∷ []
   pub rows : change.rows.items ≡ acted.rows.items ++ parked_rows panel plan.park
-  pub dropped : change.dropped.items ≡ record { panel = panel; number = plan.next - remembered } ∷ []
+  pub dropped : change.dropped.items ≡ dropped_below panel (plan.next - remembered)
   pub places : change.places.items ≡ acted.places.items
   pub shown : change.shown.items ≡ []
   pub imported : change.imported.items ≡ []

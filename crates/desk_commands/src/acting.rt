@@ -30,17 +30,16 @@ pub struct Acted {
     pub places: Vec<PlaceValue>,
 }
 
-// A priority array with the values that are written at its point.
-fn with_written(mut array: PriorityArray, values: &[PlaceValue], point: &Name) -> PriorityArray
+// Puts the values that are written at a point in its priority array.
+fn put_written(array: &mut PriorityArray, values: &[PlaceValue], point: &Name)
     requires { All IsPlace values.now }
-    ensures { result ≡ places_at point.now values.now array }
+    ensures { array.new ≡ places_at point.now values.now array.old }
 {
     for value in values {
         if value.point == *point {
             array.set(value.priority, value.value);
         }
     }
-    array
 }
 
 // The relinquish default of a point, where it was found.
@@ -107,8 +106,8 @@ fn write<S: Store>(
     ensures places { OnOk result (All IsPlace values.new.items) }
     ensures state { IfOk result (λ answer. IsState (Answered answer)) }
 {
-    let held = store.array(&content.point)?;
-    let mut array = with_written(held, values.as_slice(), &content.point);
+    let mut array = store.array(&content.point)?;
+    put_written(&mut array, values.as_slice(), &content.point);
     push_value(values, &array, content)?;
     command_array(&mut array, content);
     let (present, priority) = array.present(relinquish_default(point));

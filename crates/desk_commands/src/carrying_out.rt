@@ -9,7 +9,7 @@ ghost use Rattle.deliveries.specs.Moved.{parked_rows};
 ghost use Rattle.store.specs.Change.{CanStand, IsKeptRow, IsNumber, IsPlace};
 ghost use Rattle.window.specs.declared.numbered_content.NumberedContent.{NumberedContent as an_entry};
 ghost use Rattle.store.specs.Standing.{ChangesOnce, IsOpen};
-ghost use Rattle.desk_commands.specs.Carried.{Carries, IsChangeOf, IsInRange, first_answer_in, is_in_range, is_number};
+ghost use Rattle.desk_commands.specs.Carried.{Carries, IsChangeOf, IsInRange, dropped_below, first_answer_in, is_in_range, is_number};
 ghost use Rattle.points.specs.declared.numbered_row.TheConstants.{LAST_NUMBER};
 
 use crate::acting::{Acted, act_on_each};
@@ -87,6 +87,17 @@ fn with_parked(
     Ok(rows)
 }
 
+// What drops the rows of a panel below a number: nothing below 0, as for each panel of at most 1,000 numbers.
+fn dropped_below(alloc: Global, panel: Name, number: u64) -> Result<Vec<RowsBelow>, AllocError>
+    ensures { IfOk result (λ dropped. dropped.items ≡ dropped_below panel number) }
+{
+    let mut dropped = Vec::new(alloc);
+    if number != 0 {
+        dropped.push(RowsBelow { panel, number })?;
+    }
+    Ok(dropped)
+}
+
 // The change that a plan makes, with what its commands made.
 #[tactic(auto, unfolding(window::specs::Window::remembered))]
 fn change_of(alloc: Global, panel: Name, plan: &Plan, acted: Acted) -> Result<Change, AllocError>
@@ -96,18 +107,20 @@ fn change_of(alloc: Global, panel: Name, plan: &Plan, acted: Acted) -> Result<Ch
     ensures change { IfOk result (λ change. IsChangeOf panel plan.now acted change) }
     ensures stands { IfOk result CanStand }
 {
-    let mut change = Change::new(alloc);
-    change.nexts.push(NextNumber {
+    let mut nexts = Vec::new(alloc);
+    nexts.push(NextNumber {
         panel,
         next: plan.next,
     })?;
-    change.dropped.push(RowsBelow {
-        panel,
-        number: plan.next.saturating_sub(REMEMBERED),
-    })?;
-    change.rows = with_parked(acted.rows, panel, plan.park)?;
-    change.places = acted.places;
-    Ok(change)
+    Ok(Change {
+        nexts,
+        rows: with_parked(acted.rows, panel, plan.park)?,
+        dropped: dropped_below(alloc, panel, plan.next.saturating_sub(REMEMBERED))?,
+        places: acted.places,
+        shown: Vec::new(alloc),
+        imported: Vec::new(alloc),
+        last_tick: None,
+    })
 }
 
 /// Acts on a plan's commands and makes the change of the plan, in one commit: the store's last call. The reply is made

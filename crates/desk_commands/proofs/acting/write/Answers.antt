@@ -14,10 +14,10 @@ returns-clause-answer g c = λ honest.
     let kept : to_z w64 (of_z w64 c.relinquish_default.result) ≡ c.relinquish_default.result = search rules in
     let base : to_z w64 (of_z w64 c.relinquish_default.result) ≡ default_of c.args.building.now content.point =
     kept ∙ c.relinquish_default.ensures c.args.building.now content.point c.requires.found in
-    let read : c.in_ok-held.held ≡ held content.point = c.in_ok-held.ensures.value honest in
+    let read : c.in_ok-array.array ≡ held content.point = c.in_ok-array.ensures.value honest in
     let array : c.command_array.new.array ≡ commanded (written values held content.point) content =
     c.command_array.ensures ∙ ap (λ (places : Places). commanded places content)
-    (c.with_written-array.ensures ∙ ((λ i. places_at content.point (c.as_slice.ensures.value i) (read i))
+    (c.put_written.ensures ∙ ((λ i. places_at content.point (c.as_slice.ensures.value i) (read i))
     ∙ sym (written-at content.point values held))) in
     rw whole (ap done_of c.present-present.ensures.present ∙ (λ i. done_of (present_of (array i) (base i))))
 
@@ -27,5 +27,5 @@ returns-clause-values g c = λ honest.
     let held = (g.S.Store.standing c.args.store.now).content.tables.places in
     let values = c.args.values.now.items in
     c.in_ok-push_value.ensures.values held
-    (c.with_written-array.ensures ∙ ((λ i. places_at content.point (c.as_slice.ensures.value i) (c.in_ok-held.ensures.value honest i))
+    (c.put_written.ensures ∙ ((λ i. places_at content.point (c.as_slice.ensures.value i) (c.in_ok-array.ensures.value honest i))
     ∙ sym (written-at content.point values held)))

@@ -1,4 +1,4 @@
-use Rattle.std.proofs.Common.{◌≡◌, ◌∙◌, sym, ap, subst, None, option_copied, to_z, of_z, w64, rules}
+use Rattle.std.proofs.Common.{◌≡◌, ◌∙◌, sym, ap, subst, option_copied, to_z, of_z, w64, rules}
 use Rattle.deliveries.specs.declared.delivery.Delivery.TheVariants.{Skip}
 use Rattle.deliveries.specs.Delivered.{Delivers}
 use Rattle.std.specs.Result.{result_err}

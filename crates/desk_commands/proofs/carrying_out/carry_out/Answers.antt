@@ -1,8 +1,7 @@
 -- The commit makes the plan's change, or none.
-use Rattle.std.proofs.Common.{rules, to_z, of_z, w64, ◌≡◌, ◌∙◌, None, Option, Result, Ok, Err, IfOk, sym, subst, ap}
+use Rattle.std.proofs.Common.{rules, to_z, of_z, w64, ◌≡◌, ◌∙◌, None, Result, Ok, Err, IfOk, sym, subst, ap}
 use Rattle.std.specs.Result.{result_err}
 use Rattle.deliveries.specs.declared.reply.Reply.{Reply}
-use Rattle.deliveries.specs.Delivered.{KeepsImported}
 use Rattle.deliveries.specs.Moved.{answered_rows, first_answer, places_after_each}
 use Rattle.deliveries.proofs.ImportedLemmas.{imported_commit, imported_then}
 use Rattle.store.specs.Standing.{ChangesOnce, Commits}
