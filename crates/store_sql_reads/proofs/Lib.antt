@@ -4,6 +4,7 @@ pub mod PlacingLemmas
 pub mod ReadLemmas
 pub mod ParsedLemmas
 pub mod NumberLemmas
+pub mod NumberedLemmas
 pub mod TextLemmas
 pub mod EntryLemmas
 pub mod NameLemmas

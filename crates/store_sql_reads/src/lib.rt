@@ -1,8 +1,8 @@
 //! What do the tables in a database hold, and what do they list?
 //!
 //! Each function of `finding` and `placing` reads one of the six tables and answers what they hold, or that a row
-//! cannot stand. The others list: the entries of a calendar, which are one query, and a panel's run of rows and the
-//! names, each read one row after the other, by rising number or name.
+//! cannot stand. The others list: the entries of a calendar and a panel's run of rows, each by one query, and the names,
+//! read one row after the other, in their order.
 #![tactic(auto)]
 
 pub use entries::entries_of;
@@ -16,6 +16,7 @@ mod finding;
 mod memory;
 mod names;
 mod next_names;
+mod numbered;
 mod only;
 mod placing;
 mod rows;

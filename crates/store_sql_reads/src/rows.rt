@@ -1,5 +1,5 @@
 //! A panel's rows, by rising number.
-ghost use Rattle.std.specs.Prelude.{◌≡◌, ◌≤◌, ◌<◌, ◌&&◌, false, true, Err, IfErr, IfOk, IfSome, List, ℕ, Some, IsSome, IsTrue};
+ghost use Rattle.std.specs.Prelude.{◌≡◌, ◌≤◌, ◌<◌, ◌&&◌, false, true, Err, IfErr, IfOk, IfSome, List, ℕ, Some, IsSome, IsTrue, [], ◌∷◌};
 ghost use Rattle.std.specs.Result.{result_err};
 ghost use Rattle.points.specs.declared.numbered_row.TheConstants.{LAST_NUMBER};
 ghost use Rattle.points.specs.Run.{IsRun};
@@ -7,7 +7,7 @@ ghost use Rattle.sqlite.specs.Held.{state};
 ghost use Rattle.sqlite.specs.State.{HasCleanDisk, Survives};
 ghost use Rattle.sqlite_value.specs.Order.{column};
 ghost use Rattle.store_sql_rows.specs.Broken.{cannot_stand_in};
-ghost use Rattle.store_sql_rows.specs.Looking.{FindsLeast, is_from};
+ghost use Rattle.store_sql_rows.specs.Looking.{Finds, FindsLeast, is_from};
 ghost use Rattle.store_sql_rows.specs.Ours.{IsOurs, kept_in};
 ghost use Rattle.store_sql_reads.specs.Asking.{Answers, is_sql};
 ghost use Rattle.store_sql_rows.specs.Cells.{is_text};
@@ -17,10 +17,11 @@ ghost use Rattle.store.specs.Asked.{IsBrokenRow, IsBrokenRun, IsSomeBroken};
 ghost use Rattle.store.specs.Asked.Asked.{RowOf};
 ghost use Rattle.store.specs.Change.{IsNumber};
 ghost use Rattle.store_sql_reads.specs.Naming.{Tells};
-ghost use Rattle.store_sql_reads.specs.Stepping.{GoesOn, HaveStood, IsBrokenNext, IsNearNumber, IsNextNumber, IsNoRow};
+ghost use Rattle.store_sql_reads.specs.Numbered.{HasNumbers, IsListed};
+ghost use Rattle.store_sql_reads.specs.Stepping.{IsNextNumber, IsNoRow};
 
 use crate::finding::command_under;
-use crate::memory::{no_memory, push};
+use crate::numbered::{Numbered, by_number, run_in};
 use points::{CommandRow, LAST_NUMBER, Name, NumberedRow};
 use sqlite::{Alter, Connection, Row};
 use std::alloc::Global;
@@ -125,38 +126,41 @@ pub fn has_row<S: Alter>(connection: &mut Connection<S>, panel: &Name) -> Result
     }
 }
 
-// A number that is found, unless it is past `upto` and behind a gap.
-fn unless_past(found: Option<u64>, from: u64, upto: u64) -> Option<u64>
-    ensures is { IfSome found IsNumber → IfSome result IsNumber }
-    ensures value { (kept : Kept) (panel : List ℕ) → IsNextNumber kept panel from found → IsNearNumber kept panel from upto result }
+// What the answer of the query on a panel's rows from a number on says.
+fn parsed_numbered(
+    alloc: Global,
+    panel: &Name,
+    from: u64,
+    rows: Vec<Row>,
+) -> Result<Numbered, ReadFault>
+    ensures numbers { IfOk result HasNumbers }
+    ensures listed { (kept : Kept)
+        → Finds (λ row. is_text panel.now (column row 1) && is_from from (column row 2))
+        (λ row. column row 2 ∷ column row 3 ∷ column row 4 ∷ column row 5 ∷ column row 6 ∷ column row 7 ∷ column row 8 ∷ [])
+        kept.command rows.items
+        → IfOk result (IsListed kept panel.now from) }
+    ensures fault { IfErr result (λ fault. IsTrue (is_sql (Some fault))) }
 {
-    match found {
-        Some(number) if number <= upto || number == from => Some(number),
-        _ => None,
-    }
+    // What is asked for is a name, as a row's own has to be.
+    let _name = panel.as_str();
+    by_number(alloc, &rows)
 }
 
-// The next row of a run up to `upto` and beyond, from a number on: none where the run ends.
-fn next_in_run<S: Alter>(
+// The rows of a panel from a number on, by their numbers.
+fn numbered_from<S: Alter>(
+    alloc: Global,
     connection: &mut Connection<S>,
     panel: &Name,
     from: u64,
-    upto: u64,
-) -> Result<Option<NumberedRow>, ReadFault>
-    ensures greatest { IfOk result (λ it. IfSome it (λ found. found.number ≤ LAST_NUMBER)) }
-    ensures answers { Answers (λ kept it. GoesOn ((tables_in kept).row panel.now) from upto it
-        × HaveStood kept panel.now from upto it)
-        (λ kept. IsBrokenNext kept panel.now from upto) (state S.Store connection.old) (state S.Store connection.new) result }
+) -> Result<Numbered, ReadFault>
+    requires { from ≤ LAST_NUMBER }
+    ensures numbers { IfOk result HasNumbers }
+    ensures fault { IfErr result (λ fault. IsTrue (is_sql (Some fault))) }
+    ensures answers { Answers (λ kept. IsListed kept panel.now from)
+        (λ _. ⊥) (state S.Store connection.old) (state S.Store connection.new) result }
 {
-    // Past the greatest number no row can stand.
-    if LAST_NUMBER < from {
-        return Ok(None);
-    }
-    let found = next_number(connection, panel, from)?;
-    match unless_past(found, from, upto) {
-        None => Ok(None),
-        Some(number) => Ok(Some(row_under(connection, panel, number)?)),
-    }
+    let rows = commands::from_number(connection, panel, from)?;
+    parsed_numbered(alloc, panel, from, rows)
 }
 
 /// The rows of a panel at the numbers from `from` up to and without `upto`, then those from `upto` on that
@@ -174,18 +178,10 @@ pub fn commands_run<S: Alter>(
         (λ kept. IsBrokenRun (cannot_stand_in kept) ((tables_in kept).row panel.now) panel.now from upto)
         (state S.Store connection.old) (state S.Store connection.new) result }
 {
-    let mut rows = Vec::new(alloc);
-    let mut number = from;
-    for _ in 0..u64::MAX {
-        match next_in_run(connection, panel, number, upto)? {
-            Some(found) => {
-                let last = found.number;
-                push(&mut rows, found)?;
-                number = last + 1;
-            }
-            None => return Ok(rows),
-        }
+    // Past the greatest number no row can stand.
+    if LAST_NUMBER < from {
+        return Ok(Vec::new(alloc));
     }
-    // So many rows have no room in memory.
-    Err(no_memory())
+    let numbered = numbered_from(alloc, connection, panel, at_least_1(from))?;
+    run_in(alloc, &numbered, from, upto)
 }

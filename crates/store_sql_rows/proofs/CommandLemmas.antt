@@ -28,7 +28,7 @@ use Rattle.store_sql_rows.proofs.RestLemmas.{finds, finds_least, finds_same, lea
 use Rattle.store_sql_rows.specs.Looking.{Finds, FindsLeast, is_from}
 use Rattle.store_sql_rows.proofs.SlotLemmas.{gains, is_command, loses}
 use Rattle.store_sql_rows.proofs.TypeLemmas.{IsFilled, first_filled, ruled, second_filled}
-use Rattle.store_sql_rows.proofs.CommandTexts.{add_runs, add_text, below_runs, below_text, clear_runs, clear_text, drop_runs, drop_text, find_runs, find_text, next_number_runs, next_number_text}
+use Rattle.store_sql_rows.proofs.CommandTexts.{add_runs, add_text, below_runs, below_text, clear_runs, clear_text, drop_runs, drop_text, find_runs, find_text, from_number_runs, from_number_text, next_number_runs, next_number_text}
 use Rattle.store_sql_rows.specs.Cells.{cell_of, is_below, is_count, is_text}
 use Rattle.store_sql_rows.specs.Rows.{of_command, of_lower_command}
 
@@ -167,3 +167,20 @@ next_number_shown items panel from old new (Ok v) ours shown =
     (λ row h. passes_next_number old.now ours panel from row h)
     (finds_least next_number_text next_number_runs.plain next_number_runs.unlisted command_tree (given 1 0 ∷ compared_with Ge 2 1 ∷ []) 2
     (codes "number" ∷ []) next_number_runs.is old new (Text panel ∷ Int (pos from) ∷ []) (items v) ours.schema_is shown)
+
+pub from_number_shown : {V : Type 0} (items : V → List Row) (panel : List ℕ) (from : ℕ) (old new : State) (r : Result V Error)
+    → IsOurs old.now
+    → IfOk r (λ v. Shown from_number_text (Text panel ∷ Int (pos from) ∷ []) old new (items v))
+    → IfOk r (λ v. Finds (λ row. is_text panel (column row 1) && is_from from (column row 2))
+    (λ row. column row 2 ∷ column row 3 ∷ column row 4 ∷ column row 5 ∷ column row 6 ∷ column row 7 ∷ column row 8 ∷ [])
+    (old.now.trees command_tree) (items v))
+from_number_shown items panel from old new (Err e) ours shown = tt
+from_number_shown items panel from old new (Ok v) ours shown =
+    finds_same (passes (given 1 0 ∷ compared_with Ge 2 1 ∷ []) (Text panel ∷ Int (pos from) ∷ []))
+    (λ row. is_text panel (column row 1) && is_from from (column row 2))
+    (λ row. column row 2 ∷ column row 3 ∷ column row 4 ∷ column row 5 ∷ column row 6 ∷ column row 7 ∷ column row 8 ∷ [])
+    (old.now.trees command_tree) (items v) (λ row h. passes_next_number old.now ours panel from row h)
+    (finds from_number_text from_number_runs.plain from_number_runs.unlisted command_tree (given 1 0 ∷ compared_with Ge 2 1 ∷ [])
+    (col 1 2 ∷ col 1 3 ∷ col 1 4 ∷ col 1 5 ∷ col 1 6 ∷ col 1 7 ∷ col 1 8 ∷ [])
+    (codes "number" ∷ codes "point" ∷ codes "priority" ∷ codes "value" ∷ codes "state" ∷ codes "a" ∷ codes "b" ∷ [])
+    from_number_runs.is old new (Text panel ∷ Int (pos from) ∷ []) (items v) ours.schema_is shown)

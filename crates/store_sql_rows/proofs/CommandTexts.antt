@@ -69,3 +69,13 @@ pub next_number_runs : Runs next_number_text
     (least command_tree (given 1 0 ∷ compared_with Ge 2 1 ∷ []) 2 (codes "number" ∷ []))
 unfolding understood everything
 next_number_runs = record { is = refl; plain = (refl, refl); unlisted = refl }
+
+abbrev pub from_number_text : List ℕ
+from_number_text = codes "SELECT number, point, priority, value, state, a, b FROM command WHERE panel = ?1 AND number >= ?2"
+
+pub from_number_runs : Runs from_number_text
+    (selection command_tree (given 1 0 ∷ compared_with Ge 2 1 ∷ [])
+    (col 1 2 ∷ col 1 3 ∷ col 1 4 ∷ col 1 5 ∷ col 1 6 ∷ col 1 7 ∷ col 1 8 ∷ [])
+    (codes "number" ∷ codes "point" ∷ codes "priority" ∷ codes "value" ∷ codes "state" ∷ codes "a" ∷ codes "b" ∷ []))
+unfolding understood everything
+from_number_runs = record { is = refl; plain = (refl, refl); unlisted = refl }

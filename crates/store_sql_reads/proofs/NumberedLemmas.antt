@@ -1,0 +1,263 @@
+-- What the rows of a panel say under their numbers, as one query answers them.
+use Rattle.std.proofs.Common.{◌≡◌, ◌≤◌, ◌<◌, ◌&&◌, ◌==◌, ◌++◌, ◌⊎◌, ℕ, pos, negsuc, List, [], ◌∷◌, inl, inr, Option, Some, None, Result, Ok, Err, IfOk, is_some, filter, map, Bool, true, false, cond, refl, sym, ap, ◌∙◌, subst, arith, true≢false}
+use Rattle.std.specs.BTreeMap.{get}
+use Rattle.std.specs.List.Sorted.{IsPermutation}
+use Rattle.std.specs.Ordering.{nat_cmp}
+use Rattle.std.proofs.lemmas.Bool.{and_from, and_parts, cases_Bool, cases_order, eqb-true, eq-eqb}
+use Rattle.std.proofs.lemmas.List.Elements.{filter-append}
+use Rattle.std.proofs.lemmas.List.Sorted.{IsPermutation-map}
+use Rattle.points.specs.Name.{IsName}
+use Rattle.points.specs.declared.command_row.CommandRow.{CommandRow}
+use Rattle.sqlite_trees.proofs.ListLemmas.{IsPermutation-filter, filter-map, map-map}
+use Rattle.sqlite_value.specs.declared.value.Value.{Value}
+use Rattle.sqlite_value.specs.declared.value.Value.TheVariants.{Blob, Int, Null, Real, Text}
+use Rattle.sqlite_value.specs.Order.{Row, column}
+use Rattle.store.specs.Change.{IsNumber}
+use Rattle.store_sql_rows.specs.Cells.{count_in, is_count, is_text}
+use Rattle.store_sql_rows.specs.Looking.{Finds, is_from}
+use Rattle.store_sql_rows.specs.Rows.{command_in, of_command}
+use Rattle.store_sql_rows.specs.Stored.{Kept, tables_in}
+use Rattle.store_sql_rows.specs.declared.read_fault.ReadFault.{ReadFault}
+use Rattle.store_sql_rows.proofs.ReadCellLemmas.{count-cell}
+use Rattle.store_sql_reads.specs.Numbered.{AreSaid, HasNumbers, IsListed, Numbered, said_by, showing}
+use Rattle.store_sql_reads.specs.Stepping.{IsBroken, IsNextNumber, IsNoRow, IsNumberAt}
+use Rattle.store_sql_reads.proofs.FoundLemmas.{found_none}
+use Rattle.store_sql_reads.proofs.NumberLemmas.{count_of_row, is_picked, no_row, none_broken, not_both}
+use Rattle.store_sql_reads.proofs.ParsedLemmas.{command_bad, command_one, command_several, command_stood, count_given}
+
+apart_eqb : (m n : ℕ) → (m < n) ⊎ (n < m) → m == n ≡ false
+apart_eqb m n apart = elim (cases_Bool (m == n)) [
+  | inl is ↦ absurd (let same : m ≡ n = eqb-true m n is in elim apart [ inl less ↦ omega (arith, less, same) | inr more ↦ omega (arith, more, same) ])
+  | inr off ↦ off
+]
+
+turn : {A B : Type 0} → A ⊎ B → B ⊎ A
+turn (inl a) = inr a
+turn (inr b) = inl b
+
+-- ---- one row more
+
+-- a row under a number shows that one, and no other
+shows : (row : Row) (number : ℕ) → count_in 1 1_000_000_000_000 (column row 0) ≡ Some number → (n : ℕ)
+    → is_count n (column row 0) ≡ (n == number)
+shows row number reads n = ap (is_count n) (count-cell 1 1_000_000_000_000 (column row 0) number reads).cell
+
+-- a row whose cell is no number of a command shows none
+shows_none : (cell : Value) → count_in 1 1_000_000_000_000 cell ≡ None → (n : ℕ) → IsNumber n → (b : Bool) → is_count n cell ≡ b
+    → b ≡ false
+shows_none cell none n number false is = refl
+shows_none (Int (pos m)) none n number true is =
+    let same : n ≡ m = eqb-true n m is in
+    absurd (not_both (count_in 1 1_000_000_000_000 (Int (pos m))) n (ap (λ k. count_in 1 1_000_000_000_000 (Int (pos k))) (sym same)
+    ∙ count_given 1 1_000_000_000_000 n number.least number.greatest) none)
+shows_none (Int (negsuc m)) none n number true is = absurd (true≢false (sym is))
+shows_none Null none n number true is = absurd (true≢false (sym is))
+shows_none (Text t) none n number true is = absurd (true≢false (sym is))
+shows_none (Real x) none n number true is = absurd (true≢false (sym is))
+shows_none (Blob b) none n number true is = absurd (true≢false (sym is))
+
+showing-more : (before : List Row) (row : Row) (n : ℕ) (b : Bool) → is_count n (column row 0) ≡ b
+    → showing n (before ++ row ∷ []) ≡ showing n before ++ cond b (row ∷ []) []
+showing-more before row n b is =
+    filter-append (λ r. is_count n (column r 0)) before (row ∷ []) ∙ ap (λ t. showing n before ++ cond t (row ∷ []) []) is
+
+nothing_more : (rows : List Row) → rows ++ [] ≡ rows
+nothing_more [] = refl
+nothing_more (row ∷ rows) = ap (λ l. row ∷ l) (nothing_more rows)
+
+pub said_none : (before : List Row) (row : Row) (numbered : Numbered) → count_in 1 1_000_000_000_000 (column row 0) ≡ None
+    → AreSaid before numbered → AreSaid (before ++ row ∷ []) numbered
+said_none before row numbered none said n number =
+    said n number
+    ∙ ap said_by (sym (showing-more before row n false (shows_none (column row 0) none n number (is_count n (column row 0)) refl)
+    ∙ nothing_more (showing n before)))
+
+-- what is said of rows and one more that shows their number
+said_with : (rows : List Row) (row : Row) (said : Option CommandRow) → (said_by rows ≡ None → said
+    ≡ command_in (column row 1) (column row 2) (column row 3) (column row 4) (column row 5) (column row 6))
+    → (is_some (said_by rows) ≡ true → said ≡ None) → Some said ≡ said_by (rows ++ row ∷ [])
+said_with [] row said first other = ap Some (first refl)
+said_with (r ∷ []) row said first other = ap Some (other refl)
+said_with (r ∷ s ∷ rows) row said first other = ap Some (other refl)
+
+pub said_more : (before : List Row) (row : Row) (number : ℕ) (said : Option CommandRow) (old new : Numbered)
+    → count_in 1 1_000_000_000_000 (column row 0) ≡ Some number
+    → (get nat_cmp old number ≡ None
+    → said ≡ command_in (column row 1) (column row 2) (column row 3) (column row 4) (column row 5) (column row 6))
+    → (is_some (get nat_cmp old number) ≡ true → said ≡ None)
+    → ((n : ℕ) → get nat_cmp new n ≡ cond (number == n) (Some said) (get nat_cmp old n))
+    → AreSaid before old → AreSaid (before ++ row ∷ []) new
+said_more before row number said old new reads first other put are n is = elim (cases_order number n) [
+  | inl same ↦
+      let now : number == n ≡ true = eq-eqb number n same in
+      let shown : is_count n (column row 0) ≡ true = shows row number reads n ∙ eq-eqb n number (sym same) in
+      let was : get nat_cmp old number ≡ said_by (showing n before) = ap (get nat_cmp old) same ∙ are n is in
+      rw now at (put n)
+      ∙ said_with (showing n before) row said (λ none. first (was ∙ none)) (λ some. other (ap is_some was ∙ some))
+      ∙ ap said_by (sym (showing-more before row n true shown))
+  | inr apart ↦
+      let off : number == n ≡ false = apart_eqb number n apart in
+      let hidden : is_count n (column row 0) ≡ false = shows row number reads n ∙ apart_eqb n number (turn apart) in
+      rw off at (put n) ∙ are n is
+      ∙ ap said_by (sym (showing-more before row n false hidden ∙ nothing_more (showing n before)))
+]
+
+pub numbers_more : (number : ℕ) (said : Option CommandRow) (old new : Numbered) → IsNumber number
+    → ((n : ℕ) → get nat_cmp new n ≡ cond (number == n) (Some said) (get nat_cmp old n)) → HasNumbers old → HasNumbers new
+numbers_more number said old new is put have n here = elim (cases_Bool (number == n)) [
+  | inl same ↦ subst IsNumber (eqb-true number n same) is
+  | inr off ↦ have n (sym (ap is_some (rw off at (put n))) ∙ here)
+]
+
+pub number_of : (cell : Value) (number : ℕ) → count_in 1 1_000_000_000_000 cell ≡ Some number → IsNumber number
+number_of cell number reads =
+    let count = count-cell 1 1_000_000_000_000 cell number reads in
+    record { least = count.least-is; greatest = count.greatest-is }
+
+-- ---- the whole answer
+
+filter_both : (one both other : Row → Bool) (rows : List Row) → ((row : Row) → (other row && one row) ≡ both row)
+    → filter one (filter other rows) ≡ filter both rows
+filter_both one both other [] are = refl
+filter_both one both other (row ∷ rows) are =
+    step (other row) (one row) (both row) refl refl (are row) (filter_both one both other rows are)
+  where
+    step : (a b c : Bool) → other row ≡ a → one row ≡ b → (other row && one row) ≡ both row
+        → filter one (filter other rows) ≡ filter both rows
+        → filter one (filter other (row ∷ rows)) ≡ filter both (row ∷ rows)
+    step true true c is_a is_b is rest = rw (is_a, is_b, sym (sym (ap (λ x. x && one row) is_a ∙ is_b) ∙ is)) (ap (λ l. row ∷ l) rest)
+    step true false c is_a is_b is rest = rw (is_a, is_b, sym (sym (ap (λ x. x && one row) is_a ∙ is_b) ∙ is)) rest
+    step false b c is_a is_b is rest = rw (is_a, sym (sym (ap (λ x. x && one row) is_a) ∙ is)) rest
+
+abbrev show_seven : Row → Row
+show_seven row = column row 2 ∷ column row 3 ∷ column row 4 ∷ column row 5 ∷ column row 6 ∷ column row 7 ∷ column row 8 ∷ []
+
+abbrev show_six : Row → Row
+show_six row = column row 3 ∷ column row 4 ∷ column row 5 ∷ column row 6 ∷ column row 7 ∷ column row 8 ∷ []
+
+-- the cells of an answer without the number
+abbrev behind : Row → Row
+behind row = column row 1 ∷ column row 2 ∷ column row 3 ∷ column row 4 ∷ column row 5 ∷ column row 6 ∷ []
+
+module _ (panel : List ℕ) (from : ℕ) (kept : Kept) (answer : List Row) (named : IsName panel)
+    (found : Finds (is_picked panel from) show_seven kept.command answer) where
+  picked_both : (number : ℕ) → from ≤ number → (row : Row)
+      → (is_picked panel from row && is_count number (column row 2)) ≡ of_command panel number row
+  picked_both number more row = elim (cases_Bool (of_command panel number row)) [
+    | inl is ↦
+        let both = and_parts (is_text panel (column row 1)) (is_count number (column row 2)) is in
+        and_from _ _ (count_of_row panel kept from number row is more) both.1 ∙ sym is
+    | inr off ↦ elim (cases_Bool (is_picked panel from row && is_count number (column row 2))) [
+      | inl is ↦
+          let both = and_parts (is_picked panel from row) (is_count number (column row 2)) is in
+          let name = (and_parts (is_text panel (column row 1)) (is_from from (column row 2)) both.0).0 in
+          absurd (true≢false (sym (and_from _ _ name both.1) ∙ off))
+      | inr none ↦ none ∙ sym off
+    ]
+  ]
+
+  -- of the rows that show a number the cells behind it are what a query under that number answers
+  found_under : (number : ℕ) → from ≤ number → Finds (of_command panel number) show_six kept.command (map behind (showing number answer))
+  found_under number more =
+      let rows = filter (is_picked panel from) kept.command in
+      let here = filter (λ row. is_count number (column row 2)) rows in
+      let shown = IsPermutation-map behind _ _
+      (IsPermutation-filter (λ row. is_count number (column row 0)) (map show_seven rows) answer found.shown) in
+      let are : map behind (showing number (map show_seven rows)) ≡ map show_six (filter (of_command panel number) kept.command) =
+      ap (map behind) (filter-map (λ row. is_count number (column row 0)) show_seven rows)
+      ∙ map-map behind show_seven here
+      ∙ ap (map show_six)
+      (filter_both (λ row. is_count number (column row 2)) (of_command panel number) (is_picked panel from) kept.command
+      (picked_both number more)) in
+      record { shown = subst (λ l. IsPermutation l (map behind (showing number answer))) are shown }
+
+  abbrev Under : ℕ → Type 0
+  Under number = IsName panel × (count_in 1 1_000_000_000_000 (Int (pos number)) ≡ Some number)
+
+  under : (number : ℕ) → IsNumber number → Under number
+  under number is = (named, count_given 1 1_000_000_000_000 number is.least is.greatest)
+
+  nothing_said : (number : ℕ) → from ≤ number → IsNumber number → (rows : List Row) → showing number answer ≡ rows → said_by rows ≡ None
+      → IsNoRow kept panel number
+  nothing_said number more is [] shown said =
+      found_none (of_command panel number) show_six kept.command (map behind (showing number answer)) (found_under number more)
+      (ap (map behind) shown)
+  nothing_said number more is (row ∷ []) shown said = absurd (let h : ⊥ = cc in h)
+  nothing_said number more is (row ∷ other ∷ rows) shown said = absurd (let h : ⊥ = cc in h)
+
+  one_said : (number : ℕ) (x : CommandRow) → from ≤ number → IsNumber number → (rows : List Row) → showing number answer ≡ rows
+      → said_by rows ≡ Some (Some x) → ((tables_in kept).row panel number ≡ Some x) × (IsBroken kept panel number → ⊥)
+  one_said number x more is [] shown said = absurd (let h : ⊥ = cc in h)
+  one_said number x more is (row ∷ []) shown said =
+      let one : map behind (showing number answer) ≡ behind row ∷ [] = ap (map behind) shown in
+      let cells : command_in (column row 1) (column row 2) (column row 3) (column row 4) (column row 5) (column row 6) ≡ Some x = cc in (
+        command_one panel number kept (map behind (showing number answer)) (under number is) (found_under number more) (behind row) x one
+            cells,
+        λ broken. true≢false (sym broken.1
+            ∙ command_stood panel number kept (map behind (showing number answer)) (under number is) (found_under number more) (behind row) x
+            one cells),
+      )
+  one_said number x more is (row ∷ other ∷ rows) shown said = absurd (let h : ⊥ = cc in h)
+
+  bad_said : (number : ℕ) → from ≤ number → IsNumber number → (rows : List Row) → showing number answer ≡ rows
+      → said_by rows ≡ Some None → IsBroken kept panel number
+  bad_said number more is [] shown said = absurd (let h : ⊥ = cc in h)
+  bad_said number more is (row ∷ []) shown said =
+      let one : map behind (showing number answer) ≡ behind row ∷ [] = ap (map behind) shown in
+      let cells : command_in (column row 1) (column row 2) (column row 3) (column row 4) (column row 5) (column row 6) ≡ None = cc in (
+        is,
+        command_bad panel number kept (map behind (showing number answer)) (under number is) (found_under number more) (behind row) one
+            cells,
+      )
+  bad_said number more is (row ∷ other ∷ rows) shown said = (
+    is,
+    command_several panel number kept (map behind (showing number answer)) (under number is) (found_under number more)
+        (record { first = behind row; second = behind other; more = map behind rows; is = ap (map behind) shown }),
+  )
+
+  pub is_listed : (numbered : Numbered) → AreSaid answer numbered → HasNumbers numbered → IsListed kept panel from numbered
+  is_listed numbered said have = record {
+    none = λ number more is none. nothing_said number more is (showing number answer) refl (sym (said number is) ∙ none);
+    some = λ number row more here.
+        let is = have number (ap is_some here) in
+        one_said number row more is (showing number answer) refl (sym (said number is) ∙ here);
+    broken = λ number more here.
+        let is = have number (ap is_some here) in
+        bad_said number more is (showing number answer) refl (sym (said number is) ∙ here);
+  }
+
+  pub listed_ok : (r : Result Numbered ReadFault) → IfOk r (AreSaid answer) → IfOk r HasNumbers → IfOk r (IsListed kept panel from)
+  listed_ok (Ok numbered) said have = is_listed numbered said have
+  listed_ok (Err fault) said have = tt
+
+-- ---- the next number
+
+module _ (kept : Kept) (panel : List ℕ) (least from : ℕ) (numbered : Numbered) (have : HasNumbers numbered)
+    (listed : IsListed kept panel least numbered) (up : (n : ℕ) → from ≤ n → 1 ≤ n → least ≤ n) where
+  pub next_is_none : ((n : ℕ) → from ≤ n → get nat_cmp numbered n ≡ None) → IsNextNumber kept panel from None
+  next_is_none none n more is = listed.none n (up n more is.least) is (none n more)
+
+  -- where something is told of a number there is a row
+  told_row : (number : ℕ) (told : Option CommandRow) → least ≤ number → get nat_cmp numbered number ≡ Some told
+      → IsNoRow kept panel number → ⊥
+  told_row number (Some row) more here none =
+      not_both ((tables_in kept).row panel number) row (listed.some number row more here).0 (no_row kept panel number (λ _. none))
+  told_row number None more here none = none_broken kept panel number none (listed.broken number more here)
+
+  gone : (n number : ℕ) → ((n : ℕ) → from ≤ n → is_some (get nat_cmp numbered n) ≡ true → number ≤ n) → from ≤ n → n < number
+      → (o : Option (Option CommandRow)) → get nat_cmp numbered n ≡ o → get nat_cmp numbered n ≡ None
+  gone n number lowest more less None is = is
+  gone n number lowest more less (Some told) is =
+      absurd (let after : number ≤ n = lowest n more (ap is_some is) in omega (arith, after, less))
+
+  pub next_is : (number : ℕ) (told : Option CommandRow) → from ≤ number → get nat_cmp numbered number ≡ Some told
+      → ((n : ℕ) → from ≤ n → is_some (get nat_cmp numbered n) ≡ true → number ≤ n) → IsNumberAt kept panel from number
+  next_is number told after here lowest =
+      let is = have number (ap is_some here) in
+      record {
+        is = is;
+        after = after;
+        between = λ n more less number_is. listed.none n (up n more number_is.least) number_is
+            (gone n number lowest more less (get nat_cmp numbered n) refl);
+        here = told_row number told (up number after is.least) here;
+      }

@@ -1,0 +1,14 @@
+use Rattle.std.proofs.Common.{◌≤◌, ℕ, List}
+use Rattle.store_sql_rows.specs.Stored.{Kept, tables_in}
+use Rattle.store_sql_reads.specs.Numbered.{IsListed}
+use Rattle.store_sql_reads.specs.Stepping.{AllStand, AreSoFar}
+use Rattle.store_sql_reads.proofs.numbered.run_in.Given as goal
+
+-- the rows of the run below a number
+abbrev pub invariant-loop : goal.invariant-loop
+invariant-loop l = record {
+  ordered : l.from ≤ l.number;
+  so_far : (kept : Kept) (panel : List ℕ) (least : ℕ) → IsListed kept panel least l.numbered
+      → ((n : ℕ) → l.from ≤ n → 1 ≤ n → least ≤ n)
+      → AreSoFar ((tables_in kept).row panel) l.from l.upto l.number l.run.items × AllStand kept panel l.from l.number;
+}

@@ -1,0 +1,16 @@
+use Rattle.sqlite.specs.Held.{state}
+use Rattle.store_sql_rows.proofs.CommandLemmas.{from_number_shown}
+use Rattle.store_sql_rows.proofs.CommandTexts.{from_number_runs}
+use Rattle.store_sql_rows.proofs.RestLemmas.{reads_made}
+use Rattle.store_sql_rows.proofs.commands.from_number.Goals as goal
+
+pub ask-requires : goal.ask-requires
+ask-requires g c = from_number_runs.plain
+
+pub returns : goal.returns
+returns g c = record {
+  reads = reads_made c.ask.ensures.leaves (λ clean ours.
+      from_number_shown (λ v. v.items) c.args.panel.now c.args.from (state g.S.Store c.args.connection.now)
+      (state g.S.Store c.ask.new.connection) c.ask.result ours
+      (rw (c.text.ensures, c.count.ensures) at (c.ask.ensures.shown clean)));
+}
