@@ -114,11 +114,7 @@ fn integer_to_end(text: &str) -> Option<i64>
     ensures { IfSome result (λ number. text.now ≡ signed_decimal number ++ codes "}") }
 {
     let (number, rest) = integer_before(b'}', text)?;
-    if rest == "}" {
-        Some(number)
-    } else {
-        None
-    }
+    if rest == "}" { Some(number) } else { None }
 }
 
 /// What follows a mark at the beginning of a text.
