@@ -1,9 +1,9 @@
 -- What the rows of a panel say under their numbers, as one query answers them.
-use Rattle.std.proofs.Common.{◌≡◌, ◌≤◌, ◌<◌, ◌&&◌, ◌==◌, ◌++◌, ◌⊎◌, ℕ, pos, negsuc, List, [], ◌∷◌, inl, inr, Option, Some, None, Result, Ok, Err, IfOk, is_some, filter, map, Bool, true, false, cond, refl, sym, ap, ◌∙◌, subst, arith, true≢false}
+use Rattle.std.proofs.Common.{◌≡◌, ◌≤◌, ◌<◌, ◌&&◌, ◌==◌, ◌++◌, ◌⊎◌, ℕ, pos, negsuc, List, [], ◌∷◌, inl, inr, Option, Some, None, Result, Ok, Err, IfOk, is_some, filter, map, Bool, true, false, cond, nat_lt, refl, sym, ap, ◌∙◌, subst, arith, true≢false}
 use Rattle.std.specs.BTreeMap.{get}
 use Rattle.std.specs.List.Sorted.{IsPermutation}
 use Rattle.std.specs.Ordering.{nat_cmp}
-use Rattle.std.proofs.lemmas.Bool.{and_from, and_parts, cases_Bool, cases_order, eqb-true, eq-eqb}
+use Rattle.std.proofs.lemmas.Bool.{and_from, and_parts, cases_Bool, cases_order, eqb-true, eq-eqb, ltb-false, ltb-true}
 use Rattle.std.proofs.lemmas.List.Elements.{filter-append}
 use Rattle.std.proofs.lemmas.List.Sorted.{IsPermutation-map}
 use Rattle.points.specs.Name.{IsName}
@@ -14,15 +14,15 @@ use Rattle.sqlite_value.specs.declared.value.Value.TheVariants.{Blob, Int, Null,
 use Rattle.sqlite_value.specs.Order.{Row, column}
 use Rattle.store.specs.Change.{IsNumber}
 use Rattle.store_sql_rows.specs.Cells.{count_in, is_count, is_text}
-use Rattle.store_sql_rows.specs.Looking.{Finds, is_from}
+use Rattle.store_sql_rows.specs.Looking.{Finds, FindsRun, is_from}
 use Rattle.store_sql_rows.specs.Rows.{command_in, of_command}
 use Rattle.store_sql_rows.specs.Stored.{Kept, tables_in}
 use Rattle.store_sql_rows.specs.declared.read_fault.ReadFault.{ReadFault}
 use Rattle.store_sql_rows.proofs.ReadCellLemmas.{count-cell}
 use Rattle.store_sql_reads.specs.Numbered.{AreSaid, HasNumbers, IsListed, Numbered, said_by, showing}
-use Rattle.store_sql_reads.specs.Stepping.{IsBroken, IsNextNumber, IsNoRow, IsNumberAt}
+use Rattle.store_sql_reads.specs.Stepping.{IsBroken, IsNearNumber, IsNoRow, IsNumberAt}
 use Rattle.store_sql_reads.proofs.FoundLemmas.{found_none}
-use Rattle.store_sql_reads.proofs.NumberLemmas.{count_of_row, is_picked, no_row, none_broken, not_both}
+use Rattle.store_sql_reads.proofs.NumberLemmas.{count_of_row, is_picked, no_row, none_broken, not_both, nothing_passes}
 use Rattle.store_sql_reads.proofs.ParsedLemmas.{command_bad, command_one, command_several, command_stood, count_given}
 
 apart_eqb : (m n : ℕ) → (m < n) ⊎ (n < m) → m == n ≡ false
@@ -215,34 +215,83 @@ module _ (panel : List ℕ) (from : ℕ) (kept : Kept) (answer : List Row) (name
         (record { first = behind row; second = behind other; more = map behind rows; is = ap (map behind) shown }),
   )
 
-  pub is_listed : (numbered : Numbered) → AreSaid answer numbered → HasNumbers numbered → IsListed kept panel from numbered
-  is_listed numbered said have = record {
-    none = λ number more is none. nothing_said number more is (showing number answer) refl (sym (said number is) ∙ none);
-    some = λ number row more here.
-        let is = have number (ap is_some here) in
-        one_said number row more is (showing number answer) refl (sym (said number is) ∙ here);
-    broken = λ number more here.
-        let is = have number (ap is_some here) in
-        bad_said number more is (showing number answer) refl (sym (said number is) ∙ here);
-  }
+module _ (panel : List ℕ) (from upto : ℕ) (kept : Kept) (answer : List Row) (named : IsName panel)
+    (found : FindsRun (is_picked panel from) show_seven from upto kept.command answer) where
+  abbrev whole : List Row
+  whole = answer ++ found.rest
 
-  pub listed_ok : (r : Result Numbered ReadFault) → IfOk r (AreSaid answer) → IfOk r HasNumbers → IfOk r (IsListed kept panel from)
-  listed_ok (Ok numbered) said have = is_listed numbered said have
+  finds : Finds (is_picked panel from) show_seven kept.command whole
+  finds = record { shown = found.shown }
+
+  -- the rows that are left out show greater numbers than the gap
+  same_showing : (number : ℕ) → number ≤ found.gap → showing number answer ≡ showing number whole
+  same_showing number low =
+      let none : showing number found.rest ≡ [] =
+      nothing_passes (λ row. is_count number (column row 0)) found.rest
+      (λ row h is. let high = found.behind row h number is in omega (arith, low, high)) in
+      sym (filter-append (λ row. is_count number (column row 0)) answer found.rest
+      ∙ ap (λ l. showing number answer ++ l) none ∙ nothing_more (showing number answer))
+
+  module _ (numbered : Numbered) (said : AreSaid answer numbered) (have : HasNumbers numbered) where
+    told : (number : ℕ) → number ≤ found.gap → IsNumber number → get nat_cmp numbered number ≡ said_by (showing number whole)
+    told number low is = said number is ∙ ap said_by (same_showing number low)
+
+    none_beyond : (number : ℕ) → found.gap ≤ number → (o : Option (Option CommandRow)) → get nat_cmp numbered number ≡ o
+        → get nat_cmp numbered number ≡ None
+    none_beyond number high None is = is
+    none_beyond number high (Some row) is =
+        let none : showing number answer ≡ [] =
+        nothing_passes (λ r. is_count number (column r 0)) answer
+        (λ r h shown. let low = found.before r h number shown in omega (arith, low, high)) in
+        said number (have number (ap is_some is)) ∙ ap said_by none
+
+    pub is_listed : IsListed kept panel from upto found.gap numbered
+    is_listed = record {
+      after = found.after;
+      reaches = found.reaches;
+      none = λ number more low is none. nothing_said panel from kept whole named finds number more is (showing number whole) refl
+          (sym (told number low is) ∙ none);
+      some = λ number row more low here.
+          let is = have number (ap is_some here) in
+          one_said panel from kept whole named finds number row more is (showing number whole) refl (sym (told number low is) ∙ here);
+      broken = λ number more low here.
+          let is = have number (ap is_some here) in
+          bad_said panel from kept whole named finds number more is (showing number whole) refl (sym (told number low is) ∙ here);
+      beyond = λ number high. none_beyond number high (get nat_cmp numbered number) refl;
+    }
+
+  pub listed_ok : (r : Result Numbered ReadFault) → IfOk r (AreSaid answer) → IfOk r HasNumbers
+      → IfOk r (λ numbered. (gap : ℕ) × IsListed kept panel from upto gap numbered)
+  listed_ok (Ok numbered) said have = (found.gap, is_listed numbered said have)
   listed_ok (Err fault) said have = tt
 
 -- ---- the next number
 
-module _ (kept : Kept) (panel : List ℕ) (least from : ℕ) (numbered : Numbered) (have : HasNumbers numbered)
-    (listed : IsListed kept panel least numbered) (up : (n : ℕ) → from ≤ n → 1 ≤ n → least ≤ n) where
-  pub next_is_none : ((n : ℕ) → from ≤ n → get nat_cmp numbered n ≡ None) → IsNextNumber kept panel from None
-  next_is_none none n more is = listed.none n (up n more is.least) is (none n more)
+module _ (kept : Kept) (panel : List ℕ) (least upto gap from : ℕ) (numbered : Numbered) (have : HasNumbers numbered)
+    (listed : IsListed kept panel least upto gap numbered) (up : (n : ℕ) → from ≤ n → 1 ≤ n → least ≤ n) where
+  pub near_is_none : from ≤ gap → ((n : ℕ) → from ≤ n → get nat_cmp numbered n ≡ None) → IsNearNumber kept panel from upto None
+  near_is_none start none n more near is =
+      let reaches = listed.reaches in
+      let low : n ≤ gap = elim near [ inl below ↦ omega (arith, below, reaches) | inr same ↦ omega (arith, same, start) ] in
+      listed.none n (up n more is.least) low is (none n more)
+
+  -- where something is told of a number it is before the gap
+  within : (number : ℕ) (told : Option CommandRow) → get nat_cmp numbered number ≡ Some told → number < gap
+  within number told here = elim (cases_Bool (nat_lt number gap)) [
+    | inl less ↦ ltb-true number gap less
+    | inr more ↦ absurd (not_both (get nat_cmp numbered number) told here (listed.beyond number (ltb-false number gap more)))
+  ]
 
   -- where something is told of a number there is a row
   told_row : (number : ℕ) (told : Option CommandRow) → least ≤ number → get nat_cmp numbered number ≡ Some told
       → IsNoRow kept panel number → ⊥
   told_row number (Some row) more here none =
-      not_both ((tables_in kept).row panel number) row (listed.some number row more here).0 (no_row kept panel number (λ _. none))
-  told_row number None more here none = none_broken kept panel number none (listed.broken number more here)
+      let low = within number (Some row) here in
+      not_both ((tables_in kept).row panel number) row (listed.some number row more (omega (arith, low)) here).0
+      (no_row kept panel number (λ _. none))
+  told_row number None more here none =
+      let low = within number None here in
+      none_broken kept panel number none (listed.broken number more (omega (arith, low)) here)
 
   gone : (n number : ℕ) → ((n : ℕ) → from ≤ n → is_some (get nat_cmp numbered n) ≡ true → number ≤ n) → from ≤ n → n < number
       → (o : Option (Option CommandRow)) → get nat_cmp numbered n ≡ o → get nat_cmp numbered n ≡ None
@@ -251,13 +300,17 @@ module _ (kept : Kept) (panel : List ℕ) (least from : ℕ) (numbered : Numbere
       absurd (let after : number ≤ n = lowest n more (ap is_some is) in omega (arith, after, less))
 
   pub next_is : (number : ℕ) (told : Option CommandRow) → from ≤ number → get nat_cmp numbered number ≡ Some told
-      → ((n : ℕ) → from ≤ n → is_some (get nat_cmp numbered n) ≡ true → number ≤ n) → IsNumberAt kept panel from number
+      → ((n : ℕ) → from ≤ n → is_some (get nat_cmp numbered n) ≡ true → number ≤ n)
+      → IsNumberAt kept panel from number × (number < gap)
   next_is number told after here lowest =
       let is = have number (ap is_some here) in
-      record {
-        is = is;
-        after = after;
-        between = λ n more less number_is. listed.none n (up n more number_is.least) number_is
-            (gone n number lowest more less (get nat_cmp numbered n) refl);
-        here = told_row number told (up number after is.least) here;
-      }
+      let low = within number told here in (
+        record {
+          is = is;
+          after = after;
+          between = λ n more less number_is. listed.none n (up n more number_is.least) (omega (arith, less, low)) number_is
+              (gone n number lowest more less (get nat_cmp numbered n) refl);
+          here = told_row number told (up number after is.least) here;
+        },
+        low,
+      )

@@ -33,9 +33,14 @@ AreSaid rows numbered = (number : ℕ) → IsNumber number → get nat_cmp numbe
 abbrev pub HasNumbers : Numbered → Type 0
 HasNumbers numbered = (number : ℕ) → IsSome (get nat_cmp numbered number) → IsNumber number
 
--- what is known under each number of a panel from one on
-pub record IsListed (kept : Kept) (panel : List ℕ) (from : ℕ) (numbered : Numbered) : Type 0 where
-  pub none : (number : ℕ) → from ≤ number → IsNumber number → get nat_cmp numbered number ≡ None → IsNoRow kept panel number
-  pub some : (number : ℕ) (row : CommandRow) → from ≤ number → get nat_cmp numbered number ≡ Some (Some row)
+-- What is known under each number of a panel from one on, up to a gap at or past `upto` under which nothing is kept. Of
+-- what stands behind the gap nothing is told.
+pub record IsListed (kept : Kept) (panel : List ℕ) (from upto gap : ℕ) (numbered : Numbered) : Type 0 where
+  pub after : from ≤ gap
+  pub reaches : upto ≤ gap
+  pub none : (number : ℕ) → from ≤ number → number ≤ gap → IsNumber number → get nat_cmp numbered number ≡ None
+      → IsNoRow kept panel number
+  pub some : (number : ℕ) (row : CommandRow) → from ≤ number → number ≤ gap → get nat_cmp numbered number ≡ Some (Some row)
       → ((tables_in kept).row panel number ≡ Some row) × (IsBroken kept panel number → ⊥)
-  pub broken : (number : ℕ) → from ≤ number → get nat_cmp numbered number ≡ Some None → IsBroken kept panel number
+  pub broken : (number : ℕ) → from ≤ number → number ≤ gap → get nat_cmp numbered number ≡ Some None → IsBroken kept panel number
+  pub beyond : (number : ℕ) → gap ≤ number → get nat_cmp numbered number ≡ None

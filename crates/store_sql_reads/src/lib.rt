@@ -1,8 +1,8 @@
 //! What do the tables in a database hold, and what do they list?
 //!
 //! Each function of `finding` and `placing` reads one of the six tables and answers what they hold, or that a row
-//! cannot stand. The others list: the entries of a calendar and a panel's run of rows, each by one query, and the names,
-//! read one row after the other, in their order.
+//! cannot stand. The others list: the entries of a calendar and a panel's run of rows, each by one query, the run one row
+//! at a time, and the names, each by a query of its own.
 #![tactic(auto)]
 
 pub use entries::entries_of;

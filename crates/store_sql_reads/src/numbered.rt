@@ -1,5 +1,5 @@
 //! A panel's rows by their numbers, as one query answers them.
-ghost use Rattle.std.specs.Prelude.{◌≡◌, ◌≤◌, ◌++◌, ◌∷◌, [], IfErr, IfNone, IfOk, IfSome, List, None, OnOk, Some, ℕ, IsSome, cond, ◌==◌};
+ghost use Rattle.std.specs.Prelude.{◌≡◌, ◌≤◌, ◌<◌, ◌++◌, ◌∷◌, [], IfErr, IfNone, IfOk, IfSome, List, None, OnOk, Some, ℕ, IsSome, cond, ◌==◌};
 ghost use Rattle.std.specs.BTreeMap.{get};
 ghost use Rattle.std.specs.Bool.{IsTrue};
 ghost use Rattle.std.specs.Ordering.{nat_cmp};
@@ -80,10 +80,11 @@ fn next_in_run(numbered: &Numbered, from: u64, upto: u64) -> Result<Option<Numbe
     requires { HasNumbers numbered.now }
     ensures after { IfOk result (λ it. IfSome it (λ found. from ≤ found.number)) }
     ensures greatest { IfOk result (λ it. IfSome it (λ found. found.number ≤ LAST_NUMBER)) }
-    ensures value { (kept : Kept) (panel : List ℕ) (least : ℕ) → IsListed kept panel least numbered.now
+    ensures value { (kept : Kept) (panel : List ℕ) (least gap : ℕ) → IsListed kept panel least upto gap numbered.now → from ≤ gap
         → ((n : ℕ) → from ≤ n → 1 ≤ n → least ≤ n)
-        → IfOk result (λ it. GoesOn ((tables_in kept).row panel) from upto it × HaveStood kept panel from upto it) }
-    ensures bad { (kept : Kept) (panel : List ℕ) (least : ℕ) → IsListed kept panel least numbered.now
+        → IfOk result (λ it. GoesOn ((tables_in kept).row panel) from upto it × HaveStood kept panel from upto it
+        × IfSome it (λ found. found.number < gap)) }
+    ensures bad { (kept : Kept) (panel : List ℕ) (least gap : ℕ) → IsListed kept panel least upto gap numbered.now → from ≤ gap
         → ((n : ℕ) → from ≤ n → 1 ≤ n → least ≤ n) → IfErr result (λ _. IsBrokenNext kept panel from upto) }
     ensures fault { IfErr result (λ fault. fault ≡ BadRow) }
 {
@@ -109,11 +110,11 @@ pub fn run_in(
 ) -> Result<Vec<NumberedRow>, ReadFault>
     requires numbers { HasNumbers numbered.now }
     requires ordered { from ≤ upto }
-    ensures value { (kept : Kept) (panel : List ℕ) (least : ℕ) → IsListed kept panel least numbered.now
+    ensures value { (kept : Kept) (panel : List ℕ) (least gap : ℕ) → IsListed kept panel least upto gap numbered.now → from ≤ gap
         → ((n : ℕ) → from ≤ n → 1 ≤ n → least ≤ n)
         → IfOk result (λ it. IsRun ((tables_in kept).row panel) from upto it.items
         × (IsBrokenRun (cannot_stand_in kept) ((tables_in kept).row panel) panel from upto → ⊥)) }
-    ensures bad { (kept : Kept) (panel : List ℕ) (least : ℕ) → IsListed kept panel least numbered.now
+    ensures bad { (kept : Kept) (panel : List ℕ) (least gap : ℕ) → IsListed kept panel least upto gap numbered.now → from ≤ gap
         → ((n : ℕ) → from ≤ n → 1 ≤ n → least ≤ n)
         → IfErr result (λ fault. fault ≡ BadRow → IsBrokenRun (cannot_stand_in kept) ((tables_in kept).row panel) panel from upto) }
 {

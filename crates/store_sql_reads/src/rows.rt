@@ -7,7 +7,7 @@ ghost use Rattle.sqlite.specs.Held.{state};
 ghost use Rattle.sqlite.specs.State.{HasCleanDisk, Survives};
 ghost use Rattle.sqlite_value.specs.Order.{column};
 ghost use Rattle.store_sql_rows.specs.Broken.{cannot_stand_in};
-ghost use Rattle.store_sql_rows.specs.Looking.{Finds, FindsLeast, is_from};
+ghost use Rattle.store_sql_rows.specs.Looking.{FindsLeast, FindsRun, is_from};
 ghost use Rattle.store_sql_rows.specs.Ours.{IsOurs, kept_in};
 ghost use Rattle.store_sql_reads.specs.Asking.{Answers, is_sql};
 ghost use Rattle.store_sql_rows.specs.Cells.{is_text};
@@ -25,7 +25,7 @@ use crate::numbered::{Numbered, by_number, run_in};
 use points::{CommandRow, LAST_NUMBER, Name, NumberedRow};
 use sqlite::{Alter, Connection, Row};
 use std::alloc::Global;
-use store_sql_rows::{ReadFault, commands, count_at};
+use store_sql_rows::{ReadFault, commands, count_at, run_from};
 
 const LEAST_NUMBER: u64 = 1;
 
@@ -126,19 +126,20 @@ pub fn has_row<S: Alter>(connection: &mut Connection<S>, panel: &Name) -> Result
     }
 }
 
-// What the answer of the query on a panel's rows from a number on says.
-fn parsed_numbered(
+// What the rows of a run say.
+fn parsed_run(
     alloc: Global,
     panel: &Name,
     from: u64,
+    upto: u64,
     rows: Vec<Row>,
 ) -> Result<Numbered, ReadFault>
     ensures numbers { IfOk result HasNumbers }
     ensures listed { (kept : Kept)
-        → Finds (λ row. is_text panel.now (column row 1) && is_from from (column row 2))
+        → FindsRun (λ row. is_text panel.now (column row 1) && is_from from (column row 2))
         (λ row. column row 2 ∷ column row 3 ∷ column row 4 ∷ column row 5 ∷ column row 6 ∷ column row 7 ∷ column row 8 ∷ [])
-        kept.command rows.items
-        → IfOk result (IsListed kept panel.now from) }
+        from upto kept.command rows.items
+        → IfOk result (λ numbered. (gap : ℕ) × IsListed kept panel.now from upto gap numbered) }
     ensures fault { IfErr result (λ fault. IsTrue (is_sql (Some fault))) }
 {
     // What is asked for is a name, as a row's own has to be.
@@ -146,21 +147,23 @@ fn parsed_numbered(
     by_number(alloc, &rows)
 }
 
-// The rows of a panel from a number on, by their numbers.
-fn numbered_from<S: Alter>(
+// The rows of a panel's run by their numbers.
+fn numbered_run<S: Alter>(
     alloc: Global,
     connection: &mut Connection<S>,
     panel: &Name,
     from: u64,
+    upto: u64,
 ) -> Result<Numbered, ReadFault>
-    requires { from ≤ LAST_NUMBER }
+    requires at_least_1 { 1 ≤ from }
+    requires greatest { from ≤ LAST_NUMBER }
     ensures numbers { IfOk result HasNumbers }
     ensures fault { IfErr result (λ fault. IsTrue (is_sql (Some fault))) }
-    ensures answers { Answers (λ kept. IsListed kept panel.now from)
+    ensures answers { Answers (λ kept numbered. (gap : ℕ) × IsListed kept panel.now from upto gap numbered)
         (λ _. ⊥) (state S.Store connection.old) (state S.Store connection.new) result }
 {
-    let rows = commands::from_number(connection, panel, from)?;
-    parsed_numbered(alloc, panel, from, rows)
+    let rows = run_from(alloc, connection, panel, from, upto)?;
+    parsed_run(alloc, panel, from, upto, rows)
 }
 
 /// The rows of a panel at the numbers from `from` up to and without `upto`, then those from `upto` on that
@@ -182,6 +185,6 @@ pub fn commands_run<S: Alter>(
     if LAST_NUMBER < from {
         return Ok(Vec::new(alloc));
     }
-    let numbered = numbered_from(alloc, connection, panel, at_least_1(from))?;
+    let numbered = numbered_run(alloc, connection, panel, at_least_1(from), upto)?;
     run_in(alloc, &numbered, from, upto)
 }

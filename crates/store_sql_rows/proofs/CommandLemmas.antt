@@ -1,5 +1,5 @@
 -- The statements on the commands.
-use Rattle.std.proofs.Common.{◌≡◌, ◌∙◌, inl, inr, ℕ, ℤ, Option, Result, IfOk, Ok, Err, OnOk, pos, true, false, ◌&&◌, List, [], ◌∷◌, codes, refl, sym, ap, subst₂}
+use Rattle.std.proofs.Common.{◌≡◌, ◌∙◌, inl, inr, ℕ, ℤ, Option, Result, IfOk, Ok, Err, OnOk, pos, Bool, true, false, ◌&&◌, ◌≤◌, ◌<◌, ◌+◌, ◌-◌, ◌++◌, List, [], ◌∷◌, map, filter, append-nil, append_assoc, arith, subst, codes, refl, sym, ap, subst₂}
 use Rattle.std.proofs.lemmas.Bool.{and_parts}
 use Rattle.std.proofs.lemmas.Bool.Decides.{Decides-eqb}
 use Rattle.std.proofs.lemmas.Slice.Eq.{bytes_eq-Decides}
@@ -15,7 +15,7 @@ use Rattle.sqlite_schema.specs.declared.schema.Kind.TheVariants as kind
 use Rattle.sqlite_rules.specs.Lists.{Has}
 use Rattle.sqlite_rules.proofs.ListLemmas.{all_has}
 use Rattle.sqlite_sql.specs.declared.ops.CompareOp.TheVariants.{Ge, Lt}
-use Rattle.sqlite_sql.specs.Term.{lit, col}
+use Rattle.sqlite_sql.specs.Term.{Term, lit, col}
 use Rattle.sqlite.specs.declared.error.Error.{Error}
 use Rattle.sqlite.specs.Effect.{Database}
 use Rattle.sqlite.specs.State.{ExecutesInside, Shown, State}
@@ -28,8 +28,15 @@ use Rattle.store_sql_rows.proofs.RestLemmas.{finds, finds_least, finds_same, lea
 use Rattle.store_sql_rows.specs.Looking.{Finds, FindsLeast, is_from}
 use Rattle.store_sql_rows.proofs.SlotLemmas.{gains, is_command, loses}
 use Rattle.store_sql_rows.proofs.TypeLemmas.{IsFilled, first_filled, ruled, second_filled}
-use Rattle.store_sql_rows.proofs.CommandTexts.{add_runs, add_text, below_runs, below_text, clear_runs, clear_text, drop_runs, drop_text, find_runs, find_text, from_number_runs, from_number_text, next_number_runs, next_number_text}
+use Rattle.store_sql_rows.proofs.CommandTexts.{add_runs, add_text, below_runs, below_text, clear_runs, clear_text, drop_runs, drop_text, find_runs, find_text, next_number_runs, next_number_text}
 use Rattle.store_sql_rows.specs.Cells.{cell_of, is_below, is_count, is_text}
+use Rattle.store_sql_rows.specs.Looking.{FindsRun, IsReadRun, last_shown, number_shown}
+use Rattle.store_sql_rows.specs.Meanings.{ordered}
+use Rattle.store_sql_rows.proofs.OrderedLemmas.{AreInOrder, IsNumbered, counted, has-before, has-behind, has_permuted, last-from, last-greatest, numbered-cell, rises-behind, rises-front, rises-numbers, start_in_order, whole_in_order}
+use Rattle.store_sql_rows.proofs.RowLemmas.{filter_same}
+use Rattle.sqlite_rules.proofs.ProbeLemmas.{has_mapped}
+use Rattle.sqlite_rules.proofs.ListLemmas.{has_filtered}
+use Rattle.std.specs.List.Sorted.{IsPermutation}
 use Rattle.store_sql_rows.specs.Rows.{of_command, of_lower_command}
 
 pub command_cells : (db : Database) → IsOurs db → (row : Row) → Has (db.trees command_tree) row
@@ -168,19 +175,108 @@ next_number_shown items panel from old new (Ok v) ours shown =
     (finds_least next_number_text next_number_runs.plain next_number_runs.unlisted command_tree (given 1 0 ∷ compared_with Ge 2 1 ∷ []) 2
     (codes "number" ∷ []) next_number_runs.is old new (Text panel ∷ Int (pos from) ∷ []) (items v) ours.schema_is shown)
 
-pub from_number_shown : {V : Type 0} (items : V → List Row) (panel : List ℕ) (from : ℕ) (old new : State) (r : Result V Error)
-    → IsOurs old.now
-    → IfOk r (λ v. Shown from_number_text (Text panel ∷ Int (pos from) ∷ []) old new (items v))
-    → IfOk r (λ v. Finds (λ row. is_text panel (column row 1) && is_from from (column row 2))
-    (λ row. column row 2 ∷ column row 3 ∷ column row 4 ∷ column row 5 ∷ column row 6 ∷ column row 7 ∷ column row 8 ∷ [])
-    (old.now.trees command_tree) (items v))
-from_number_shown items panel from old new (Err e) ours shown = tt
-from_number_shown items panel from old new (Ok v) ours shown =
-    finds_same (passes (given 1 0 ∷ compared_with Ge 2 1 ∷ []) (Text panel ∷ Int (pos from) ∷ []))
-    (λ row. is_text panel (column row 1) && is_from from (column row 2))
-    (λ row. column row 2 ∷ column row 3 ∷ column row 4 ∷ column row 5 ∷ column row 6 ∷ column row 7 ∷ column row 8 ∷ [])
-    (old.now.trees command_tree) (items v) (λ row h. passes_next_number old.now ours panel from row h)
-    (finds from_number_text from_number_runs.plain from_number_runs.unlisted command_tree (given 1 0 ∷ compared_with Ge 2 1 ∷ [])
-    (col 1 2 ∷ col 1 3 ∷ col 1 4 ∷ col 1 5 ∷ col 1 6 ∷ col 1 7 ∷ col 1 8 ∷ [])
-    (codes "number" ∷ codes "point" ∷ codes "priority" ∷ codes "value" ∷ codes "state" ∷ codes "a" ∷ codes "b" ∷ [])
-    from_number_runs.is old new (Text panel ∷ Int (pos from) ∷ []) (items v) ours.schema_is shown)
+-- ---- a run, read one row at a time
+
+abbrev is_picked : List ℕ → ℕ → Row → Bool
+is_picked panel from row = is_text panel (column row 1) && is_from from (column row 2)
+
+abbrev show_run : Row → Row
+show_run row = column row 2 ∷ column row 3 ∷ column row 4 ∷ column row 5 ∷ column row 6 ∷ column row 7 ∷ column row 8 ∷ []
+
+abbrev run_terms : List Term
+run_terms = given 1 0 ∷ compared_with Ge 2 1 ∷ []
+
+abbrev run_cells : List Term
+run_cells = col 1 3 ∷ col 1 4 ∷ col 1 5 ∷ col 1 6 ∷ col 1 7 ∷ col 1 8 ∷ []
+
+abbrev run_names : List (List ℕ)
+run_names =
+    codes "number" ∷ codes "point" ∷ codes "priority" ∷ codes "value" ∷ codes "state" ∷ codes "a" ∷ codes "b" ∷ []
+
+module _ (db : Database) (ours : IsOurs db) (panel : List ℕ) (from upto : ℕ) (least : 1 ≤ from) where
+  abbrev run_params : Row
+  run_params = Text panel ∷ Int (pos from) ∷ []
+
+  abbrev InOrder : List Row → Type 0
+  InOrder rows = AreInOrder (filter (is_picked panel from) (db.trees command_tree)) show_run rows
+
+  picked_here : (rows : List Row) → AreInOrder (filter (passes run_terms run_params) (db.trees command_tree)) show_run rows → InOrder rows
+  picked_here rows are =
+      subst (λ l. AreInOrder l show_run rows) (filter_same (passes run_terms run_params) (is_picked panel from) (db.trees command_tree)
+      (λ row h. passes_next_number db ours panel from row h)) are
+
+  numbered : (rows : List Row) → InOrder rows → (row : Row) → Has rows row → IsNumbered from row
+  numbered rows are row h =
+      let origin =
+      has_mapped show_run (filter (is_picked panel from) (db.trees command_tree)) row
+      (has_permuted (map show_run (filter (is_picked panel from) (db.trees command_tree))) rows row are.shown h) in
+      let is = (has_filtered (is_picked panel from) (db.trees command_tree) origin.0 origin.1).1 in
+      subst (IsNumbered from) (sym origin.2)
+      (numbered-cell from (column origin.0 2) (and_parts (is_text panel (column origin.0 1)) (is_from from (column origin.0 2)) is).1)
+
+  abbrev last : List Row → ℕ
+  last run = last_shown (from - 1) run
+
+  whole_run : (run : List Row) → InOrder run → FindsRun (is_picked panel from) show_run from upto (db.trees command_tree) run
+  whole_run run are =
+      let ahead : from ≤ last run + 1 = last-from from (from - 1) run (omega (arith, least)) (numbered run are) in
+      record {
+        rest = [];
+        shown = subst (λ l. IsPermutation (map show_run (filter (is_picked panel from) (db.trees command_tree))) l) (sym (append-nil run)) are.shown;
+        gap = last run + 1 + upto;
+        after = omega (arith, ahead);
+        reaches = omega arith;
+        before = λ row h number is.
+            let low = last-greatest from (from - 1) run are.rises (numbered run are) row h in
+            let same : number ≡ number_shown row = counted number (column row 0) is in
+            omega (arith, low, same);
+        behind = λ row h. absurd h;
+      }
+
+  cut_run : (run : List Row) (row : Row) (tail : List Row) → InOrder (run ++ (row ∷ tail)) → upto < number_shown row
+      → last run + 1 < number_shown row → FindsRun (is_picked panel from) show_run from upto (db.trees command_tree) run
+  cut_run run row tail are past apart =
+      let all = numbered (run ++ (row ∷ tail)) are in
+      let mine = λ (r : Row) (h : Has run r). all r (has-before run (row ∷ tail) r h) in
+      let ahead : from ≤ last run + 1 = last-from from (from - 1) run (omega (arith, least)) mine in
+      let rises = rises-front (λ r. column r 0) run (row ∷ tail) are.rises in
+      let behind = rises-behind (λ r. column r 0) run (row ∷ tail) are.rises in
+      record {
+        rest = row ∷ tail;
+        shown = are.shown;
+        gap = number_shown row - 1;
+        after = omega (arith, ahead, apart);
+        reaches = omega (arith, past);
+        before = λ r h number is.
+            let low = last-greatest from (from - 1) run rises mine r h in
+            let same : number ≡ number_shown r = counted number (column r 0) is in
+            omega (arith, low, same, apart);
+        behind = λ r h number is.
+            let same : number ≡ number_shown r = counted number (column r 0) is in
+            elim h [
+              | inl here ↦
+                  let shown : number_shown r ≡ number_shown row = ap number_shown here in
+                  omega (arith, same, shown, past)
+              | inr later ↦
+                  let more : number_shown row ≤ number_shown r =
+                  rises-numbers row r from (all row (has-behind run (row ∷ tail) row (inl refl)))
+                  (all r (has-behind run (row ∷ tail) r (inr later))) (behind.0 r later) in
+                  omega (arith, same, more, past)
+            ];
+      }
+
+  pub run_found : (run : List Row) → IsReadRun (ordered command_tree run_terms 2 run_cells run_names) db run_params from upto run
+      → FindsRun (is_picked panel from) show_run from upto (db.trees command_tree) run
+  run_found run (inl read) =
+      whole_run run (picked_here run (whole_in_order command_tree run_terms 2 run_cells db.trees run_params run read.answer))
+  run_found run (inr stop) =
+      let start =
+      start_in_order command_tree run_terms 2 run_cells db.trees run_params (run ++ stop.row ∷ []) stop.begins.1 in
+      let are = picked_here ((run ++ stop.row ∷ []) ++ start.0) start.1 in
+      cut_run run stop.row start.0 (subst InOrder (append_assoc run (stop.row ∷ []) start.0) are) stop.past stop.apart
+
+  pub run_ok : {V : Type 0} (items : V → List Row) (r : Result V Error)
+      → IfOk r (λ v. IsReadRun (ordered command_tree run_terms 2 run_cells run_names) db run_params from upto (items v))
+      → IfOk r (λ v. FindsRun (is_picked panel from) show_run from upto (db.trees command_tree) (items v))
+  run_ok items (Ok v) read = run_found (items v) read
+  run_ok items (Err e) read = tt

@@ -8,7 +8,7 @@ use Rattle.sqlite_sql.specs.Term.{lit, col}
 use Rattle.sqlite.specs.Listing.{understood}
 use Rattle.sqlite_tied.specs.Compute.{everything}
 use Rattle.store_sql_create.specs.Schema.{command_tree}
-use Rattle.store_sql_rows.specs.Meanings.{compared_with, deletion, given, least, selection}
+use Rattle.store_sql_rows.specs.Meanings.{compared_with, deletion, given, least, ordered, selection}
 use Rattle.store_sql_rows.proofs.Texts.{Runs}
 
 abbrev pub clear_text : List ℕ
@@ -70,12 +70,12 @@ pub next_number_runs : Runs next_number_text
 unfolding understood everything
 next_number_runs = record { is = refl; plain = (refl, refl); unlisted = refl }
 
-abbrev pub from_number_text : List ℕ
-from_number_text = codes "SELECT number, point, priority, value, state, a, b FROM command WHERE panel = ?1 AND number >= ?2"
+abbrev pub run_text : List ℕ
+run_text = codes
+    "SELECT number, point, priority, value, state, a, b FROM command WHERE panel = ?1 AND number >= ?2 ORDER BY number"
 
-pub from_number_runs : Runs from_number_text
-    (selection command_tree (given 1 0 ∷ compared_with Ge 2 1 ∷ [])
-    (col 1 2 ∷ col 1 3 ∷ col 1 4 ∷ col 1 5 ∷ col 1 6 ∷ col 1 7 ∷ col 1 8 ∷ [])
+pub run_runs : Runs run_text
+    (ordered command_tree (given 1 0 ∷ compared_with Ge 2 1 ∷ []) 2 (col 1 3 ∷ col 1 4 ∷ col 1 5 ∷ col 1 6 ∷ col 1 7 ∷ col 1 8 ∷ [])
     (codes "number" ∷ codes "point" ∷ codes "priority" ∷ codes "value" ∷ codes "state" ∷ codes "a" ∷ codes "b" ∷ []))
 unfolding understood everything
-from_number_runs = record { is = refl; plain = (refl, refl); unlisted = refl }
+run_runs = record { is = refl; plain = (refl, refl); unlisted = refl }

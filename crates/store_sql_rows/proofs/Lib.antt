@@ -17,6 +17,7 @@ pub mod LeastLemmas
 pub mod MadeLemmas
 pub mod NamedLemmas
 pub mod NamelessLemmas
+pub mod OrderedLemmas
 pub mod PanelLemmas
 pub mod PanelTexts
 pub mod PlaceLemmas
@@ -31,6 +32,7 @@ pub mod ShownTexts
 pub mod SlotLemmas
 pub mod SpellingLemmas
 pub mod StepLemmas
+pub mod StepwiseLemmas
 pub mod StoredLemmas
 pub mod StoredRowLemmas
 pub mod TableLemmas

@@ -1,5 +1,5 @@
 -- What a statement that only reads leaves, and what its answer is.
-use Rattle.std.specs.Prelude.{◌≡◌, ℕ, pos, Bool, true, false, nat_lt, not, IfOk, IsTrue, List, [], ◌∷◌, OnOk, Result, filter, map}
+use Rattle.std.specs.Prelude.{◌≡◌, ◌≤◌, ◌<◌, ◌+◌, ◌-◌, ◌++◌, ◌⊎◌, ℕ, pos, Bool, true, false, nat_lt, not, Ok, Err, IfOk, IsTrue, List, [], ◌∷◌, OnOk, Result, filter, map}
 use Rattle.std.specs.Cmp.Lexicographic.{slice_cmp}
 use Rattle.std.specs.List.Sorted.{IsPermutation}
 use Rattle.std.specs.Ordering.{is_ge, is_lt, nat_cmp}
@@ -8,7 +8,12 @@ use Rattle.sqlite_value.specs.declared.value.Value.{Value}
 use Rattle.sqlite_value.specs.declared.value.Value.TheVariants.{Int, Text}
 use Rattle.sqlite_value.specs.Order.{Row, column, value_cmp}
 use Rattle.sqlite.specs.declared.error.Error.{Error}
+use Rattle.sqlite.specs.Effect.{Database, ReadsFirst, Reads as ReadsAll}
+use Rattle.sqlite_resolve.specs.declared.compiled.Compiled.{Compiled}
+use Rattle.sqlite_resolve.specs.declared.error.CompileError.{CompileError}
+use Rattle.sqlite_schema.specs.declared.command.Command.{Command}
 use Rattle.sqlite.specs.State.{HasCleanDisk, IsUnchanged, State, Survives}
+use Rattle.store_sql_rows.specs.Cells.{is_count}
 use Rattle.store_sql_rows.specs.Ours.{IsOurs, kept_in}
 use Rattle.store_sql_rows.specs.Stored.{Kept}
 
@@ -39,6 +44,48 @@ pub record FindsLeast (pick : Row → Bool) (at : ℕ) (rows answer : List Row) 
   pub some : (shown : Row) (more : List Row) → answer ≡ shown ∷ more
       → (row : Row) × Has rows row × (pick row ≡ true) × (shown ≡ column row at ∷ []) × (more ≡ [])
       × ((other : Row) → Has rows other → pick other ≡ true → is_lt (value_cmp (column other at) (column row at)) ≡ false)
+
+-- Rows from a number on, as far as a run up to another goes: the number is the first cell of each. Those that are left
+-- out show greater numbers than `gap`, and those of the answer lesser ones, so that no row shows it.
+pub record FindsRun (pick : Row → Bool) (show : Row → Row) (from upto : ℕ) (rows answer : List Row) : Type 0 where
+  pub rest : List Row
+  pub shown : IsPermutation (map show (filter pick rows)) (answer ++ rest)
+  pub gap : ℕ
+  pub after : from ≤ gap
+  pub reaches : upto ≤ gap
+  pub before : (row : Row) → Has answer row → (number : ℕ) → is_count number (column row 0) ≡ true → number < gap
+  pub behind : (row : Row) → Has rest row → (number : ℕ) → is_count number (column row 0) ≡ true → gap < number
+
+-- the number in a cell, or 0
+abbrev pub number_or_0 : Value → ℕ
+number_or_0 (Int (pos n)) = n
+number_or_0 _ = 0
+
+-- the number that a row shows first, or 0
+abbrev pub number_shown : Row → ℕ
+number_shown row = number_or_0 (column row 0)
+
+-- the number that the last row shows, or another where there is none
+abbrev pub last_shown : ℕ → List Row → ℕ
+last_shown last [] = last
+last_shown last (row ∷ rows) = last_shown (number_shown row) rows
+
+-- a row that an answer has behind others is past `upto`, and behind a gap
+pub record StopsAt (command : Command) (db : Database) (params : Row) (from upto : ℕ) (run : List Row) : Type 0 where
+  pub row : Row
+  pub begins : ReadsFirst command db params (run ++ row ∷ [])
+  pub past : upto < number_shown row
+  pub apart : last_shown (from - 1) run + 1 < number_shown row
+
+-- rows of an answer, read as far as a run from one number on up to another goes: the whole answer, or what stands before
+-- a row behind a gap
+abbrev pub IsReadRun : Command → Database → Row → ℕ → ℕ → List Row → Type 0
+IsReadRun command db params from upto run = ReadsAll command db params run ⊎ StopsAt command db params from upto run
+
+-- the command that is understood of a text
+abbrev pub IsCommand : Result Compiled CompileError → Command → Type 0
+IsCommand (Ok compiled) command = compiled.command ≡ command
+IsCommand (Err fault) command = ⊥
 
 -- the cell has this text or one after it
 abbrev pub is_from_text : List ℕ → Value → Bool

@@ -41,6 +41,20 @@ least_query tree terms column = record {
   offset = lit (Int (pos 0));
 }
 
+-- the rows of a table that pass the terms, in the order of a column, which is shown before what the terms show
+abbrev pub ordered_query : ℕ → List Term → ℕ → List Term → Query
+ordered_query tree terms column project = record {
+  from = inner tree end;
+  filter = terms;
+  group = None;
+  project = col 1 column ∷ project;
+  distinct = false;
+  collations = [];
+  order = (col 1 column, ascending Binary) ∷ [];
+  limit = lit (Int (negsuc 0));
+  offset = lit (Int (pos 0));
+}
+
 -- the row passes the terms, with these parameters
 abbrev pub passes : List Term → Row → Row → Bool
 passes terms params row = list_all (holds (params ∷ row ∷ [])) terms
@@ -62,6 +76,9 @@ selection tree terms project names = Select (record { lets = []; body = plain_qu
 
 abbrev pub least : ℕ → List Term → ℕ → List (List ℕ) → Command
 least tree terms column names = Select (record { lets = []; body = least_query tree terms column }) names
+
+abbrev pub ordered : ℕ → List Term → ℕ → List Term → List (List ℕ) → Command
+ordered tree terms column project names = Select (record { lets = []; body = ordered_query tree terms column project }) names
 
 abbrev pub deletion : ℕ → ℕ → List Term → Command
 deletion at tree terms = Delete at (record { lets = []; body = plain_query tree terms (col 1 0 ∷ []) })

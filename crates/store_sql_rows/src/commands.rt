@@ -148,22 +148,3 @@ pub fn next_number<S: Alter>(
         &[text(panel), count(from)],
     )
 }
-
-/// The number of each row of a panel from a number on, and after it the cells that `find` shows of the row.
-pub fn from_number<S: Alter>(
-    connection: &mut Connection<S>,
-    panel: &Name,
-    from: u64,
-) -> Result<Vec<Row>, Error>
-    requires { from < 2 ^ 63 }
-    ensures reads { Reads (λ kept rows. Finds (λ row. is_text panel.now (column row 1) && is_from from (column row 2))
-        (λ row. column row 2 ∷ column row 3 ∷ column row 4 ∷ column row 5 ∷ column row 6 ∷ column row 7 ∷ column row 8 ∷ [])
-        kept.command rows.items)
-        (state S.Store connection.old) (state S.Store connection.new) result }
-{
-    ask(
-        connection,
-        "SELECT number, point, priority, value, state, a, b FROM command WHERE panel = ?1 AND number >= ?2",
-        &[text(panel), count(from)],
-    )
-}

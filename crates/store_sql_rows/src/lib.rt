@@ -2,17 +2,20 @@
 //!
 //! Each function of the modules `calendars` to `schedules` runs one statement of SQL, and its contract says what that
 //! makes of the rows of the six tables. Those of `putting` put one item of a change into them, in a transaction. What a
-//! row says is read by `cells` and `command_cells`. `look` asks a query, whatever it is.
+//! row says is read by `cells` and `command_cells`. `run_from` reads the rows of a panel's run, one at a time. `look`
+//! asks a query, whatever it is.
 #![tactic(auto)]
 
 pub use cells::{count_at, entry_at, name_at, number_at, optional_at};
 pub use command_cells::{StateCells, cells_of, command_at};
+pub use command_run::run_from;
 pub use looking::look;
 pub use read_fault::ReadFault;
 
 pub mod calendars;
 mod cells;
 mod command_cells;
+mod command_run;
 pub mod commands;
 pub mod desk_row;
 mod looking;

@@ -8,7 +8,8 @@ use Rattle.store_sql_reads.proofs.numbered.run_in.Given as goal
 abbrev pub invariant-loop : goal.invariant-loop
 invariant-loop l = record {
   ordered : l.from ≤ l.number;
-  so_far : (kept : Kept) (panel : List ℕ) (least : ℕ) → IsListed kept panel least l.numbered
+  so_far : (kept : Kept) (panel : List ℕ) (least gap : ℕ) → IsListed kept panel least l.upto gap l.numbered → l.from ≤ gap
       → ((n : ℕ) → l.from ≤ n → 1 ≤ n → least ≤ n)
-      → AreSoFar ((tables_in kept).row panel) l.from l.upto l.number l.run.items × AllStand kept panel l.from l.number;
+      → AreSoFar ((tables_in kept).row panel) l.from l.upto l.number l.run.items × AllStand kept panel l.from l.number
+      × (l.number ≤ gap);
 }
