@@ -2,6 +2,6 @@ pub mod EntryLemmas
 pub mod HeldLemmas
 pub mod NameLemmas
 pub mod PanelLemmas
-pub mod SlotLemmas
+pub mod RowSlotLemmas
 pub mod StandLemmas
 pub mod TextLemmas

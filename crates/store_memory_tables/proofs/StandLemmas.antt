@@ -1,9 +1,8 @@
 -- What stands in tables: a test of an entry against what the tables tell.
-use Rattle.std.proofs.Common.{◌≡◌, ℕ, ◌↔◌, ◌⊎◌, ◌==◌, ◌||◌, Bool, true, false, not, List, [], ◌∷◌, Option, Some, None, IsSome, is_some, unwrap_or, nat_lt, cond}
+use Rattle.std.proofs.Common.{◌≡◌, ℕ, ◌↔◌, ◌⊎◌, ◌==◌, ◌||◌, Bool, true, false, not, List, [], ◌∷◌, Option, Some, None, IsSome, is_some, unwrap_or}
 use Rattle.std.proofs.Common.{string_bytes, refl, sym, ap, ◌∙◌, inl, inr}
 use Rattle.std.specs.Bool.{IsTrue}
 use Rattle.std.specs.BTreeMap.{keys}
-use Rattle.std.specs.Cmp.{unsigned_tied}
 use Rattle.std.specs.Cmp.Lexicographic.{slice_cmp}
 use Rattle.std.specs.FinMap.{empty, empty_of_len, len, len-empty}
 use Rattle.std.specs.List.{list_any}
@@ -17,7 +16,9 @@ use Rattle.std.proofs.lemmas.Slice.Eq.{bytes_eq-Decides}
 use Rattle.points.specs.PriorityArray.{Places}
 use Rattle.store_memory_tables.specs.declared.calendar_table.CalendarTable.{CalendarTable}
 use Rattle.store_memory_tables.specs.declared.panel_table.PanelTable.{PanelTable}
-use Rattle.store_memory_tables.specs.Held.{kept_rows, next_in, slot_in, stands_calendar, stands_panel, stands_point, text_slot}
+use Rattle.store_memory_tables.specs.Held.{next_in, slot_in, stands_calendar, stands_panel, stands_point, text_slot}
+use Rattle.store_memory_tables.specs.declared.row_slots.RowSlot.{RowSlot}
+use Rattle.store_memory_tables.specs.RowSlots.{row_for, slot_for}
 use Rattle.store_memory_tables.specs.Slots.{IsStanding, entry_slot, flatten, has_text}
 use Rattle.points.specs.Texts.{Text}
 
@@ -50,11 +51,6 @@ some_of_flat : {A : Type 0} (o : Option (Option A)) → IsSome (flatten o) → I
 some_of_flat None is = is
 some_of_flat (Some slot) is = refl
 
--- an entry that counts is one
-some_if_counts : {A : Type 0} (early : Bool) (o : Option A) → IsSome (cond early None o) → IsSome o
-some_if_counts true o is = absurd (false≢true is)
-some_if_counts false o is = is
-
 first_of_two : (a b : Bool) → (a || b) ≡ true → a ≡ false → b ≡ true
 first_of_two true b some other = absurd (false≢true (sym other))
 first_of_two false b some other = some
@@ -63,8 +59,19 @@ second_of_two : (a b : Bool) → b ≡ true → (a || b) ≡ true
 second_of_two true b is = refl
 second_of_two false b is = is
 
-same_number : (n k : ℕ) → is_eq (nat_cmp n k) ≡ true → n ≡ k
-same_number n k is = (Decides-eqb n k).0 (sym (unsigned_tied n k) ∙ is)
+-- a number that has a slot is among those of the slots
+any_slot : (test : ℕ → Bool) (slots : List RowSlot) (number : ℕ) → IsSome (slot_for slots number) → test number ≡ true
+    → list_any (λ (s : RowSlot). test s.number) slots ≡ true
+any_slot test [] number here is = absurd (false≢true here)
+any_slot test (s ∷ slots) number here is =
+    elim (cases_Bool (s.number == number)) [
+      | inl same ↦
+          let passes : test s.number ≡ true = ap test ((Decides-eqb s.number number).0 same) ∙ is in
+          rw passes refl
+      | inr apart ↦
+          let later : IsSome (slot_for slots number) = rw apart at here in
+          second_of_two (test s.number) _ (any_slot test slots number later is)
+    ]
 
 pub panel_stands : (o : Option PanelTable)
     → IsStanding stands_panel o ↔ ((next_in o ≡ 1 → ⊥) ⊎ ((number : ℕ) × IsSome (flatten (slot_in o number))))
@@ -79,7 +86,8 @@ panel_stands (Some table) = (
   (λ stands. elim (cases_Bool (table.next == 1)) [
     | inl first ↦
         let other : not (table.next == 1) ≡ false = rw first refl in
-        inr (any_key (λ number. is_some (kept_rows table number)) (keys table.rows) (first_of_two _ _ stands other))
+        let slot = any_key (λ (s : RowSlot). is_some (row_for table.rows s.number)) table.rows (first_of_two _ _ stands other) in
+        inr (slot.0.number, slot.1)
     | inr moved ↦ inl (λ is. both_ways (table.next == 1) moved ((Decides-eqb table.next 1).1 is))
   ]),
   (λ either. elim either [
@@ -88,9 +96,7 @@ panel_stands (Some table) = (
       | inr other ↦ rw other refl
     ]
     | inr row ↦ second_of_two (not (table.next == 1)) _
-        (found_any (λ k. is_eq (nat_cmp row.0 k)) (λ number. is_some (kept_rows table number))
-        (λ k same. ap (λ n. is_some (kept_rows table n)) (sym (same_number row.0 k same)) ∙ row.1)
-        table.rows.entries (some_if_counts (nat_lt row.0 table.first) _ (some_of_flat (slot_in (Some table) row.0) row.1)))
+        (any_slot (λ n. is_some (row_for table.rows n)) table.rows row.0 (some_of_flat (slot_for table.rows row.0) row.1) row.1)
   ]),
 )
 

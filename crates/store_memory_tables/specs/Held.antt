@@ -1,10 +1,9 @@
 -- What the tables in memory hold. An entry may hold nothing, and is then room for what is to come.
-use Rattle.std.specs.Prelude.{◌≡◌, ℕ, ◌==◌, Bool, not, ◌||◌, nat_lt, if◌then◌else◌, Option, Some, None, IsSome, is_some, unwrap_or, ℤ}
-use Rattle.std.specs.BTreeMap.{get, keys}
+use Rattle.std.specs.Prelude.{◌≡◌, ℕ, ◌==◌, Bool, not, ◌||◌, Option, Some, None, IsSome, is_some, unwrap_or, ℤ}
+use Rattle.std.specs.BTreeMap.{get}
 use Rattle.std.specs.HashMap as hash
 use Rattle.std.specs.Cmp.Lexicographic.{slice_cmp}
 use Rattle.std.specs.FinMap.{empty, len}
-use Rattle.std.specs.List.{list_any}
 use Rattle.std.specs.Ordering.{nat_cmp}
 use Rattle.std.specs.Str.{bytes_eq}
 use Rattle.dates.specs.declared.entry.Entry.{Entry}
@@ -17,21 +16,21 @@ use Rattle.store_memory_tables.specs.declared.calendars.Calendars.{Calendars}
 use Rattle.store_memory_tables.specs.declared.panel_table.PanelTable.{PanelTable}
 use Rattle.store_memory_tables.specs.declared.panels.Panels.{Panels}
 use Rattle.store_memory_tables.specs.declared.shown_values.ShownValues.{ShownValues}
+use Rattle.store_memory_tables.specs.RowSlots.{has_row, slot_for}
 use Rattle.store_memory_tables.specs.Slots.{flatten, entry_slot, has_entries}
 use Rattle.points.specs.Texts.{Text}
 
 -- ---- panels
 
--- the entry of a number, if it counts
 abbrev pub slot_at : PanelTable → ℕ → Option (Option CommandRow)
-slot_at table number = if nat_lt number table.first then None else get nat_cmp table.rows number
+slot_at table number = slot_for table.rows number
 
 abbrev pub kept_rows : PanelTable → Rows
 kept_rows table number = flatten (slot_at table number)
 
 -- whether anything is kept of a panel
 abbrev pub stands_panel : PanelTable → Bool
-stands_panel table = not (table.next == 1) || list_any (λ number. is_some (kept_rows table number)) (keys table.rows)
+stands_panel table = not (table.next == 1) || has_row table.rows
 
 abbrev pub table_at : Panels → Text → Option PanelTable
 table_at panels panel = hash.get bytes_eq panels.tables panel

@@ -10,6 +10,7 @@ pub use calendar_table::CalendarTable;
 pub use calendars::Calendars;
 pub use panel_table::PanelTable;
 pub use panels::Panels;
+pub use row_slots::{RowSlot, RowSlots};
 pub use shown_values::ShownValues;
 pub use spelled_entry::{SpelledEntry, spell};
 
@@ -19,5 +20,6 @@ mod calendars;
 mod found_last;
 mod panel_table;
 mod panels;
+mod row_slots;
 mod shown_values;
 mod spelled_entry;

@@ -10,7 +10,7 @@ use Rattle.store_memory_tables.proofs.panels.Panels.set_next.Goals.{In-Some-get_
 use Rattle.store_memory_tables.proofs.panels.Panels.set_next.Goals as goal
 
 abbrev made : In-Some-get_index_mut → PanelTable
-made c = record { next = c.args.item.now.next; first = c.in-Some-get_index_mut.table.now.first; rows = c.in-Some-get_index_mut.table.now.rows }
+made c = record { next = c.args.item.now.next; rows = c.in-Some-get_index_mut.table.now.rows }
 
 alters : (c : In-Some-get_index_mut) → Alters c.args.item.now.panel (Some c.in-Some-get_index_mut.table.now) (made c) (table_at c.args.self.now)
     (hash.get bytes_eq (with_value_at c.args.self.now.tables c.in-Some.index (made c)))
