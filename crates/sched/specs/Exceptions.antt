@@ -1,4 +1,4 @@
-use Rattle.std.specs.Prelude.{ℕ, Bool, false, ◌&&◌, nat_lt, List, Option, ℤ, is_some, option_and_then, slice_get}
+use Rattle.std.specs.Prelude.{ℕ, Bool, false, ◌&&◌, nat_lt, if◌then◌else◌, List, Option, Some, None, ℤ, is_some, option_and_then, slice_get}
 use Rattle.std.specs.Option.{option_map_or}
 use Rattle.jiff_core.specs.declared.civil.date.Date.{Date}
 use Rattle.dates.specs.Entry.{holds_on}
@@ -25,6 +25,11 @@ speaks calendars day time exception = in_effect calendars day exception && is_so
 -- an exception gives way to one after it of a lower EventPriority number
 abbrev pub gives_way_to_lower : Exception → Exception → Bool
 gives_way_to_lower x y = nat_lt y.event_priority x.event_priority
+
+-- of an exception that speaks, if there is one, and one behind it, the one that does not give way
+abbrev pub lower_first : Option Exception → Exception → Option Exception
+lower_first None next = Some next
+lower_first (Some best) next = if gives_way_to_lower best next then Some next else Some best
 
 -- of the exceptions that speak, the least by EventPriority and then by index
 unfoldable pub exception_now : List Calendar → Date → ℕ → List Exception → Option Exception
