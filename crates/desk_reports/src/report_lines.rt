@@ -1,13 +1,16 @@
 //! The lines of a report.
 ghost use Rattle.std.specs.Prelude.{◌≡◌, ◌++◌, IfOk, OnOk, string_bytes};
 ghost use Rattle.std.specs.List.{flat_map};
+ghost use Rattle.points.specs.PointLine.{right_in};
 ghost use Rattle.desk_reports.specs.ReportLines.{activity, day_line, schedule_lines, segment_line, value_text};
 
 use building::NamedSchedule;
 use dates::{Day, weekday_name};
+use itoa::Buffer;
 use points::push_right;
 use sched::{Calendar, TimeValue};
 use std::alloc::{AllocError, Global};
+use std::fmt::Write;
 
 /// The places of a value.
 const VALUE_WIDTH: usize = 12;
@@ -26,32 +29,31 @@ fn activity(is_active: bool) -> &'static str
     if is_active { "active" } else { "quiet" }
 }
 
-fn value_text(alloc: Global, value: Option<i64>) -> Result<String, AllocError>
-    ensures { IfOk result (λ text. string_bytes text ≡ value_text value) }
+// Writes a value at the right of its places.
+fn push_value(text: &mut String, value: Option<i64>) -> Result<(), AllocError>
+    ensures { OnOk result (string_bytes text.new ≡ string_bytes text.old ++ right_in 12 (value_text value)) }
 {
     match value {
-        Some(value) => value.to_string(alloc),
-        None => String::from_str(alloc, "NULL"),
+        Some(value) => push_right(text, Buffer::new().format(value), VALUE_WIDTH),
+        None => push_right(text, "NULL", VALUE_WIDTH),
     }
 }
 
-fn push_segment(alloc: Global, text: &mut String, segment: &TimeValue) -> Result<(), AllocError>
+fn push_segment(text: &mut String, segment: &TimeValue) -> Result<(), AllocError>
     ensures { OnOk result (string_bytes text.new ≡ string_bytes text.old ++ segment_line segment.now) }
 {
-    let time = segment.time.to_string(alloc)?;
-    let value = value_text(alloc, segment.value)?;
-    text.push_str(time.as_str())?;
+    write!(text, "{}", segment.time)?;
     text.push_str(" ")?;
-    push_right(text, value.as_str(), VALUE_WIDTH)?;
+    push_value(text, segment.value)?;
     text.push_str("\n")?;
     Ok(())
 }
 
-fn push_segments(alloc: Global, text: &mut String, segments: &[TimeValue]) -> Result<(), AllocError>
+fn push_segments(text: &mut String, segments: &[TimeValue]) -> Result<(), AllocError>
     ensures { OnOk result (string_bytes text.new ≡ string_bytes text.old ++ flat_map segment_line segments.now) }
 {
     for segment in segments {
-        push_segment(alloc, text, segment)?;
+        push_segment(text, segment)?;
     }
     Ok(())
 }
@@ -73,5 +75,5 @@ pub fn push_schedule(
     text.push_str(" ")?;
     text.push_str(activity(schedule.schedule.active(day)))?;
     text.push_str("\n")?;
-    push_segments(alloc, text, segments.as_slice())
+    push_segments(text, segments.as_slice())
 }

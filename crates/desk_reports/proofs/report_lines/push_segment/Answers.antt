@@ -11,11 +11,11 @@ returns c =
     let old : List ℕ = string_bytes c.args.text.now in
     let time : List ℕ = time_text c.args.segment.now.time in
     let value : List ℕ = right_in 12 (value_text c.args.segment.now.value) in
-    let first = string_bytes c.push_str.new.self in
-    let second = string_bytes c.push_str-2.new.self in
-    let third = string_bytes c.push_right.new.line in
+    let first = string_bytes c.write.new.self in
+    let second = string_bytes c.push_str.new.self in
+    let third = string_bytes c.push_value.new.text in
     let with_time : first ≡ old ++ time = search rules in
     let with_space : second ≡ first ++ 32 ∷ [] = search rules in
     let with_value : third ≡ second ++ value = search rules in
-    let with_end : string_bytes c.push_str-3.new.self ≡ third ++ 10 ∷ [] = search rules in
+    let with_end : string_bytes c.push_str-2.new.self ≡ third ++ 10 ∷ [] = search rules in
     joined-line old time value first second third _ with_time with_space with_value with_end
