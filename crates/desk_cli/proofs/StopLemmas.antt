@@ -1,8 +1,7 @@
 -- What a run has printed at most, wherever it stops.
-use Rattle.std.proofs.Common.{◌≡◌, ℕ, ℤ, ◌++◌, true, false, Ok, Vec, List, [], ◌∷◌, Option, None}
+use Rattle.std.proofs.Common.{◌≡◌, ℕ, ℤ, ◌++◌, true, false, Ok, List, [], ◌∷◌, Option, None}
 use Rattle.std.proofs.Common.{Some, refl, sym, ap, subst, ◌∙◌, inl, inr, ⊎_elim, append_assoc}
 use Rattle.std.proofs.lemmas.List.{append-nil}
-use Rattle.std.specs.declared.alloc.Global.{Global}
 use Rattle.std.specs.Io.KnownBytes.{Appends, Keeps}
 use Rattle.building.specs.Building.{Building, contents_of}
 use Rattle.building.specs.BuildingFile.{building_of}
@@ -72,10 +71,10 @@ first-after b E lines more old mid new now prints part = record {
 }
 
 -- what a line is answered
-answered_whole : (b : Building) (E : List Delivery) (line text : List ℕ) (answered : Vec ℕ Global) (old new : Option (List ℕ))
+answered_whole : (b : Building) (E : List Delivery) (line text : List ℕ) (answered : List ℕ) (old new : Option (List ℕ))
     (now : Standing)
     (parsed : Option ParsedLine)
-    → is_empty_line line ≡ false → parse_line b line ≡ parsed → AnswersLine b E parsed (Ok answered) now → text ≡ answered.items
+    → is_empty_line line ≡ false → parse_line b line ≡ parsed → AnswersLine b E parsed (Ok answered) now → text ≡ answered
     → Appends old new text → Prints b E (line ∷ []) old new now.content
 answered_whole b E line text answered old new now None some one answers is printed = absurd answers
 answered_whole b E line text answered old new now (Some (of.Delivery d)) some one answers is printed = record {
@@ -91,17 +90,17 @@ answered_whole b E line text answered old new now (Some (of.RefusedImport refuse
   holds = answers.1 ∙ ap (λ list. sound (tables b list)) (sym (append-nil E));
 }
 
-pub Prints-answered : (b : Building) (E : List Delivery) (line text : List ℕ) (answered : Vec ℕ Global) (old new : Option (List ℕ))
+pub Prints-answered : (b : Building) (E : List Delivery) (line text : List ℕ) (answered : List ℕ) (old new : Option (List ℕ))
     (now : Standing)
-    → is_empty_line line ≡ false → AnswersLine b E (parse_line b line) (Ok answered) now → text ≡ answered.items → Appends old new text
+    → is_empty_line line ≡ false → AnswersLine b E (parse_line b line) (Ok answered) now → text ≡ answered → Appends old new text
     → Prints b E (line ∷ []) old new now.content
 Prints-answered b E line text answered old new now some answers is printed = answered_whole b E line text answered old new now
     (parse_line b line) some refl answers is printed
 
 -- what a line is answered, or a beginning of it
-replied : (b : Building) (E : List Delivery) (line text : List ℕ) (answered : Vec ℕ Global) (old new : Option (List ℕ)) (now : Standing)
+replied : (b : Building) (E : List Delivery) (line text : List ℕ) (answered : List ℕ) (old new : Option (List ℕ)) (now : Standing)
     (parsed : Option ParsedLine)
-    → is_empty_line line ≡ false → parse_line b line ≡ parsed → AnswersLine b E parsed (Ok answered) now → text ≡ answered.items
+    → is_empty_line line ≡ false → parse_line b line ≡ parsed → AnswersLine b E parsed (Ok answered) now → text ≡ answered
     → AppendsStart old new text → PrintsStart b E (line ∷ []) old new
 replied b E line text answered old new now None some none answers is start = absurd answers
 replied b E line text answered old new now (Some (of.Delivery d)) some one answers is start = record {
@@ -121,9 +120,9 @@ replied b E line text answered old new now (Some (of.RefusedImport refused)) som
   printed = start-longer old new (refusal_line refused) [] (subst (λ t. AppendsStart old new t) (is ∙ answers.0) start);
 }
 
-pub first-replied : (b : Building) (E : List Delivery) (line text : List ℕ) (answered : Vec ℕ Global) (old new : Option (List ℕ))
+pub first-replied : (b : Building) (E : List Delivery) (line text : List ℕ) (answered : List ℕ) (old new : Option (List ℕ))
     (now : Standing)
-    → is_empty_line line ≡ false → AnswersLine b E (parse_line b line) (Ok answered) now → text ≡ answered.items → AppendsStart old new text
+    → is_empty_line line ≡ false → AnswersLine b E (parse_line b line) (Ok answered) now → text ≡ answered → AppendsStart old new text
     → PrintsStart b E (line ∷ []) old new
 first-replied b E line text answered old new now some answers is start = replied b E line text answered old new now
     (parse_line b line) some refl answers is start

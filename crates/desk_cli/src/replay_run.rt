@@ -150,6 +150,7 @@ fn print_replies<'a, S: Store + Drop, D: Read + Drop, W: Write>(
 {
     let mut scratch = Scratch::new(alloc);
     let mut line = Vec::new(alloc);
+    let mut text = String::new(alloc);
     for number in 1..u64::MAX {
         let is_line = read_line(path, &mut reader, &mut line)?;
         if !is_line {
@@ -163,6 +164,7 @@ fn print_replies<'a, S: Store + Drop, D: Read + Drop, W: Write>(
         print_reply_and_flush(
             alloc,
             &mut scratch,
+            &mut text,
             desk,
             number,
             line.as_slice(),
@@ -178,6 +180,7 @@ fn print_replies<'a, S: Store + Drop, D: Read + Drop, W: Write>(
 fn print_reply_and_flush<'a, S: Store + Drop, W: Write>(
     alloc: Global,
     scratch: &mut Scratch,
+    text: &mut String,
     desk: &mut Desk<S>,
     number: u64,
     line: &[u8],
@@ -194,7 +197,7 @@ fn print_reply_and_flush<'a, S: Store + Drop, W: Write>(
     ensures honest { (S.standing desk.new.store).is_honest → (S.standing desk.old.store).is_honest }
     ensures building { desk.new.building ≡ desk.old.building }
 {
-    print_reply(alloc, scratch, desk, number, line, out)?;
+    print_reply(alloc, scratch, text, desk, number, line, out)?;
     if waits { flush(out) } else { Ok(()) }
 }
 
@@ -202,6 +205,7 @@ fn print_reply_and_flush<'a, S: Store + Drop, W: Write>(
 fn print_reply<'a, S: Store + Drop, W: Write>(
     alloc: Global,
     scratch: &mut Scratch,
+    text: &mut String,
     desk: &mut Desk<S>,
     number: u64,
     line: &[u8],
@@ -220,8 +224,8 @@ fn print_reply<'a, S: Store + Drop, W: Write>(
     if is_empty(line) {
         return Ok(());
     }
-    match answer_line(alloc, scratch, desk, line) {
-        Ok(text) => print_text(out, text.as_slice()),
+    match answer_line(alloc, scratch, text, desk, line) {
+        Ok(()) => print_text(out, text.as_bytes()),
         Err(LineFault::NotDelivery) => Err(RunFault::NotDelivery { line: number }),
         Err(LineFault::NotDone(fault)) => Err(RunFault::from(fault)),
     }

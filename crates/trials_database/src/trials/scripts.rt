@@ -6,7 +6,6 @@ use delivery_json::LineFault;
 use desk::Desk;
 use desk_cli::answer_line;
 use json::Scratch;
-use points::text_of;
 use std::alloc::Global;
 use std::fmt::{Debug, Display, Write};
 use std::process::Abort;
@@ -45,8 +44,16 @@ fn answered<S: Store + Drop>(
     alloc: Global,
     desk: &mut Desk<S>,
     line: &str,
-) -> Result<Vec<u8>, LineFault> {
-    answer_line(alloc, &mut Scratch::new(alloc), desk, line.as_bytes())
+) -> Result<String, LineFault> {
+    let mut text = String::new(alloc);
+    answer_line(
+        alloc,
+        &mut Scratch::new(alloc),
+        &mut text,
+        desk,
+        line.as_bytes(),
+    )?;
+    Ok(text)
 }
 
 /// Appends a fault as a line.
@@ -55,9 +62,9 @@ pub(crate) fn push_fault<F: Display + Drop>(fault: F, printed: &mut String) -> R
     Ok(())
 }
 
-fn push_answer(answer: Result<Vec<u8>, LineFault>, printed: &mut String) -> Result<(), Fail> {
+fn push_answer(answer: Result<String, LineFault>, printed: &mut String) -> Result<(), Fail> {
     match answer {
-        Ok(reply) => Ok(printed.push_str(text_of(reply.as_slice()).ok_or("a reply is no text")?)?),
+        Ok(reply) => Ok(printed.push_str(reply.as_str())?),
         Err(LineFault::NotDone(fault)) => push_fault(fault, printed),
         Err(LineFault::NotDelivery) => push_fault("no delivery", printed),
     }
