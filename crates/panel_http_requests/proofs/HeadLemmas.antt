@@ -31,7 +31,7 @@ taken_on before mid after a k n xs ys within fits first second =
     subst (Consumes before after) (sym (take_read a k n xs ys within fits)) (Consumes-trans before mid after _ _ first second)
 
 -- a text that begins in two ways begins with the shorter one
-shorter_start : (front rest start more : List ℕ) → front ++ rest ≡ start ++ more → length start ≤ length front
+pub shorter_start : (front rest start more : List ℕ) → front ++ rest ≡ start ++ more → length start ≤ length front
     → front ≡ start ++ drop (length start) front
 shorter_start front rest start more same short =
     starts_with_rest front start (sym (take-append-le (length start) front rest short) ∙ ap (take (length start)) same

@@ -8,5 +8,6 @@ pub mod PartLemmas
 mod BodyLemmas
 pub mod MethodLemmas
 pub mod RequestLemmas
+mod WholeInputLemmas
 pub mod WholeLemmas
 mod WrittenBodyLemmas

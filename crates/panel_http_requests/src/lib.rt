@@ -8,8 +8,8 @@
 //!
 //! What the bytes of an input ask is `specs/Requests.antt`: the first case that holds. `lacking` answers, for the bytes
 //! that have come of an input, how many are waited for yet, and none where they are a whole request
-//! (`specs/Whole.antt`). `Counted` hands on what a reader or a writer does, and counts what failed
-//! (`specs/Counting.antt`).
+//! (`specs/Whole.antt`); `request_in` says what bytes ask that have come whole, and copies none of them. `Counted` hands
+//! on what a reader or a writer does, and counts what failed (`specs/Counting.antt`).
 #![tactic(auto)]
 
 pub use counted_end::Counted;
@@ -21,6 +21,7 @@ pub use route::Route;
 pub use routes::Routes;
 pub use text_writing::write_text;
 pub use whole::lacking;
+pub use whole_input::request_in;
 
 mod asked_route;
 mod beginning;
@@ -41,3 +42,4 @@ mod routes;
 mod seen;
 mod text_writing;
 mod whole;
+mod whole_input;
