@@ -11,21 +11,21 @@ use Rattle.panel_http_responses.specs.Responses.{place_text}
 abbrev pub other_place : Places → ℕ → List ℕ
 other_place places priority = codes "," ++ place_text (get places priority)
 
--- the first place, and so many others
-abbrev pub places_before : Places → ℕ → List ℕ
-places_before places priority = place_text (get places 1) ++ flat_map (other_place places) (range_with_len 2 (priority - 2))
+-- the places after the first, up to one
+abbrev pub others_before : Places → ℕ → List ℕ
+others_before places priority = flat_map (other_place places) (range_with_len 2 (priority - 2))
 
 range-more : (a n j : ℕ) → a + n ≡ j → range_with_len a (n + 1) ≡ range_with_len a n ++ j ∷ []
 range-more a n j e =
     sym (map-id (range_with_len a (n + 1))) ∙ map-range_with_len_more (λ x. x) a n j e ∙ ap (λ l. l ++ j ∷ []) (map-id (range_with_len a n))
 
-pub places-more : (places : Places) (priority : ℕ) (text : List ℕ) → 2 ≤ priority → text ≡ places_before places priority
-    → text ++ other_place places priority ≡ places_before places (priority + 1)
-places-more places priority text least so_far =
-    let start = place_text (get places 1) in
+-- one place more, behind whatever came before
+pub others-more : (places : Places) (priority : ℕ) (before text : List ℕ) → 2 ≤ priority → text ≡ before ++ others_before places priority
+    → text ++ other_place places priority ≡ before ++ others_before places (priority + 1)
+others-more places priority before text least so_far =
     let others = flat_map (other_place places) in
     let next : priority + 1 - 2 ≡ priority - 2 + 1 = omega arith in
     ap (λ l. l ++ other_place places priority) so_far
-    ∙ flat_map_more (other_place places) start (range_with_len 2 (priority - 2)) priority
-    ∙ ap (λ l. start ++ others l) (sym (range-more 2 (priority - 2) priority (omega arith)))
-    ∙ ap (λ n. start ++ others (range_with_len 2 n)) (sym next)
+    ∙ flat_map_more (other_place places) before (range_with_len 2 (priority - 2)) priority
+    ∙ ap (λ l. before ++ others l) (sym (range-more 2 (priority - 2) priority (omega arith)))
+    ∙ ap (λ n. before ++ others (range_with_len 2 n)) (sym next)

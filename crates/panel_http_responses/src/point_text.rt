@@ -1,38 +1,20 @@
 //! The responses to who asks for a point.
 
-ghost use Rattle.std.specs.Prelude.{◌≡◌, ◌++◌, IfOk, OnOk, string_bytes};
+ghost use Rattle.std.specs.Prelude.{◌≡◌, ◌++◌, IfOk, OnOk, codes, string_bytes};
+ghost use Rattle.std.specs.FinMap.{get};
+ghost use Rattle.std.specs.List.{flat_map, range_with_len};
 ghost use Rattle.panel_http_responses.specs.Response.{Says};
-ghost use Rattle.panel_http_responses.specs.Responses.{no_point_said, places_text, point_body};
-ghost use Rattle.panel_http_responses.specs.Responses.{point_said};
+ghost use Rattle.panel_http_responses.specs.Responses.{no_point_said, place_text, places_text, point_body, point_said};
 
 use crate::whole_response::{ContentType, Response, respond};
 use http::StatusCode;
+use itoa::Buffer;
 use points::{LOWEST_PRIORITY, Name, PriorityArray};
 use std::alloc::{AllocError, Global};
-use std::fmt;
+use std::fmt::Write;
 
-/// Room for the values of nearly every array, and for the body beside them, in bytes.
-const PLACES_ROOM: usize = 128;
-
+/// Room for nearly every body, in bytes.
 const BODY_ROOM: usize = 256;
-
-/// The value of a place, or null.
-#[derive(Clone, Copy)]
-struct PlaceText(Option<i64>);
-
-impl fmt::Display for PlaceText {
-    ghost use Rattle.std.specs.Prelude.{Some};
-    ghost use Rattle.panel_http_responses.specs.Responses.{place_text};
-
-    ghost output = { λ place. Some (place_text place.0) };
-
-    fn fmt<W: fmt::Write>(&self, f: &mut fmt::Formatter<W>) -> fmt::Result {
-        match self.0 {
-            Some(value) => write!(f, "{value}"),
-            None => f.write_str("null"),
-        }
-    }
-}
 
 /// The response with a point: its places, its present value, and the priority of the place that gives it.
 pub fn point_response(
@@ -69,23 +51,42 @@ fn point_body(
 ) -> Result<String, AllocError>
     ensures { IfOk result (λ body. string_bytes body ≡ point_body name.now places.now present priority) }
 {
-    let places = places_text(alloc, places)?;
     let mut body = String::with_capacity(alloc, BODY_ROOM)?;
+    body.push_str("{\"answer\":\"point\",\"places\":[")?;
+    push_places(&mut body, places)?;
     write!(
         body,
-        "{{\"answer\":\"point\",\"places\":[{places}],\"point\":\"{name}\",\"present\":{present},\"priority\":{priority}}}"
+        "],\"point\":\"{name}\",\"present\":{present},\"priority\":{priority}}}"
     )?;
     Ok(body)
 }
 
-/// The values of the sixteen places, divided by commas.
-fn places_text(alloc: Global, places: &PriorityArray) -> Result<String, AllocError>
-    ensures { IfOk result (λ text. string_bytes text ≡ places_text places.now) }
+/// Writes the values of the sixteen places, divided by commas.
+fn push_places(text: &mut String, places: &PriorityArray) -> Result<(), AllocError>
+    ensures { OnOk result (string_bytes text.new ≡ string_bytes text.old ++ places_text places.now) }
 {
-    let mut text = String::with_capacity(alloc, PLACES_ROOM)?;
-    write!(text, "{}", PlaceText(places.value_at(1)))?;
+    push_place(text, places.value_at(1))?;
+    push_others(text, places)
+}
+
+/// Writes the values of the places after the first, each behind a comma.
+fn push_others(text: &mut String, places: &PriorityArray) -> Result<(), AllocError>
+    ensures { OnOk result (string_bytes text.new ≡ string_bytes text.old
+        ++ flat_map (λ priority. codes "," ++ place_text (get places.now priority)) (range_with_len 2 15)) }
+{
     for priority in 2..LOWEST_PRIORITY + 1 {
-        write!(text, ",{}", PlaceText(places.value_at(priority)))?;
+        text.push_str(",")?;
+        push_place(text, places.value_at(priority))?;
     }
-    Ok(text)
+    Ok(())
+}
+
+/// Writes the value of a place, or null.
+fn push_place(text: &mut String, value: Option<i64>) -> Result<(), AllocError>
+    ensures { OnOk result (string_bytes text.new ≡ string_bytes text.old ++ place_text value) }
+{
+    match value {
+        Some(value) => text.push_str(Buffer::new().format(value)),
+        None => text.push_str("null"),
+    }
 }
