@@ -1,5 +1,5 @@
 -- What a whole request gets is what it gets with whatever follows it.
-use Rattle.std.proofs.Common.{◌≡◌, ◌∙◌, ◌<◌, ◌⊎◌, inl, inr, ℕ, List, [], ◌++◌, length, arith, ap, sym, subst, append-nil, length-append, Option}
+use Rattle.std.proofs.Common.{◌≡◌, ◌∙◌, ◌<◌, ◌⊎◌, inl, inr, ℕ, List, [], ◌∷◌, ◌++◌, length, refl, arith, ap, sym, subst, append-nil, length-append, Option}
 use Rattle.building.specs.Building.{Building}
 use Rattle.deliveries.specs.declared.delivery.Delivery.{Delivery}
 use Rattle.panel_http.specs.Serving.{Serves, Tells}
@@ -9,6 +9,15 @@ use Rattle.panel_http.specs.declared.served.Served.TheVariants.{Answered, NoRepl
 use Rattle.panel_http_requests.specs.Whole.{IsWhole}
 use Rattle.panel_http_responses.specs.Response.{Status}
 use Rattle.store.specs.Standing.{Standing}
+
+pub no-bytes : (bytes : Text) → length bytes ≡ 0 → bytes ≡ []
+no-bytes [] none = refl
+no-bytes (byte ∷ bytes) none = absurd (omega arith)
+
+-- where no byte has come, and these are whole or all, none comes
+pub nothing-comes : (b : Building) (bytes more : Text) → bytes ≡ [] → IsWhole b bytes ⊎ (more ≡ []) → bytes ++ more ≡ []
+nothing-comes b bytes more none (inl whole) = let some = whole.some in let size = ap length none in absurd (omega arith)
+nothing-comes b bytes more none (inr nothing) = ap (λ l. l ++ more) none ∙ nothing
 
 more-long : (bytes more : Text) → 0 < length bytes → 0 < length (bytes ++ more)
 more-long bytes more some = let longer = length-append bytes more in omega arith

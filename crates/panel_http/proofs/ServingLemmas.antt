@@ -2,6 +2,7 @@
 use Rattle.std.proofs.Common.{◌≡◌, ◌∙◌, ◌<◌, inl, inr, sym, ap, ℕ, List, length, Option, Some, None, Result, Ok, Err}
 use Rattle.building.specs.Building.{Building}
 use Rattle.deliveries.specs.declared.delivery.Delivery.{Delivery}
+use Rattle.deliveries.specs.Delivered.{Holds}
 use Rattle.panel_http.specs.Answers.{Answers}
 use Rattle.panel_http.specs.declared.unanswered.Unanswered.{Unanswered}
 use Rattle.panel_http.specs.declared.unanswered.Unanswered.TheVariants as unanswered
@@ -74,3 +75,24 @@ serves-answer b earlier bytes request answer rb ra held holds before after old n
 serves-answer b earlier bytes request answer rb ra held holds before after old now NoRequest some is answers writes = absurd writes
 serves-answer b earlier bytes request answer rb ra held holds before after old now NoReply some is answers (given, keeps) =
     (some, keeps, silent b earlier bytes request answer old now is answers given)
+
+-- the answer that memory was refused, written: no request was read
+pub serves-no-memory : (b : Building) (earlier : List Delivery) (bytes : Text) (read_before read_after : ℕ) (held holds : Option Text)
+    (before after : ℕ) (old now : Standing) (served : Served) → 0 < length bytes → Holds b earlier now
+    → Writes (written (Err unanswered.NoMemory)) held holds before after served
+    → Serves b earlier bytes read_before read_after held holds before after old now served
+serves-no-memory b earlier bytes rb ra held holds before after old now (Answered status) some stands (text, given, appends) = (
+  some,
+  text,
+  appends,
+  inr (inl (record { is_given = (sym (ap (status_or status) given), sym (ap (text_or text) given)); holds = stands })),
+)
+serves-no-memory b earlier bytes rb ra held holds before after old now ReplyLost some stands (status, text, given, lost) = (
+  some,
+  status,
+  text,
+  lost,
+  inr (inl (record { is_given = (sym (ap (status_or status) given), sym (ap (text_or text) given)); holds = stands })),
+)
+serves-no-memory b earlier bytes rb ra held holds before after old now NoRequest some stands writes = absurd writes
+serves-no-memory b earlier bytes rb ra held holds before after old now NoReply some stands (given, keeps) = absurd (cc given)

@@ -6,7 +6,7 @@
 //! get, whatever fails, `specs/Serving.antt`.
 //!
 //! Where an input gives its bytes now and then, `gather` puts them behind what has come until that is a whole request,
-//! and `serve_come` serves it.
+//! and `serve_come` serves it, by the same clause, where it lies.
 #![tactic(auto)]
 
 pub use gathering::{Gathered, gather, take_some};

@@ -13,8 +13,8 @@ use crate::unanswered::Unanswered;
 use crate::writing::write_answer;
 use desk::Desk;
 use desk_record::Recorder;
-use panel_http_requests::{Counted, Routes, Unread, read_request};
-use std::alloc::Global;
+use panel_http_requests::{Counted, Routes, Unread, read_request, request_in};
+use std::alloc::{AllocError, Global};
 use std::io::{Read, Write};
 use store::Store;
 
@@ -64,6 +64,14 @@ pub fn serve_come<W: Write, S: Store + Drop, K: Recorder>(
         (S.standing desk.old.store) (S.standing desk.new.store) }
     ensures building { desk.new.building ≡ desk.old.building }
 {
-    let mut reader = Counted::new(come);
-    serve_one(alloc, routes, &mut reader, writer, desk, recorder)
+    if come.is_empty() {
+        return Served::NoRequest;
+    }
+    match request_in(alloc, routes, desk.building(), come) {
+        Ok(request) => {
+            let response = answer(alloc, desk, recorder, &request);
+            write_answer(writer, response)
+        }
+        Err(AllocError) => write_answer(writer, Err(Unanswered::NoMemory)),
+    }
 }
