@@ -230,8 +230,8 @@ def a_log_without_its_file_is_reported(program, folder):
 
 
 def a_beginning_that_was_stopped_is_taken_for_none(program, folder):
-    """A file that is empty, with a log that is, and a database of one page beside a log of no length."""
-    for size in (0, 1024):
+    """A file that is empty, with a log that is, and a database of one page, also of an older desk, beside a log of no length."""
+    for size in (0, 512, 1024):
         room = building_in(folder / str(size))
         if size:
             one_page(room, size)
@@ -245,7 +245,7 @@ def a_beginning_that_was_stopped_is_taken_for_none(program, folder):
 def a_check_begins_nothing(program, folder):
     """Beside a database of one page without its log it tells S2, and with a log of no length S4; the file stays."""
     room = building_in(folder / "begun")
-    one_page(room, 1024)
+    one_page(room, 512)
     page = (room / databases.NAME).read_bytes()
     expect(run(program, room, "check", "building.toml", databases.NAME), Ended(b"", b"desk: store fault S2\n", 3))
     expect([path.name for path in room.glob(databases.NAME + "*")], [databases.NAME])

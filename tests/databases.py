@@ -78,7 +78,7 @@ def held(folder):
             return {table: connection.execute(f"SELECT * FROM {table} ORDER BY 1, 2").fetchall() for table in TABLES}
 
 
-def make(folder, tables, page_size=1024):
+def make(folder, tables, page_size=512):
     """Makes a database of these tables, by SQLite's own library."""
     with contextlib.closing(sqlite3.connect(folder / NAME)) as connection, connection:
         connection.execute(f"PRAGMA page_size = {page_size}")

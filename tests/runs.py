@@ -87,7 +87,7 @@ class Trial:
     again, which gets its reply and leaves the tables with it.
     """
 
-    def __init__(self, program, folder, building, earlier, delivery, by_request=False, version=2, page_size=1024):
+    def __init__(self, program, folder, building, earlier, delivery, by_request=False, version=2, page_size=512):
         self.program, self.folder, self.building = program, folder, building
         self.earlier, self.delivery, self.by_request = earlier, delivery, by_request
         (folder / "building.toml").write_text(compare.toml_of(building))

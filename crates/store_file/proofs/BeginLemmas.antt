@@ -41,24 +41,24 @@ use Rattle.sqlite.proofs.ListingLemmas.{empty_is_sound}
 use Rattle.sqlite.proofs.OpenLemmas.{pool_files}
 use Rattle.store_file.specs.Begun.{IsBlank, LeavesBeginning, LeavesMade}
 
-empty_database : (image : Image) (pages : PageMap) → IsPageSize (stored_size 1024) → Recovers 1024 image pages → IsOurs 1024 true [] pages
+empty_database : (image : Image) (pages : PageMap) → IsPageSize (stored_size 512) → Recovers 512 image pages → IsOurs 512 true [] pages
     → (db : Trees) × HoldsDatabase image db × IsEmpty db
 unfolding trees_in
 empty_database image pages valid found ours =
-    let db = file_trees 1024 [] pages in
-    let used = in_use 1024 pages in
-    let unlisted = catalog_rows 1024 [] used in
+    let db = file_trees 512 [] pages in
+    let used = in_use 512 pages in
+    let unlisted = catalog_rows 512 [] used in
     let rows : (tree : ℕ) → tree < 2 ^ 32 → db tree ≡ [] =
-    λ tree low. past_version tree low (all_trees 1024 [] used) (version_in pages) ∙ named_tree tree low 1024 [] used in (
+    λ tree low. past_version tree low (all_trees 512 [] used) (version_in pages) ∙ named_tree tree low 512 [] used in (
       db,
       (
-        1024,
+        512,
         valid,
         record {
           pages = pages;
           wanted = [];
           schema = _;
-          found = adopts_of 1024 image pages found;
+          found = adopts_of 512 image pages found;
           ours = ours;
           reads = refl;
           sound = empty_is_sound db unlisted;
@@ -68,16 +68,16 @@ empty_database image pages valid found ours =
     )
 
 -- what a stop leaves of a beginning is for the next one to take
-pub on_the_way : (image : Image) → IsPageSize (stored_size 1024)
-    → IsBlank image ⊎ ((pages : PageMap) × Recovers 1024 image pages × (IsNew 1024 pages ⊎ ∥ IsFresh 1024 [] pages ∥₁))
+pub on_the_way : (image : Image) → IsPageSize (stored_size 512)
+    → IsBlank image ⊎ ((pages : PageMap) × Recovers 512 image pages × (IsNew 512 pages ⊎ ∥ IsFresh 512 [] pages ∥₁))
     → IsBlank image ⊎ ∥ ((db : Trees) × HoldsDatabase image db × IsEmpty db) ∥₁
 on_the_way image valid (inl blank) = inl blank
 on_the_way image valid (inr made) =
     inr (elim made.2 [
       | inl new ↦
-          let whole : AreWhole 1024 made.0 = subst (AreWhole 1024) made.1.shows (trimmed_whole 1024 made.1.stored made.1.whole) in
-          let empty = new_is_empty 1024 made.0 whole new in
-          let ours : IsOurs 1024 true [] made.0 =
+          let whole : AreWhole 512 made.0 = subst (AreWhole 512) made.1.shows (trimmed_whole 512 made.1.stored made.1.whole) in
+          let empty = new_is_empty 512 made.0 whole new in
+          let ours : IsOurs 512 true [] made.0 =
           record { file = empty.0; numbered = λ _. record { listed = empty.1; spaced = refl; ordered = refl } } in
           ∣ empty_database image made.0 valid made.1 ours ∣₁
       | inr fresh ↦ ∥∥₁_map fresh (λ it. empty_database image made.0 valid made.1 it.0)
@@ -145,11 +145,11 @@ module _ {D : Type 0} {g : disk.Ghosts D} (old new : Files D) (log : OnlyReads g
 
   -- and what a beginning of them leaves
   module _ (fresh : Unopened D g) (files : files_of fresh ≡ (new.log, new.db))
-      (size : (state_of fresh).page_size ≡ 1024) (none : wanted_by fresh ≡ []) where
+      (size : (state_of fresh).page_size ≡ 512) (none : wanted_by fresh ≡ []) where
     pub still_blank : IsBlank (image_of g old) → IsBlankFile (state_of fresh).page_size (unopened.image fresh)
     still_blank blank = subst₂ IsBlankFile (sym size) (sym (ap (λ f. seen_image g f.0 f.1) files ∙ seen)) blank
 
-    pub begins_then : IsPageSize (stored_size 1024) → IsBlank (image_of g old) → (rest : Leftover D g) → LeavesMade fresh rest
+    pub begins_then : IsPageSize (stored_size 512) → IsBlank (image_of g old) → (rest : Leftover D g) → LeavesMade fresh rest
         → LeavesBeginning old rest
     begins_then valid blank (left.Files now) h = h
     begins_then valid blank (left.Unopened now) h = λ image may. elim (h.blank (still_blank blank) image may) [

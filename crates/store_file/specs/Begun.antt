@@ -17,9 +17,9 @@ use Rattle.sqlite.specs.declared.file.Leftover.{Leftover}
 use Rattle.sqlite.specs.declared.file.Leftover.TheVariants as left
 use Rattle.sqlite.specs.Files.{image_of, file_state, HoldsDatabase, IsEmpty, Finds, FailsToOpenAs, LeavesFiles}
 
--- The database file is empty, whatever its log holds, or is what a stop left of a first page of 1,024 bytes.
+-- The database file is empty, whatever its log holds, or is what a stop left of a first page of 512 bytes.
 abbrev pub IsBlank : Image → Type 0
-IsBlank = IsBlankFile 1024
+IsBlank = IsBlankFile 512
 
 -- what a stop could leave before, still no database, or an empty one
 abbrev pub IsOnTheWay : {D : Type 0} → disk.Ghosts D → Files D → Image → Type 0

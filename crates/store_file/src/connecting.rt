@@ -17,8 +17,8 @@ use sqlite_pool::probe_blank;
 use sqlite_store::{OpenError, Unopened};
 use std::alloc::{AllocFailed, Global};
 
-/// The bytes of a page of a new database, a quarter of SQLite's own: a command writes five pages whole.
-pub(crate) const PAGE_BYTES: usize = 1024;
+/// The bytes of a page of a new database, the fewest that SQLite knows: a command writes five pages whole.
+pub(crate) const PAGE_BYTES: usize = 512;
 
 /// How a database is kept of which so many pages are kept in memory, of those read and of those written, before they
 /// are let go or go to the log; half as many has the log before it is copied into the database file. The seed is a

@@ -42,13 +42,13 @@ fn files_fault(error: &OpenError) -> OpenFault {
 }
 
 /// How many pages of a new database are kept in memory: 8 MB.
-const PAGES: usize = 8_000;
+const PAGES: usize = 16_000;
 
 /// How many pages of a size, as the header says it, are 8 MB: room for them is made when a database is opened. A file
 /// that says none is a new one.
 fn pages_of(size: u16) -> usize {
     match size {
-        512 => 16_000,
+        1_024 => 8_000,
         2_048 => 4_000,
         4_096 => 2_000,
         8_192 => 1_000,

@@ -18,7 +18,7 @@ returns-in-Ok-clause-found g c =
     let files = c.args.files in
     let fresh = c.in-Ok.fresh in
     let read = c.probe_blank.ensures in
-    let size : bytes_of c.unwrap-size.result ≡ 1024 = search rules in
+    let size : bytes_of c.unwrap-size.result ≡ 512 = search rules in
     let is_blank = λ (n : ℕ). IsBlankFile (used_size n false) (image_of g.D.Disk files) in
     IfOk-weaker c.begun.result _ _ (λ it begun clean.
     let made = begun clean in
@@ -60,7 +60,7 @@ returns-in-Ok-clause-cause g c =
     let files = c.args.files in
     let fresh = c.in-Ok.fresh in
     let read = c.probe_blank.ensures in
-    let size : bytes_of c.unwrap-size.result ≡ 1024 = search rules in
+    let size : bytes_of c.unwrap-size.result ≡ 512 = search rules in
     let counts : faults_of g.D.Disk files ≤ (state_of fresh).faults =
     omega (arith, (pool_files fresh.pool).0, ap (λ f. g.D.Disk.faults f.0 + g.D.Disk.faults f.1) c.in-Ok.ensures.files, read.counts) in
     let is_blank = λ (n : ℕ). IsBlankFile (used_size n false) (image_of g.D.Disk files) in
@@ -76,9 +76,9 @@ returns-in-Ok-clause-unharmed g c =
     let fresh = c.in-Ok.fresh in
     let read = c.probe_blank.ensures in
     let given = c.unwrap-size.result in
-    let size : bytes_of given ≡ 1024 = search rules in
+    let size : bytes_of given ≡ 512 = search rules in
     let is_size = λ (n : ℕ). IsPageSize (stored_size (used_size n false)) in
-    let valid : IsPageSize (stored_size 1024) =
+    let valid : IsPageSize (stored_size 512) =
     subst is_size size (rw (stored_used given false) (given.smallest, given.largest, given.power, given.aligned)) in
     let is_blank = λ (n : ℕ). IsBlankFile (used_size n false) (image_of g.D.Disk files) in
     IfErr-weaker c.begun.result _ _ (λ e leaves clean.
