@@ -10,11 +10,13 @@ use crate::writing::write;
 use sqlite::{Alter, Connection, Error};
 use std::alloc::Global;
 use store::Change;
+use store_sql_rows::RowNumbers;
 
 /// Commits a whole change, or nothing of it.
 pub(crate) fn commit_change<S: Alter>(
     alloc: Global,
     connection: &mut Connection<S>,
+    numbers: &mut RowNumbers,
     change: &Change,
 ) -> Result<(), Error>
     requires can_stand { CanStand change.now }
@@ -31,7 +33,7 @@ pub(crate) fn commit_change<S: Alter>(
         → Makes (with_change change.now) (kept_in (state S.Store connection.old).now.trees) (kept_in trees)) }
 {
     let mut transaction = connection.transaction();
-    write(alloc, &mut transaction, change)?;
+    write(alloc, &mut transaction, numbers, change)?;
     let committed = transaction.commit();
     // Outside a transaction the connection shows what is committed.
     let _settled = connection.is_autocommit();

@@ -12,6 +12,7 @@ use crate::writing::write;
 use sqlite::{Alter, Connection, Error, Transaction};
 use std::alloc::Global;
 use store::Change;
+use store_sql_rows::RowNumbers;
 
 // Sets the version to 2.
 fn set_version<S: Alter>(transaction: &mut Transaction<'_, S>) -> Result<usize, Error>
@@ -29,7 +30,8 @@ fn raise<S: Alter>(
     requires { CanStand change.now }
     ensures moves { Moves S.Store (Raises change.now) transaction.old.conn transaction.new.conn result }
 {
-    write(alloc, transaction, change)?;
+    let mut numbers = RowNumbers::new(alloc);
+    write(alloc, transaction, &mut numbers, change)?;
     set_version(transaction)?;
     Ok(())
 }

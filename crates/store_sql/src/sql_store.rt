@@ -23,6 +23,7 @@ use store::{Change, Names, OpenFault, Store, StoreFault};
 use store_sql_reads::{
     array_of, command_of, commands_run, entries_of, last_tick, names_of, next_of, shown_by,
 };
+use store_sql_rows::RowNumbers;
 
 /// A store that keeps its tables in a database of SQLite. It fails for lack of memory, and where the device or the
 /// database fails, which shuts it: it is opened again.
@@ -30,6 +31,8 @@ use store_sql_reads::{
 pub struct SqlStore<S: Alter + Drop> {
     alloc: Global,
     session: Session<S>,
+    /// The numbers of the rows that were put before, so that they are found faster.
+    numbers: RowNumbers,
 }
 
 impl<S: Alter + Drop> Model for SqlStore<S> {
@@ -59,6 +62,7 @@ impl<S: Alter + Drop> SqlStore<S> {
                 failures: 0,
                 is_shut: false,
             },
+            numbers: RowNumbers::new(alloc),
         }
     }
 
@@ -231,7 +235,8 @@ impl<S: Alter + Drop> Store for SqlStore<S> {
         if self.session.is_shut {
             return Err(StoreFault::Shut);
         }
-        match commit_change(self.alloc, &mut self.session.connection, change) {
+        let connection = &mut self.session.connection;
+        match commit_change(self.alloc, connection, &mut self.numbers, change) {
             Ok(()) => Ok(()),
             Err(error) => Err(self.session.refuse(error)),
         }

@@ -6,20 +6,20 @@ ghost use Rattle.store_sql_rows.specs.Steps.{Moves, Turns, imported_put, next_pu
 use sqlite::{Alter, Error, Transaction};
 use std::alloc::Global;
 use store::{Change, ImportedEntry, KeptRow, NextNumber, PlaceValue, RowsBelow, ShownValue};
-use store_sql_rows::putting::{
-    drop_rows, put_imported, put_last, put_next, put_place, put_row, put_shown,
-};
+use store_sql_rows::putting::{drop_rows, put_imported, put_last, put_row};
+use store_sql_rows::{RowNumbers, put_next, put_place, put_shown};
 
 // Puts next numbers, one after the other.
 fn put_nexts<S: Alter>(
     transaction: &mut Transaction<'_, S>,
+    numbers: &mut RowNumbers,
     items: &[NextNumber],
 ) -> Result<(), Error>
     requires { All IsNext items.now }
     ensures moves { Moves S.Store (Turns (with_each next_put items.now)) transaction.old.conn transaction.new.conn result }
 {
     for item in items {
-        put_next(transaction, item)?;
+        put_next(transaction, numbers, item)?;
     }
     Ok(())
 }
@@ -51,13 +51,14 @@ fn drop_all<S: Alter>(
 // Puts values into places, one after the other.
 fn put_places<S: Alter>(
     transaction: &mut Transaction<'_, S>,
+    numbers: &mut RowNumbers,
     items: &[PlaceValue],
 ) -> Result<(), Error>
     requires { All IsPlace items.now }
     ensures moves { Moves S.Store (Turns (with_each place_put items.now)) transaction.old.conn transaction.new.conn result }
 {
     for item in items {
-        put_place(transaction, item)?;
+        put_place(transaction, numbers, item)?;
     }
     Ok(())
 }
@@ -65,12 +66,13 @@ fn put_places<S: Alter>(
 // Puts what schedules show, one after the other.
 fn put_all_shown<S: Alter>(
     transaction: &mut Transaction<'_, S>,
+    numbers: &mut RowNumbers,
     items: &[ShownValue],
 ) -> Result<(), Error>
     ensures moves { Moves S.Store (Turns (with_each shown_put items.now)) transaction.old.conn transaction.new.conn result }
 {
     for item in items {
-        put_shown(transaction, item)?;
+        put_shown(transaction, numbers, item)?;
     }
     Ok(())
 }
@@ -92,12 +94,13 @@ fn put_all_imported<S: Alter>(
 // Writes the next numbers and the rows of a change.
 fn write_commands<S: Alter>(
     transaction: &mut Transaction<'_, S>,
+    numbers: &mut RowNumbers,
     change: &Change,
 ) -> Result<(), Error>
     requires { CanStand change.now }
     ensures moves { Moves S.Store (Turns (with_commands change.now)) transaction.old.conn transaction.new.conn result }
 {
-    put_nexts(transaction, &change.nexts)?;
+    put_nexts(transaction, numbers, &change.nexts)?;
     put_rows(transaction, &change.rows)?;
     drop_all(transaction, &change.dropped)
 }
@@ -106,13 +109,14 @@ fn write_commands<S: Alter>(
 fn write_values<S: Alter>(
     alloc: Global,
     transaction: &mut Transaction<'_, S>,
+    numbers: &mut RowNumbers,
     change: &Change,
 ) -> Result<(), Error>
     requires { CanStand change.now }
     ensures moves { Moves S.Store (Turns (with_values change.now)) transaction.old.conn transaction.new.conn result }
 {
-    put_places(transaction, &change.places)?;
-    put_all_shown(transaction, &change.shown)?;
+    put_places(transaction, numbers, &change.places)?;
+    put_all_shown(transaction, numbers, &change.shown)?;
     put_all_imported(alloc, transaction, &change.imported)?;
     put_last(transaction, change.last_tick)
 }
@@ -121,11 +125,12 @@ fn write_values<S: Alter>(
 pub(crate) fn write<S: Alter>(
     alloc: Global,
     transaction: &mut Transaction<'_, S>,
+    numbers: &mut RowNumbers,
     change: &Change,
 ) -> Result<(), Error>
     requires { CanStand change.now }
     ensures moves { Moves S.Store (Turns (with_change change.now)) transaction.old.conn transaction.new.conn result }
 {
-    write_commands(transaction, change)?;
-    write_values(alloc, transaction, change)
+    write_commands(transaction, numbers, change)?;
+    write_values(alloc, transaction, numbers, change)
 }

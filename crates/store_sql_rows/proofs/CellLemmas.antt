@@ -1,5 +1,5 @@
 -- What a cell says to a comparison.
-use Rattle.std.proofs.Common.{◌≡◌, ℕ, ℤ, pos, negsuc, Bool, true, false, cond, not, ◌==◌, nat_lt, ◌&&◌, Option, None, Some, List, bytes_eq, refl, sym, ap, ◌∙◌, true≢false}
+use Rattle.std.proofs.Common.{◌≡◌, ℕ, ℤ, pos, negsuc, Bool, true, false, cond, not, ◌==◌, nat_lt, ◌&&◌, Option, None, Some, List, bytes_eq, refl, sym, ap, subst, ◌∙◌, IsTrue, true≢false}
 use Rattle.std.specs.Ordering.{int_cmp, is_eq, is_ge, is_gt, is_lt}
 use Rattle.std.specs.declared.cmp.Ordering.TheVariants.{Less, Equal, Greater}
 use Rattle.std.proofs.lemmas.Bool.Decides.{Decides-eqb, Decides-int_eq}
@@ -8,6 +8,11 @@ use Rattle.std.proofs.lemmas.Map.Text.{is_eq-slice_cmp}
 use Rattle.sqlite_value.specs.declared.keys.Collation.TheVariants.{Binary}
 use Rattle.sqlite_value.specs.declared.value.Value.{Value}
 use Rattle.sqlite_value.specs.declared.value.Value.TheVariants.{Null, Int, Real, Text, Blob}
+use Rattle.sqlite_value.specs.Order.{Row, value_cmp}
+use Rattle.sqlite_trees.specs.Tree.{has_rowid, rowid}
+use Rattle.sqlite_trees.specs.View.{is_int}
+use Rattle.sqlite_rules.specs.Edit.{id_in}
+use Rattle.sqlite_rules.proofs.TableLemmas.{int_is}
 use Rattle.sqlite_value.proofs.OrderLemmas.{value_cmp-Int, value_cmp-Text}
 use Rattle.sqlite_sql.specs.declared.ops.BinaryOp.TheVariants.{Compare}
 use Rattle.sqlite_sql.specs.declared.ops.CompareOp.TheVariants.{Eq, Ge, Lt}
@@ -66,6 +71,17 @@ equal_count n (Int (negsuc m)) kind filled = truth_of _ ∙ ap is_eq (value_cmp-
 equal_count n (Real x) kind filled = absurd (true≢false (sym kind))
 equal_count n (Text s) kind filled = absurd (true≢false (sym kind))
 equal_count n (Blob b) kind filled = absurd (true≢false (sym kind))
+
+equal_numbers : (n m : ℤ) → is_true (binary (Compare Eq Binary) (Int m) (Int n)) ≡ is_eq (value_cmp (Int m) (Int n))
+unfolding binary
+equal_numbers n m = truth_of _
+
+-- the number of a row is compared with another
+pub equal_rowid : (n : ℤ) (row : Row) → IsTrue (is_int (rowid row))
+    → is_true (binary (Compare Eq Binary) (rowid row) (Int n)) ≡ has_rowid n row
+equal_rowid n row numbered =
+    subst (λ v. is_true (binary (Compare Eq Binary) v (Int n)) ≡ is_eq (value_cmp v (Int n)))
+    (sym (int_is (rowid row) numbered)) (equal_numbers n (id_in (rowid row)))
 
 pub below_count : (n : ℕ) (cell : Value) → is_of kind.Integer cell ≡ true → is_null cell ≡ false
     → is_true (binary (Compare Lt Binary) cell (Int (pos n))) ≡ is_below n cell

@@ -8,6 +8,10 @@ use Rattle.sqlite_catalog.specs.Listing.{automatic}
 use Rattle.sqlite_trees.specs.Tree.{rowid}
 use Rattle.store_sql_rows.proofs.KeyLemmas.{count_is, one_number, text_is}
 use Rattle.store_sql_rows.proofs.AddLemmas.{adds_alone}
+use Rattle.store_sql_rows.proofs.ExchangeLemmas.{Exchanged, exchanges}
+use Rattle.sqlite_rules.specs.Edit.{id_in}
+use Rattle.sqlite_rules.proofs.TableLemmas.{int_is}
+use Rattle.sqlite_value.specs.declared.value.Value.{Value}
 use Rattle.sqlite_value.specs.declared.value.Value.TheVariants.{Int, Null, Text}
 use Rattle.sqlite_value.specs.Order.{Row, column}
 use Rattle.sqlite_schema.specs.declared.schema.Constraint.TheVariants.{Datatype, NotNull}
@@ -21,14 +25,14 @@ use Rattle.sqlite.specs.Effect.{Database}
 use Rattle.sqlite.specs.State.{ExecutesInside, Shown, State}
 use Rattle.store_sql_create.specs.Schema.{column_of, command_table, command_tree}
 use Rattle.store_sql_rows.specs.Meanings.{compared_with, given, passes}
-use Rattle.store_sql_rows.specs.Ours.{Adds, Changes, IsInside, IsOurs, Loses}
+use Rattle.store_sql_rows.specs.Ours.{Adds, Changes, Exchanges, IsInside, IsOurs, Loses}
 use Rattle.store_sql_rows.specs.Slot.{On, command_slot}
 use Rattle.store_sql_rows.proofs.CellLemmas.{and_true, below_count, cast_cell, cast_int, cast_null, equal_count, equal_text, from_count}
 use Rattle.store_sql_rows.proofs.RestLemmas.{finds, finds_least, finds_same, least_same}
 use Rattle.store_sql_rows.specs.Looking.{Finds, FindsLeast, is_from}
 use Rattle.store_sql_rows.proofs.SlotLemmas.{gains, is_command, loses}
 use Rattle.store_sql_rows.proofs.TypeLemmas.{IsFilled, first_filled, ruled, second_filled}
-use Rattle.store_sql_rows.proofs.CommandTexts.{add_runs, add_text, below_runs, below_text, clear_runs, clear_text, drop_runs, drop_text, find_runs, find_text, next_number_runs, next_number_text}
+use Rattle.store_sql_rows.proofs.CommandTexts.{add_runs, add_text, below_runs, below_text, cells_set, clear_runs, clear_text, drop_runs, drop_text, exchange_runs, exchange_text, find_runs, find_text, next_number_runs, next_number_text}
 use Rattle.store_sql_rows.specs.Cells.{cell_of, is_below, is_count, is_text}
 use Rattle.store_sql_rows.specs.Looking.{FindsRun, IsReadRun, last_shown, number_shown}
 use Rattle.store_sql_rows.specs.Meanings.{ordered}
@@ -125,6 +129,63 @@ drops panel number old new result inside h =
     (λ a b same. ap (λ l. is_text panel (column l 0) && is_below number (column l 1)) same) old new
     (Text panel ∷ Int (pos number) ∷ []) result
     (λ row h. passes_lower old.now inside.ours panel number row h) inside h
+
+-- an UPDATE that makes the row under a number of the row below another
+
+passes_below : (db : Database) → IsOurs db → (panel : List ℕ) (below : ℕ) (a b c d e f g : Value) → (row : Row)
+    → Has (db.trees command_tree) row
+    → passes (given 1 0 ∷ compared_with Lt 2 8 ∷ []) (Text panel ∷ a ∷ b ∷ c ∷ d ∷ e ∷ f ∷ g ∷ Int (pos below) ∷ []) row
+    ≡ of_lower_command panel below row
+passes_below db ours panel below a b c d e f g row h =
+    let cells = command_cells db ours row h in
+    rw (
+      equal_text panel (column row 1) cells.0.of cells.0.filled,
+      below_count below (column row 2) cells.1.of cells.1.filled,
+      and_true,
+    ) refl
+
+module _ (panel : List ℕ) (below number : ℕ) (point : List ℕ) (priority : ℤ) (value : Option ℤ) (state : ℤ) (a b : Option ℤ) where
+  abbrev row_cells : Row
+  row_cells =
+      Text panel ∷ Int (pos number) ∷ Text point ∷ Int priority ∷ cell_of value ∷ Int state ∷ cell_of a ∷ cell_of b ∷ []
+
+  abbrev exchange_params : Row
+  exchange_params =
+      Text panel ∷ Int (pos number) ∷ Text point ∷ Int priority ∷ cell_of value ∷ Int state ∷ cell_of a ∷ cell_of b
+      ∷ Int (pos below) ∷ []
+
+  row_exchanged : (old : State) → IsInside old
+      → Exchanged command_slot (of_lower_command panel below) (of_command panel number) cells_set exchange_params row_cells
+      (old.now.trees command_tree)
+  row_exchanged old inside = record {
+    by_key = λ x y same. ap (λ l. is_text panel (column l 0) && is_below below (column l 1)) same;
+    made = λ row h is.
+        let parts = and_parts _ _ is in
+        let id = int_is (rowid row) (inside.ours.rows.command.numbered row h) in
+        rw (
+          text_is panel (column row 1) parts.0,
+          cast_int (pos number),
+          cast_int priority,
+          cast_cell value,
+          cast_int state,
+          cast_cell a,
+          cast_cell b,
+          id,
+          cast_int (id_in (rowid row)),
+        ) refl;
+    own = λ id. rw ((bytes_eq-Decides panel panel).1 refl, (Decides-eqb number number).1 refl) refl;
+    one = λ db ours x y hx hy is_x is_y. one_command db ours panel number x y hx hy is_x is_y;
+  }
+
+  pub exchanges_row : (old new : State) (result : Result ℕ Error) → IsInside old
+      → ExecutesInside 0 exchange_text exchange_params old new result
+      → IfOk result (λ count. Changes (On command_slot
+      (Exchanges (of_lower_command panel below) (of_command panel number) row_cells count)) old new)
+  exchanges_row old new result inside h =
+      exchanges command_slot is_command exchange_text exchange_runs.plain (given 1 0 ∷ compared_with Lt 2 8 ∷ []) cells_set exchange_runs.is
+      (of_lower_command panel below) (of_command panel number) old new exchange_params row_cells result
+      (λ row there. passes_below old.now inside.ours panel below (Int (pos number)) (Text point) (Int priority) (cell_of value)
+      (Int state) (cell_of a) (cell_of b) row there) (row_exchanged old inside) inside h
 
 -- the queries
 

@@ -1,14 +1,14 @@
 -- What the statements on the commands mean.
 use Rattle.std.proofs.Common.{ℕ, List, [], ◌∷◌, codes, refl}
 use Rattle.sqlite_value.specs.declared.value.Value.TheVariants.{Null}
-use Rattle.sqlite_schema.specs.declared.command.Command.TheVariants.{Insert}
+use Rattle.sqlite_schema.specs.declared.command.Command.TheVariants.{Insert, Update}
 use Rattle.sqlite_schema.specs.declared.command.Source.TheVariants.{Values}
 use Rattle.sqlite_sql.specs.declared.ops.CompareOp.TheVariants.{Ge, Lt}
-use Rattle.sqlite_sql.specs.Term.{lit, col}
+use Rattle.sqlite_sql.specs.Term.{Term, lit, col}
 use Rattle.sqlite.specs.Listing.{understood}
 use Rattle.sqlite_tied.specs.Compute.{everything}
 use Rattle.store_sql_create.specs.Schema.{command_tree}
-use Rattle.store_sql_rows.specs.Meanings.{compared_with, deletion, given, least, ordered, selection}
+use Rattle.store_sql_rows.specs.Meanings.{compared_with, deletion, given, least, ordered, plain_query, selection}
 use Rattle.store_sql_rows.proofs.Texts.{Runs}
 
 abbrev pub clear_text : List ℕ
@@ -34,6 +34,19 @@ pub drop_runs : Runs drop_text
     (deletion 2 command_tree (given 1 0 ∷ compared_with Lt 2 1 ∷ []))
 unfolding understood everything
 drop_runs = record { is = refl; plain = (refl, refl); unlisted = refl }
+
+abbrev pub exchange_text : List ℕ
+exchange_text = codes
+    "UPDATE command SET number = ?2, point = ?3, priority = ?4, value = ?5, state = ?6, a = ?7, b = ?8 WHERE panel = ?1 AND number < ?9"
+
+-- the number of the row, and its cells after it
+abbrev pub cells_set : List Term
+cells_set = col 1 0 ∷ col 1 1 ∷ col 0 1 ∷ col 0 2 ∷ col 0 3 ∷ col 0 4 ∷ col 0 5 ∷ col 0 6 ∷ col 0 7 ∷ []
+
+pub exchange_runs : Runs exchange_text
+    (Update 2 (record { lets = []; body = plain_query command_tree (given 1 0 ∷ compared_with Lt 2 8 ∷ []) (col 1 0 ∷ cells_set) }))
+unfolding understood everything
+exchange_runs = record { is = refl; plain = (refl, refl); unlisted = refl }
 
 -- the queries
 

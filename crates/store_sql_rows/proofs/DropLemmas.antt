@@ -1,12 +1,14 @@
 -- No row that a table of commands tells stands above the greatest number, so a greater bound drops no more.
 use Rattle.std.proofs.Common.{◌≡◌, ℕ, ◌<◌, ◌≤◌, ◌&&◌, ◌==◌, Bool, true, false, cond, List, [], ◌∷◌, Option, Some, None, filter, filter_map, option_map, option_and_then, nat_lt, refl, sym, ap, ◌∙◌, inl, inr, arith}
 use Rattle.std.specs.Str.{bytes_eq}
-use Rattle.std.proofs.lemmas.Bool.{cases_Bool, ltb-true, ltb-false, lt-ltb, ne_eqb}
+use Rattle.std.proofs.lemmas.Bool.{and_parts, cases_Bool, eqb-true, false_from_ne_true, ltb-true, ltb-false, lt-ltb, ne_eqb}
 use Rattle.sqlite_value.specs.Order.{Row, column}
 use Rattle.points.specs.declared.command_row.CommandRow.{CommandRow}
 use Rattle.store.specs.declared.change.KeptRow.{KeptRow}
 use Rattle.store.specs.declared.change.RowsBelow.{RowsBelow}
 use Rattle.store.specs.Change.{with_row, without_rows}
+use Rattle.store.specs.Tables.{Tables}
+use Rattle.store_sql_rows.specs.Steps.{row_put, rows_dropped}
 use Rattle.points.specs.Texts.{Text}
 use Rattle.store_sql_rows.specs.Cells.{count_in, name_in}
 use Rattle.store_sql_rows.specs.Rows.{command_in, command_said}
@@ -85,3 +87,23 @@ drops_above item greater kept =
 
 pub drops_itself : (item : RowsBelow) → drops_the_same item item.number
 drops_itself item kept = refl
+
+-- a row that is not below a number is put before or after those below it are dropped
+pub put_then_drop : (item : KeptRow) (below : ℕ) → below ≤ item.number → (t : Tables)
+    → row_put item (rows_dropped (record { panel = item.panel; number = below }) t)
+    ≡ rows_dropped (record { panel = item.panel; number = below }) (row_put item t)
+put_then_drop item below low t =
+    let lower : RowsBelow = record { panel = item.panel; number = below } in
+    let at = λ (q : Text) (n : ℕ).
+    let was = t.row q n in
+    let here = bytes_eq item.panel q in
+    let goal : cond (here && item.number == n) (Some item.row) (cond (here && nat_lt n below) None was)
+    ≡ cond (here && nat_lt n below) None (cond (here && item.number == n) (Some item.row) was) =
+    elim (cases_Bool (here && item.number == n)) [
+      | inl same ↦
+          let number : item.number ≡ n = eqb-true item.number n (and_parts here (item.number == n) same).1 in
+          let high : nat_lt n below ≡ false = false_from_ne_true (nat_lt n below) (λ is. let lt : n < below = ltb-true n below is in omega (arith, number)) in
+          rw (same, high, both-false here) refl
+      | inr other ↦ rw other refl
+    ] in goal in
+    λ i. record t { row = λ q n. at q n i }

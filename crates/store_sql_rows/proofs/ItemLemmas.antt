@@ -19,10 +19,10 @@ use Rattle.store_sql_rows.specs.Rows.{of_command, of_entry, of_lower_command, of
 use Rattle.store_sql_rows.specs.Stored.{HasPut, Kept, is_sound_in, tables_in}
 use Rattle.store_sql_rows.proofs.MadeLemmas.{made_cells, made_command, made_content, made_imported, made_next, made_place, made_shown}
 use Rattle.store_sql_rows.proofs.StoredLemmas.{clear_place, clear_shown, drop_commands, put_command, put_imported, put_next, put_place, put_shown, set_last}
-use Rattle.store_sql_rows.specs.Ours.{Adds, Gains, Loses, Makes, Rewrites, SetsDesk}
+use Rattle.store_sql_rows.specs.Ours.{Adds, Exchanges, Gains, Loses, Makes, Rewrites, RewritesAt, SetsDesk}
 use Rattle.store_sql_rows.specs.Slot.{On, Slot, command_slot, imported_slot, panel_slot, place_slot, shown_slot}
 use Rattle.store_sql_rows.specs.Steps.{imported_put, last_put, next_put, place_put, row_put, rows_dropped, shown_put}
-use Rattle.store_sql_rows.proofs.DropLemmas.{drops_the_same}
+use Rattle.store_sql_rows.proofs.DropLemmas.{drops_itself, drops_the_same}
 
 -- the rows of a key are gone, and one with these cells is there
 record Put (slot : Slot) (gone : Row → Bool) (cells : Row) (old new : Kept) : Type 0 where
@@ -59,6 +59,19 @@ makes_from : (f : Tables → Tables) (a b c : Kept) → c ≡ b → (tables_in b
     → Makes f a c
 makes_from f a b c is both = subst (Makes f a) (sym is) (record { tables = both.0; is_sound = both.1; stands = both.2 })
 
+-- the same where it was found by its number
+found : (slot : Slot) (gone : Row → Bool) (cells : Row) (count : ℕ) (a b : Kept) → count ≢ 0 → On slot (RewritesAt gone cells count) a b
+    → On slot (Rewrites gone cells count) a b
+found slot gone cells zero a b some set = absurd (some refl)
+found slot gone cells (suc more) a b some set = record { others = set.others; rows = set.rows }
+
+-- where none was found, all is as it was
+missed : (slot : Slot) → ((k : Kept) → slot.set (slot.get k) k ≡ k) → (gone : Row → Bool) (cells : Row) (count : ℕ) (a b : Kept) → count ≡ 0
+    → On slot (RewritesAt gone cells count) a b → Makes (λ tables. tables) a b
+missed slot law gone cells count a b none set =
+    let rows = subst (λ n. RewritesAt gone cells n (slot.get a) (slot.get b)) none set.rows in
+    makes_from (λ tables. tables) a a b (set.others ∙ ap (λ l. slot.set l a) rows ∙ law a) (refl, λ sound. sound, λ asked stood. stood)
+
 -- the items that an UPDATE put, or else an INSERT
 module _ (item : NextNumber) (named : IsName item.panel) (in' : IsNext item) where
   abbrev next_cells : Row
@@ -78,6 +91,16 @@ module _ (item : NextNumber) (named : IsName item.panel) (in' : IsNext item) whe
   next_added count none a b c set gains =
       next_from a c (put_on panel_slot (λ x y k. refl) (of_panel item.panel) next_cells a b c
       (none_lost panel_slot (of_panel item.panel) next_cells count a b none set) gains)
+
+  -- by the number of its row
+  pub next_found : (count : ℕ) → count ≢ 0 → (a b : Kept) → On panel_slot (RewritesAt (of_panel item.panel) next_cells count) a b
+      → Makes (next_put item) a b
+  next_found count some a b set = next_set count some a b (found panel_slot (of_panel item.panel) next_cells count a b some set)
+
+  pub next_renewed : (a b c : Kept) → On panel_slot (Loses (of_panel item.panel)) a b → On panel_slot (Gains next_cells) b c
+      → Makes (next_put item) a c
+  next_renewed a b c lost gains =
+      next_from a c (put_on panel_slot (λ x y k. refl) (of_panel item.panel) next_cells a b c lost gains)
 
 module _ (item : PlaceValue) (value : ℤ) (some_value : item.value ≡ Some value) (named : IsName item.point) (in' : IsPlace item) where
   abbrev place_cells : Row
@@ -101,6 +124,24 @@ module _ (item : PlaceValue) (value : ℤ) (some_value : item.value ≡ Some val
   place_added count none a b c set gains =
       place_from a c (put_on place_slot (λ x y k. refl) place_gone place_cells a b c
       (none_lost place_slot place_gone place_cells count a b none set) gains)
+
+  -- by the number of its row
+  pub place_found : (count : ℕ) → count ≢ 0 → (a b : Kept) → On place_slot (RewritesAt place_gone place_cells count) a b
+      → Makes (place_put item) a b
+  place_found count some a b set = place_set count some a b (found place_slot place_gone place_cells count a b some set)
+
+  pub place_renewed : (a b c : Kept) → On place_slot (Loses place_gone) a b → On place_slot (Gains place_cells) b c
+      → Makes (place_put item) a c
+  place_renewed a b c lost gains = place_from a c (put_on place_slot (λ x y k. refl) place_gone place_cells a b c lost gains)
+
+module _ (a b : Kept) where
+  pub rows_lost : (item : RowsBelow) (number : ℕ) → drops_the_same item number
+      → On command_slot (Loses (of_lower_command item.panel number)) a b → Makes (rows_dropped item) a b
+  rows_lost item number same lost =
+      let other : RowsBelow = record { panel = item.panel; number = number } in
+      let both = drop_commands other a b.command lost.rows in
+      makes_from (rows_dropped item) a (record a { command = b.command }) b lost.others
+      (both.0 ∙ (λ i. record (tables_in a) { row = same a i }), both.1, both.2)
 
 module _ (item : KeptRow) (code : ℤ) (first second : Option ℤ) (named : IsName item.panel) (point : IsName item.row.content.point)
     (in' : IsKeptRow item)
@@ -136,6 +177,33 @@ module _ (item : KeptRow) (code : ℤ) (first second : Option ℤ) (named : IsNa
       row_from a c (put_on command_slot (λ x y k. refl) row_gone row_cells a b c lost
       (record { others = added.others; rows = added.rows.1 }))
 
+  -- one that a row below a number became
+  module _ (below : ℕ) where
+    abbrev lower : RowsBelow
+    lower = record { panel = item.panel; number = below }
+
+    pub row_exchanged : (count : ℕ) → count ≢ 0 → (a b : Kept)
+        → On command_slot (Exchanges (of_lower_command item.panel below) row_gone row_cells count) a b
+        → Makes (λ tables. row_put item (rows_dropped lower tables)) a b
+    row_exchanged zero some a b set = absurd (some refl)
+    row_exchanged (suc more) some a b set =
+        let left : Kept = record a { command = set.rows.0 } in
+        let dropped = rows_lost a left lower below (drops_itself lower) (record { others = refl; rows = set.rows.1 }) in
+        let added = row_added left b (record { others = set.others; rows = set.rows.2 }) in
+        record {
+          tables = added.tables ∙ ap (row_put item) dropped.tables;
+          is_sound = λ sound. added.is_sound (dropped.is_sound sound);
+          stands = λ asked stood. added.stands asked (dropped.stands asked stood);
+        }
+
+    -- where there was none below it, that none is dropped is all that was done
+    pub none_exchanged : (count : ℕ) → count ≡ 0 → (a b : Kept)
+        → On command_slot (Exchanges (of_lower_command item.panel below) row_gone row_cells count) a b
+        → Makes (rows_dropped lower) a b
+    none_exchanged count none a b set =
+        let rows = subst (λ n. Exchanges (of_lower_command item.panel below) row_gone row_cells n a.command b.command) none set.rows in
+        rows_lost a b lower below (drops_itself lower) (record { others = set.others; rows = rows.1 ∙ rows.0 })
+
 module _ (item : ShownValue) (value : Option ℤ) (some_value : item.shown ≡ Some value) (named : IsName item.schedule) where
   abbrev shown_gone : Row → Bool
   shown_gone = of_schedule item.schedule
@@ -157,6 +225,15 @@ module _ (item : ShownValue) (value : Option ℤ) (some_value : item.shown ≡ S
   shown_added count none a b c set gains =
       shown_from a c (put_on shown_slot (λ x y k. refl) shown_gone shown_cells a b c
       (none_lost shown_slot shown_gone shown_cells count a b none set) gains)
+
+  -- by the number of its row
+  pub shown_found : (count : ℕ) → count ≢ 0 → (a b : Kept) → On shown_slot (RewritesAt shown_gone shown_cells count) a b
+      → Makes (shown_put item) a b
+  shown_found count some a b set = shown_set count some a b (found shown_slot shown_gone shown_cells count a b some set)
+
+  pub shown_renewed : (a b c : Kept) → On shown_slot (Loses shown_gone) a b → On shown_slot (Gains shown_cells) b c
+      → Makes (shown_put item) a c
+  shown_renewed a b c lost gains = shown_from a c (put_on shown_slot (λ x y k. refl) shown_gone shown_cells a b c lost gains)
 
 module _ (item : ImportedEntry) (text : List ℕ) (is : text ≡ spelling item.entry) (named : IsName item.calendar) (in' : IsEntry item.entry)
   where
@@ -186,6 +263,19 @@ module _ (item : ImportedEntry) (text : List ℕ) (is : text ≡ spelling item.e
         imported_from a c (put_on imported_slot (λ x y k. refl) imported_gone imported_cells a b c lost
         (record { others = added.others; rows = added.rows.1 }))
 
+-- an UPDATE by a number that no row of the key has
+pub next_missed : (gone : Row → Bool) (cells : Row) (count : ℕ) → count ≡ 0 → (a b : Kept) → On panel_slot (RewritesAt gone cells count) a b
+    → Makes (λ tables. tables) a b
+next_missed gone cells count none a b = missed panel_slot (λ k. refl) gone cells count a b none
+
+pub place_missed : (gone : Row → Bool) (cells : Row) (count : ℕ) → count ≡ 0 → (a b : Kept) → On place_slot (RewritesAt gone cells count) a b
+    → Makes (λ tables. tables) a b
+place_missed gone cells count none a b = missed place_slot (λ k. refl) gone cells count a b none
+
+pub shown_missed : (gone : Row → Bool) (cells : Row) (count : ℕ) → count ≡ 0 → (a b : Kept) → On shown_slot (RewritesAt gone cells count) a b
+    → Makes (λ tables. tables) a b
+shown_missed gone cells count none a b = missed shown_slot (λ k. refl) gone cells count a b none
+
 module _ (a b : Kept) where
   pub place_cleared : (item : PlaceValue) → item.value ≡ None → On place_slot (Loses (of_place item.point item.priority)) a b
       → Makes (place_put item) a b
@@ -196,14 +286,6 @@ module _ (a b : Kept) where
       → Makes (shown_put item) a b
   shown_cleared item quiet lost =
       makes_from (shown_put item) a (record a { shown = b.shown }) b lost.others (clear_shown item a b.shown quiet lost.rows)
-
-  pub rows_lost : (item : RowsBelow) (number : ℕ) → drops_the_same item number
-      → On command_slot (Loses (of_lower_command item.panel number)) a b → Makes (rows_dropped item) a b
-  rows_lost item number same lost =
-      let other : RowsBelow = record { panel = item.panel; number = number } in
-      let both = drop_commands other a b.command lost.rows in
-      makes_from (rows_dropped item) a (record a { command = b.command }) b lost.others
-      (both.0 ∙ (λ i. record (tables_in a) { row = same a i }), both.1, both.2)
 
   pub last_set : (moment : ℤ) → SetsDesk (λ row. Int moment) a b → Makes (last_put (Some moment)) a b
   last_set moment sets =

@@ -7,6 +7,7 @@ pub mod CommandTexts
 pub mod DeskLemmas
 pub mod DeskTexts
 pub mod DropLemmas
+pub mod ExchangeLemmas
 pub mod FoldLemmas
 pub mod ImportedLemmas
 pub mod ImportedTexts

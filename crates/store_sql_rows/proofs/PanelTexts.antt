@@ -8,7 +8,7 @@ use Rattle.sqlite_sql.specs.Term.{Term, lit, col}
 use Rattle.sqlite.specs.Listing.{understood}
 use Rattle.sqlite_tied.specs.Compute.{everything}
 use Rattle.store_sql_create.specs.Schema.{panel_tree}
-use Rattle.store_sql_rows.specs.Meanings.{compared_with, given, least, plain_query, selection}
+use Rattle.store_sql_rows.specs.Meanings.{compared_with, deletion, given, least, plain_query, selection}
 use Rattle.store_sql_rows.proofs.Texts.{Runs}
 
 abbrev pub add_text : List ℕ
@@ -30,6 +30,22 @@ pub set_runs : Runs set_text
     (Update 1 (record { lets = []; body = plain_query panel_tree (given 1 0 ∷ []) (col 1 0 ∷ cells_set) }))
 unfolding understood everything
 set_runs = record { is = refl; plain = (refl, refl); unlisted = refl }
+
+abbrev pub set_at_text : List ℕ
+set_at_text = codes "UPDATE panel SET next = ?2 WHERE rowid = ?3 AND name = ?1"
+
+pub set_at_runs : Runs set_at_text
+    (Update 1 (record { lets = []; body = plain_query panel_tree (given 0 2 ∷ given 1 0 ∷ []) (col 1 0 ∷ cells_set) }))
+unfolding understood everything
+set_at_runs = record { is = refl; plain = (refl, refl); unlisted = refl }
+
+abbrev pub clear_text : List ℕ
+clear_text = codes "DELETE FROM panel WHERE name = ?1"
+
+pub clear_runs : Runs clear_text
+    (deletion 1 panel_tree (given 1 0 ∷ []))
+unfolding understood everything
+clear_runs = record { is = refl; plain = (refl, refl); unlisted = refl }
 
 -- the queries
 

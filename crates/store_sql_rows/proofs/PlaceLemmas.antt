@@ -11,22 +11,22 @@ use Rattle.sqlite_rules.specs.Edit.{id_in}
 use Rattle.sqlite_rules.specs.Lists.{Has}
 use Rattle.sqlite_rules.proofs.ListLemmas.{all_has}
 use Rattle.sqlite_rules.proofs.TableLemmas.{int_is}
-use Rattle.sqlite_trees.specs.Tree.{rowid}
+use Rattle.sqlite_trees.specs.Tree.{has_rowid, rowid}
 use Rattle.sqlite.specs.Effect.{Database}
 use Rattle.store_sql_create.specs.Schema.{column_of, place_table, place_tree}
 use Rattle.store_sql_rows.specs.Meanings.{given, passes}
 use Rattle.store_sql_rows.specs.Ours.{IsOurs}
-use Rattle.store_sql_rows.proofs.CellLemmas.{and_true, cast_int, cast_null, equal_count, equal_text}
+use Rattle.store_sql_rows.proofs.CellLemmas.{and_true, cast_int, cast_null, equal_count, equal_rowid, equal_text}
 use Rattle.store_sql_rows.proofs.TypeLemmas.{IsFilled, first_filled, ruled, second_filled}
 use Rattle.sqlite_sql.specs.Term.{lit, col}
 use Rattle.sqlite.specs.declared.error.Error.{Error}
 use Rattle.sqlite.specs.State.{ExecutesInside, Shown, State}
-use Rattle.store_sql_rows.specs.Ours.{Changes, Gains, IsInside, Loses, Rewrites}
+use Rattle.store_sql_rows.specs.Ours.{Changes, Gains, IsInside, Loses, Rewrites, RewritesAt}
 use Rattle.store_sql_rows.specs.Slot.{On, place_slot}
 use Rattle.store_sql_rows.proofs.CellLemmas.{and_true, cast_int, cast_null, equal_count, equal_text}
-use Rattle.store_sql_rows.proofs.PlaceTexts.{add_runs, add_text, cells_set, clear_runs, clear_text, of_point_runs, of_point_text, set_runs, set_text}
+use Rattle.store_sql_rows.proofs.PlaceTexts.{add_runs, add_text, cells_set, clear_runs, clear_text, of_point_runs, of_point_text, set_at_runs, set_at_text, set_runs, set_text}
 use Rattle.store_sql_rows.proofs.KeyLemmas.{count_is, one_number, text_is}
-use Rattle.store_sql_rows.proofs.RewriteLemmas.{rewrites}
+use Rattle.store_sql_rows.proofs.RewriteLemmas.{Aims, rewrites, rewrites_at}
 use Rattle.store_sql_rows.proofs.RestLemmas.{finds, finds_same}
 use Rattle.store_sql_rows.specs.Looking.{Finds}
 use Rattle.store_sql_rows.proofs.SlotLemmas.{gains, is_place, loses}
@@ -86,31 +86,58 @@ one_place db ours point priority a b ha hb is_a is_b =
     (sym (count_is priority (column b 2) parts.1))
     (passes_place db ours point priority a ha ∙ is_a))
 
+-- an UPDATE of the value, whatever parameters it has besides
+aims : (point : List ℕ) (priority : ℕ) (value : ℤ) (more : Row) (old : State) → IsInside old
+    → Aims place_slot (of_place point priority) cells_set (Text point ∷ Int (pos priority) ∷ Int value ∷ more)
+    (Text point ∷ Int (pos priority) ∷ Int value ∷ []) (old.now.trees place_tree)
+aims point priority value more old inside = record {
+  by_key = λ a b same. ap (λ l. is_text point (column l 0) && is_count priority (column l 1)) same;
+  one = λ a b ha hb is_a is_b. one_place old.now inside.ours point priority a b ha hb is_a is_b;
+  made = λ row h is.
+      let parts = and_parts _ _ is in
+      let number = int_is (rowid row) (inside.ours.rows.place.numbered row h) in
+      rw (
+        text_is point (column row 1) parts.0,
+        count_is priority (column row 2) parts.1,
+        cast_int (pos priority),
+        cast_int value,
+        number,
+        cast_int (id_in (rowid row)),
+      ) refl;
+}
+
 pub sets : (point : List ℕ) (priority : ℕ) (value : ℤ) (old new : State) (result : Result ℕ Error) → IsInside old
     → ExecutesInside 0 set_text (Text point ∷ Int (pos priority) ∷ Int value ∷ []) old new result
     → IfOk result (λ count. Changes (On place_slot
     (Rewrites (of_place point priority) (Text point ∷ Int (pos priority) ∷ Int value ∷ []) count)) old new)
 sets point priority value old new result inside h =
     let cells = Text point ∷ Int (pos priority) ∷ Int value ∷ [] in
-    rewrites place_slot is_place set_text set_runs.plain (given 1 0 ∷ given 2 1 ∷ []) (of_place point priority) cells_set set_runs.is old new
-    cells cells result
+    rewrites place_slot is_place set_text set_runs.plain (given 1 0 ∷ given 2 1 ∷ []) cells_set set_runs.is (of_place point priority)
+    old new cells cells result (aims point priority value [] old inside) inside h
     (λ row h. passes_place old.now inside.ours point priority row h)
-    (record {
-      by_key = λ a b same. ap (λ l. is_text point (column l 0) && is_count priority (column l 1)) same;
-      one = λ a b ha hb is_a is_b. one_place old.now inside.ours point priority a b ha hb is_a is_b;
-      made = λ row h is.
-          let parts = and_parts _ _ is in
-          let number = int_is (rowid row) (inside.ours.rows.place.numbered row h) in
-          rw (
-            text_is point (column row 1) parts.0,
-            count_is priority (column row 2) parts.1,
-            cast_int (pos priority),
-            cast_int value,
-            number,
-            cast_int (id_in (rowid row)),
-          ) refl;
-    })
-    inside h
+
+-- by the number of the row too
+passes_at : (db : Database) → IsOurs db → (point : List ℕ) (priority : ℕ) (value number : ℤ) (row : Row) → Has (db.trees place_tree) row
+    → passes (given 0 3 ∷ given 1 0 ∷ given 2 1 ∷ []) (Text point ∷ Int (pos priority) ∷ Int value ∷ Int number ∷ []) row
+    ≡ (has_rowid number row && of_place point priority row)
+passes_at db ours point priority value number row h =
+    let cells = place_cells db ours row h in
+    rw (
+      equal_rowid number row (ours.rows.place.numbered row h),
+      equal_text point (column row 1) cells.0.of cells.0.filled,
+      equal_count priority (column row 2) cells.1.of cells.1.filled,
+      and_true,
+    ) refl
+
+pub sets_at : (point : List ℕ) (priority : ℕ) (value number : ℤ) (old new : State) (result : Result ℕ Error) → IsInside old
+    → ExecutesInside 0 set_at_text (Text point ∷ Int (pos priority) ∷ Int value ∷ Int number ∷ []) old new result
+    → IfOk result (λ count. Changes (On place_slot
+    (RewritesAt (of_place point priority) (Text point ∷ Int (pos priority) ∷ Int value ∷ []) count)) old new)
+sets_at point priority value number old new result inside h =
+    rewrites_at place_slot is_place set_at_text set_at_runs.plain (given 0 3 ∷ given 1 0 ∷ given 2 1 ∷ []) cells_set set_at_runs.is
+    (of_place point priority) old new (Text point ∷ Int (pos priority) ∷ Int value ∷ Int number ∷ [])
+    (Text point ∷ Int (pos priority) ∷ Int value ∷ []) result (aims point priority value (Int number ∷ []) old inside) inside h number
+    (λ row h. passes_at old.now inside.ours point priority value number row h)
 
 -- the queries
 

@@ -39,6 +39,14 @@ pub set_runs : Runs set_text
 unfolding understood everything
 set_runs = record { is = refl; plain = (refl, refl); unlisted = refl }
 
+abbrev pub set_at_text : List ℕ
+set_at_text = codes "UPDATE place SET value = ?3 WHERE rowid = ?4 AND point = ?1 AND priority = ?2"
+
+pub set_at_runs : Runs set_at_text
+    (Update 3 (record { lets = []; body = plain_query place_tree (given 0 3 ∷ given 1 0 ∷ given 2 1 ∷ []) (col 1 0 ∷ cells_set) }))
+unfolding understood everything
+set_at_runs = record { is = refl; plain = (refl, refl); unlisted = refl }
+
 -- the queries
 
 abbrev pub next_point_text : List ℕ

@@ -1,9 +1,11 @@
 -- What an UPDATE of the rows of a key makes of one of the keyed tables.
-use Rattle.std.proofs.Common.{◌≡◌, inl, inr, ℕ, Bool, true, false, not, List, drop, length, [], ◌∷◌, filter, map, Ok, Err, Result, refl, sym, ap, ap₂, subst, subst₂, ◌∙◌, IfOk, true≢false}
+use Rattle.std.proofs.Common.{◌≡◌, inl, inr, ℕ, zero, suc, ℤ, Bool, true, false, not, ◌&&◌, List, drop, length, [], ◌∷◌, filter, map, Ok, Err, Result, refl, sym, ap, ap₂, subst, subst₂, ◌∙◌, IfOk, true≢false}
 use Rattle.std.proofs.lemmas.Bool.{and_parts}
 use Rattle.std.proofs.lemmas.List.Sorted.{IsPermutation-map}
 use Rattle.std.specs.List.Sorted.{IsPermutation}
-use Rattle.sqlite_value.specs.Order.{Row, column}
+use Rattle.sqlite_value.specs.declared.value.Value.TheVariants.{Int}
+use Rattle.sqlite_value.specs.Order.{Row, column, value_cmp}
+use Rattle.std.specs.Ordering.{is_eq}
 use Rattle.sqlite_schema.specs.declared.command.Command.TheVariants.{Update}
 use Rattle.sqlite_sql.specs.Term.{Term, col}
 use Rattle.sqlite_rules.specs.declared.error.Rowids.TheVariants.{Given}
@@ -15,7 +17,7 @@ use Rattle.sqlite_rules.proofs.ListLemmas.{has_filtered}
 use Rattle.sqlite_rules.proofs.PlaceLemmas.{given as numbered_given}
 use Rattle.sqlite_rules.proofs.ProbeLemmas.{has_mapped}
 use Rattle.sqlite_rules.proofs.TableLemmas.{has_put}
-use Rattle.sqlite_trees.specs.Tree.{put_row, rowid}
+use Rattle.sqlite_trees.specs.Tree.{has_rowid, put_row, rowid}
 use Rattle.sqlite.specs.declared.error.Error.{Error}
 use Rattle.sqlite.specs.Given.{IsPlain}
 use Rattle.sqlite.specs.Listing.{understood}
@@ -23,10 +25,10 @@ use Rattle.sqlite.specs.State.{ExecutesInside, Shows, State}
 use Rattle.sqlite.proofs.Callers.{command_of}
 use Rattle.store_sql_create.specs.Schema.{desk_schema}
 use Rattle.store_sql_rows.specs.Meanings.{passes, plain_query, shows}
-use Rattle.store_sql_rows.specs.Ours.{AreOwn, Changes, IsInside, Rewrites}
+use Rattle.store_sql_rows.specs.Ours.{AreOwn, Changes, IsInside, Rewrites, RewritesAt}
 use Rattle.store_sql_rows.specs.Slot.{On, Slot}
 use Rattle.store_sql_rows.proofs.AnswerLemmas.{map_map}
-use Rattle.store_sql_rows.proofs.RowLemmas.{deleted, filter_same, has_permuted, own_filtered, own_put, put_apart, tied_taken}
+use Rattle.store_sql_rows.proofs.RowLemmas.{by_both, deleted, filter_same, has_permuted, own_filtered, own_put, put_apart, tied_taken}
 use Rattle.store_sql_rows.proofs.SlotLemmas.{IsSlot, changed, not_true, own_rows}
 use Rattle.store_sql_rows.proofs.WriteLemmas.{Ran, updates}
 use Rattle.store_sql_rows.specs.Stored.{HasPut}
@@ -37,10 +39,24 @@ pub record Aims (slot : Slot) (gone : Row → Bool) (set : List Term) (params ce
   pub one : (a b : Row) → Has rows a → Has rows b → gone a ≡ true → gone b ≡ true → rowid a ≡ rowid b
   pub made : (row : Row) → Has rows row → gone row ≡ true → cast_row slot.table (shows set params row) ≡ rowid row ∷ cells
 
+-- the same of the rows that a statement picks
+record Picks (slot : Slot) (gone : Row → Bool) (set : List Term) (params cells : Row) (rows : List Row) : Type 0 where
+  tied : (a b : Row) → Has rows a → Has rows b → rowid a ≡ rowid b → gone a ≡ gone b
+  one : (a b : Row) → Has rows a → Has rows b → gone a ≡ true → gone b ≡ true → rowid a ≡ rowid b
+  made : (row : Row) → Has rows row → gone row ≡ true → cast_row slot.table (shows set params row) ≡ rowid row ∷ cells
+
+-- a row that was picked, where so many were
+abbrev IsPicked : (Row → Bool) → ℕ → List Row → Type 0
+IsPicked gone zero rows = Unit {0}
+IsPicked gone (suc more) rows = (row : Row) × Has rows row × (gone row ≡ true)
+
 module _ (slot : Slot) (is_slot : IsSlot slot) (sql : List ℕ) (plain : IsPlain (understood desk_schema sql)) (gone : Row → Bool)
     (set : List Term) (params cells : Row)
     (old new : State) (inside : IsInside old) (seen : Shows old new new.now old.committed true)
-    (aims : Aims slot gone set params cells (old.now.trees slot.table.tree)) where
+    (picks : Picks slot gone set params cells (old.now.trees slot.table.tree))
+    (Becomes : ℕ → List Row → List Row → Type 0)
+    (become : (count : ℕ) (now : List Row) → Rewrites gone cells count (old.now.trees slot.table.tree) now
+    → IsPicked gone count (old.now.trees slot.table.tree) → Becomes count (old.now.trees slot.table.tree) now) where
   abbrev rows : List Row
   rows = old.now.trees slot.table.tree
 
@@ -59,7 +75,7 @@ module _ (slot : Slot) (is_slot : IsSlot slot) (sql : List ℕ) (plain : IsPlain
       subst (λ l. IsPermutation l (map number answer)) (map_map number show (filter gone rows))
       (IsPermutation-map number (map show (filter gone rows)) answer picked) in
       ap (without_all rows) (sym (map_map (λ r. id_in (rowid r)) number answer))
-      ∙ deleted gone rows (map number answer) own.numbered (λ a b ha hb tied. aims.by_key a b (own.apart a b ha hb tied)) outcome
+      ∙ deleted gone rows (map number answer) own.numbered picks.tied outcome
 
   -- what an answer's row is put in for
   origin : (answer : List Row) (a : Row) → IsPermutation (map show (filter gone rows)) answer → Has answer a
@@ -67,18 +83,18 @@ module _ (slot : Slot) (is_slot : IsSlot slot) (sql : List ℕ) (plain : IsPlain
   origin answer a picked h =
       let from = has_mapped show (filter gone rows) a (has_permuted (map show (filter gone rows)) answer a picked h) in
       let row = has_filtered gone rows from.0 from.1 in
-      (from.0, row.0, row.1, ap (λ r. cast_row slot.table (drop 1 r)) from.2 ∙ aims.made from.0 row.0 row.1)
+      (from.0, row.0, row.1, ap (λ r. cast_row slot.table (drop 1 r)) from.2 ∙ picks.made from.0 row.0 row.1)
 
   -- the rows by what the UPDATE answered
   turned : (count : ℕ) (answer : List Row) → IsPermutation (map show (filter gone rows)) answer → count ≡ length answer
       → Ran old new (edit_of old.now.trees slot.table (ids_of answer) Given 1 answer)
-      → Changes (On slot (Rewrites gone cells count)) old new
+      → Changes (On slot (Becomes count)) old new
   turned count [] picked counted ran =
       let own = own_rows slot is_slot sql plain old inside in
       let now : new.now.trees slot.table.tree ≡ rows = ran.applies.rows in
-      subst (λ n. Changes (On slot (Rewrites gone cells n)) old new) (sym counted)
-      (changed slot is_slot sql plain (Rewrites gone cells 0) _ old new refl inside seen ran (subst (AreOwn slot.key) (sym now) own)
-      (taken_out [] picked, now))
+      subst (λ n. Changes (On slot (Becomes n)) old new) (sym counted)
+      (changed slot is_slot sql plain (Becomes 0) _ old new refl inside seen ran (subst (AreOwn slot.key) (sym now) own)
+      (become 0 (new.now.trees slot.table.tree) (taken_out [] picked, now) tt))
   turned count (a ∷ []) picked counted ran =
       let own = own_rows slot is_slot sql plain old inside in
       let from = origin (a ∷ []) a picked (inl refl) in
@@ -92,9 +108,10 @@ module _ (slot : Slot) (is_slot : IsSlot slot) (sql : List ℕ) (plain : IsPlain
       let has : HasPut row gone rows (new.now.trees slot.table.tree) =
       record { before = more.before; after = more.after; left = more.was; is = now ∙ more.is } in
       let kept = own_put row slot.key others (own.numbered from.0 from.1) free (own_filtered (λ r. not (gone r)) slot.key rows own) in
-      subst (λ n. Changes (On slot (Rewrites gone cells n)) old new) (sym counted)
-      (changed slot is_slot sql plain (Rewrites gone cells 1) _ old new refl inside seen ran
-      (subst (AreOwn slot.key) (sym now) kept) (rowid from.0, has))
+      subst (λ n. Changes (On slot (Becomes n)) old new) (sym counted)
+      (changed slot is_slot sql plain (Becomes 1) _ old new refl inside seen ran
+      (subst (AreOwn slot.key) (sym now) kept)
+      (become 1 (new.now.trees slot.table.tree) (rowid from.0, has) (from.0, from.1, from.2)))
   turned count (a ∷ b ∷ more) picked counted ran =
       let answer = a ∷ b ∷ more in
       let first = origin answer a picked (inl refl) in
@@ -108,25 +125,90 @@ module _ (slot : Slot) (is_slot : IsSlot slot) (sql : List ℕ) (plain : IsPlain
       let fresh = subst₂ (λ l n. are_fresh l n ≡ true) (taken_out answer picked) news ran.applies.fresh in
       let free = not_true _ (and_parts _ _ (and_parts _ _ fresh).1).0 in
       let taken =
-      tied_taken other (put_row one others) one (has_put one others) (aims.one first.0 second.0 first.1 second.1 first.2 second.2) in
+      tied_taken other (put_row one others) one (has_put one others) (picks.one first.0 second.0 first.1 second.1 first.2 second.2) in
       absurd (true≢false (sym taken ∙ free))
 
 module _ (slot : Slot) (is_slot : IsSlot slot) (sql : List ℕ) (plain : IsPlain (understood desk_schema sql)) (terms : List Term)
-    (gone : Row → Bool) (set : List Term)
+    (set : List Term)
     (is : command_of (understood desk_schema sql)
     ≡ Update slot.at (record { lets = []; body = plain_query slot.table.tree terms (col 1 0 ∷ set) })) where
-  -- a statement that changes the rows of a key
-  pub rewrites : (old new : State) (params cells : Row) (result : Result ℕ Error)
+  -- a statement that changes the rows that it picks, of which there is one at most
+  becomes : (gone : Row → Bool) (old new : State) (params cells : Row) (result : Result ℕ Error)
       → ((row : Row) → Has (old.now.trees slot.table.tree) row → passes terms params row ≡ gone row)
-      → Aims slot gone set params cells (old.now.trees slot.table.tree)
+      → Picks slot gone set params cells (old.now.trees slot.table.tree)
+      → (Becomes : ℕ → List Row → List Row → Type 0)
+      → ((count : ℕ) (now : List Row) → Rewrites gone cells count (old.now.trees slot.table.tree) now
+      → IsPicked gone count (old.now.trees slot.table.tree) → Becomes count (old.now.trees slot.table.tree) now)
       → IsInside old → ExecutesInside 0 sql params old new result
-      → IfOk result (λ count. Changes (On slot (Rewrites gone cells count)) old new)
-  rewrites old new params cells (Err e) same aims inside h = tt
-  rewrites old new params cells (Ok count) same aims inside h =
+      → IfOk result (λ count. Changes (On slot (Becomes count)) old new)
+  becomes gone old new params cells (Err e) same picks Becomes become inside h = tt
+  becomes gone old new params cells (Ok count) same picks Becomes become inside h =
       let rows = old.now.trees slot.table.tree in
       let show = shows (col 1 0 ∷ set) params in
       let gave =
       updates sql slot.at slot.table is_slot.found plain slot.table.tree terms (col 1 0 ∷ set) is old new params count
       inside.ours.schema_is h.0 in
       let picked = subst (λ l. IsPermutation (map show l) gave.0) (filter_same (passes terms params) gone rows same) gave.1 in
-      turned slot is_slot sql plain gone set params cells old new inside h.1 aims count gave.0 picked gave.3 gave.2
+      turned slot is_slot sql plain gone set params cells old new inside h.1 picks Becomes become count gave.0 picked gave.3 gave.2
+
+  module _ (gone : Row → Bool) (old new : State) (params cells : Row) (result : Result ℕ Error)
+      (aims : Aims slot gone set params cells (old.now.trees slot.table.tree)) (inside : IsInside old)
+      (ran : ExecutesInside 0 sql params old new result) where
+    abbrev kept : List Row
+    kept = old.now.trees slot.table.tree
+
+    tied_by_key : (a b : Row) → Has kept a → Has kept b → rowid a ≡ rowid b → gone a ≡ gone b
+    tied_by_key a b ha hb tied = aims.by_key a b ((own_rows slot is_slot sql plain old inside).apart a b ha hb tied)
+
+    -- a statement that changes the rows of a key
+    pub rewrites : ((row : Row) → Has kept row → passes terms params row ≡ gone row)
+        → IfOk result (λ count. Changes (On slot (Rewrites gone cells count)) old new)
+    rewrites same =
+        becomes gone old new params cells result same (record { tied = tied_by_key; one = aims.one; made = aims.made })
+        (Rewrites gone cells) (λ count now rewritten picked. rewritten) inside ran
+
+    -- the row of a number, where it is of the key
+    module _ (number : ℤ) where
+      abbrev at_number : Row → Bool
+      at_number row = has_rowid number row && gone row
+
+      tied_at : (a b : Row) → Has kept a → Has kept b → rowid a ≡ rowid b → at_number a ≡ at_number b
+      tied_at a b ha hb tied =
+          ap₂ (λ x y. x && y) (ap (λ v. is_eq (value_cmp v (Int number))) tied) (tied_by_key a b ha hb tied)
+
+      of_key : (row : Row) → at_number row ≡ true → gone row ≡ true
+      of_key row is = (and_parts _ _ is).1
+
+      -- where a row of that number was of the key, the rows of the key are that row
+      alike : (row : Row) → Has kept row → at_number row ≡ true
+          → filter (λ r. not (gone r)) kept ≡ filter (λ r. not (at_number r)) kept
+      alike row h is =
+          filter_same (λ r. not (gone r)) (λ r. not (at_number r)) kept
+          (λ r hr. ap not (by_both (gone r) (at_number r)
+          (λ own. tied_at r row hr h (aims.one r row hr h own (of_key row is)) ∙ is) (of_key r)))
+
+      by_number : (count : ℕ) (now : List Row) → Rewrites at_number cells count kept now → IsPicked at_number count kept
+          → RewritesAt gone cells count kept now
+      by_number zero now rewritten picked = rewritten.1
+      by_number (suc more) now rewritten picked =
+          let has = rewritten.1 in (
+            rewritten.0,
+            record {
+              before = has.before;
+              after = has.after;
+              left = alike picked.0 picked.1 picked.2 ∙ has.left;
+              is = has.is;
+            },
+          )
+
+      -- a statement that changes the row of a number, where it is of a key
+      pub rewrites_at : ((row : Row) → Has kept row → passes terms params row ≡ at_number row)
+          → IfOk result (λ count. Changes (On slot (RewritesAt gone cells count)) old new)
+      rewrites_at same =
+          becomes at_number old new params cells result same
+          (record {
+            tied = tied_at;
+            one = λ a b ha hb is_a is_b. aims.one a b ha hb (of_key a is_a) (of_key b is_b);
+            made = λ row h is. aims.made row h (of_key row is);
+          })
+          (RewritesAt gone cells) by_number inside ran

@@ -1,14 +1,14 @@
 -- The statements on the shown values.
-use Rattle.std.proofs.Common.{◌≡◌, ◌∙◌, inl, inr, ℕ, ℤ, Option, Result, IfOk, Ok, Err, OnOk, true, false, List, [], ◌∷◌, codes, refl, sym, ap, subst}
-use Rattle.sqlite_value.specs.declared.value.Value.TheVariants.{Null, Text}
+use Rattle.std.proofs.Common.{◌≡◌, ◌&&◌, ◌∙◌, inl, inr, ℕ, ℤ, Option, Result, IfOk, Ok, Err, OnOk, true, false, List, [], ◌∷◌, codes, refl, sym, ap, subst}
+use Rattle.sqlite_value.specs.declared.value.Value.TheVariants.{Int, Null, Text}
 use Rattle.sqlite_value.specs.Keys.{first_key}
 use Rattle.sqlite_value.specs.Order.{Row, column}
 use Rattle.sqlite_catalog.specs.Listing.{automatic}
 use Rattle.sqlite_rules.specs.Edit.{id_in}
 use Rattle.sqlite_rules.proofs.TableLemmas.{int_is}
-use Rattle.sqlite_trees.specs.Tree.{rowid}
+use Rattle.sqlite_trees.specs.Tree.{has_rowid, rowid}
 use Rattle.store_sql_rows.proofs.KeyLemmas.{one_number, text_is}
-use Rattle.store_sql_rows.proofs.RewriteLemmas.{rewrites}
+use Rattle.store_sql_rows.proofs.RewriteLemmas.{Aims, rewrites, rewrites_at}
 use Rattle.sqlite_schema.specs.declared.schema.Constraint.TheVariants.{Datatype, NotNull}
 use Rattle.sqlite_schema.specs.declared.schema.Kind.TheVariants as kind
 use Rattle.sqlite_rules.specs.Lists.{Has}
@@ -19,14 +19,14 @@ use Rattle.sqlite.specs.Effect.{Database}
 use Rattle.sqlite.specs.State.{ExecutesInside, Shown, State}
 use Rattle.store_sql_create.specs.Schema.{column_of, shown_table, shown_tree}
 use Rattle.store_sql_rows.specs.Meanings.{given, passes}
-use Rattle.store_sql_rows.specs.Ours.{Changes, Gains, IsInside, IsOurs, Loses, Rewrites}
+use Rattle.store_sql_rows.specs.Ours.{Changes, Gains, IsInside, IsOurs, Loses, Rewrites, RewritesAt}
 use Rattle.store_sql_rows.specs.Slot.{On, shown_slot}
-use Rattle.store_sql_rows.proofs.CellLemmas.{and_true, cast_cell, cast_int, cast_null, equal_text}
+use Rattle.store_sql_rows.proofs.CellLemmas.{and_true, cast_cell, cast_int, cast_null, equal_rowid, equal_text}
 use Rattle.store_sql_rows.proofs.RestLemmas.{finds, finds_same}
 use Rattle.store_sql_rows.specs.Looking.{Finds}
 use Rattle.store_sql_rows.proofs.SlotLemmas.{gains, is_shown, loses}
 use Rattle.store_sql_rows.proofs.TypeLemmas.{IsFilled, first_filled, ruled}
-use Rattle.store_sql_rows.proofs.ShownTexts.{add_runs, add_text, cells_set, clear_runs, clear_text, find_runs, find_text, set_runs, set_text}
+use Rattle.store_sql_rows.proofs.ShownTexts.{add_runs, add_text, cells_set, clear_runs, clear_text, find_runs, find_text, set_at_runs, set_at_text, set_runs, set_text}
 use Rattle.store_sql_rows.specs.Cells.{cell_of, is_text}
 use Rattle.store_sql_rows.specs.Rows.{of_schedule}
 
@@ -70,21 +70,44 @@ one_shown db ours schedule a b ha hb is_a is_b =
     (subst (λ v. passes (given 1 0 ∷ []) (v ∷ []) a ≡ true) (sym (text_is schedule (column b 1) is_b))
     (passes_shown db ours schedule a ha ∙ is_a))
 
+-- an UPDATE of what is shown, whatever parameters it has besides
+aims : (schedule : List ℕ) (value : Option ℤ) (more : Row) (old : State) → IsInside old
+    → Aims shown_slot (of_schedule schedule) cells_set (Text schedule ∷ cell_of value ∷ more) (Text schedule ∷ cell_of value ∷ [])
+    (old.now.trees shown_tree)
+aims schedule value more old inside = record {
+  by_key = λ a b same. ap (λ l. is_text schedule (column l 0)) same;
+  one = λ a b ha hb is_a is_b. one_shown old.now inside.ours schedule a b ha hb is_a is_b;
+  made = λ row h is.
+      let number = int_is (rowid row) (inside.ours.rows.shown.numbered row h) in
+      rw (text_is schedule (column row 1) is, cast_cell value, number, cast_int (id_in (rowid row))) refl;
+}
+
 pub sets : (schedule : List ℕ) (value : Option ℤ) → (old new : State) (result : Result ℕ Error) → IsInside old
     → ExecutesInside 0 set_text (Text schedule ∷ cell_of value ∷ []) old new result
     → IfOk result (λ count. Changes (On shown_slot (Rewrites (of_schedule schedule) (Text schedule ∷ cell_of value ∷ []) count)) old new)
 sets schedule value old new result inside h =
     let cells = Text schedule ∷ cell_of value ∷ [] in
-    rewrites shown_slot is_shown set_text set_runs.plain (given 1 0 ∷ []) (of_schedule schedule) cells_set set_runs.is old new cells cells result
-    (λ row h. passes_shown old.now inside.ours schedule row h)
-    (record {
-      by_key = λ a b same. ap (λ l. is_text schedule (column l 0)) same;
-      one = λ a b ha hb is_a is_b. one_shown old.now inside.ours schedule a b ha hb is_a is_b;
-      made = λ row h is.
-          let number = int_is (rowid row) (inside.ours.rows.shown.numbered row h) in
-          rw (text_is schedule (column row 1) is, cast_cell value, number, cast_int (id_in (rowid row))) refl;
-    })
-    inside h
+    rewrites shown_slot is_shown set_text set_runs.plain (given 1 0 ∷ []) cells_set set_runs.is (of_schedule schedule) old new cells cells
+    result (aims schedule value [] old inside) inside h (λ row h. passes_shown old.now inside.ours schedule row h)
+
+-- by the number of the row too
+passes_at : (db : Database) → IsOurs db → (schedule : List ℕ) (value : Option ℤ) (number : ℤ) → (row : Row)
+    → Has (db.trees shown_tree) row
+    → passes (given 0 2 ∷ given 1 0 ∷ []) (Text schedule ∷ cell_of value ∷ Int number ∷ []) row
+    ≡ (has_rowid number row && of_schedule schedule row)
+passes_at db ours schedule value number row h =
+    let cell = shown_cells db ours row h in
+    rw (equal_rowid number row (ours.rows.shown.numbered row h), equal_text schedule (column row 1) cell.of cell.filled, and_true) refl
+
+pub sets_at : (schedule : List ℕ) (value : Option ℤ) (number : ℤ) → (old new : State) (result : Result ℕ Error) → IsInside old
+    → ExecutesInside 0 set_at_text (Text schedule ∷ cell_of value ∷ Int number ∷ []) old new result
+    → IfOk result (λ count. Changes
+    (On shown_slot (RewritesAt (of_schedule schedule) (Text schedule ∷ cell_of value ∷ []) count)) old new)
+sets_at schedule value number old new result inside h =
+    rewrites_at shown_slot is_shown set_at_text set_at_runs.plain (given 0 2 ∷ given 1 0 ∷ []) cells_set set_at_runs.is
+    (of_schedule schedule) old new (Text schedule ∷ cell_of value ∷ Int number ∷ []) (Text schedule ∷ cell_of value ∷ []) result
+    (aims schedule value (Int number ∷ []) old inside) inside h number
+    (λ row h. passes_at old.now inside.ours schedule value number row h)
 
 -- the queries
 

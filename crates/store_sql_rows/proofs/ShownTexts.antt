@@ -39,6 +39,14 @@ pub set_runs : Runs set_text
 unfolding understood everything
 set_runs = record { is = refl; plain = (refl, refl); unlisted = refl }
 
+abbrev pub set_at_text : List ℕ
+set_at_text = codes "UPDATE shown SET value = ?2 WHERE rowid = ?3 AND schedule = ?1"
+
+pub set_at_runs : Runs set_at_text
+    (Update 4 (record { lets = []; body = plain_query shown_tree (given 0 2 ∷ given 1 0 ∷ []) (col 1 0 ∷ cells_set) }))
+unfolding understood everything
+set_at_runs = record { is = refl; plain = (refl, refl); unlisted = refl }
+
 -- the queries
 
 abbrev pub find_text : List ℕ

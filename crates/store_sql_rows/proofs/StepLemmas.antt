@@ -1,7 +1,11 @@
 -- Steps of a transaction, one after the other.
-use Rattle.std.proofs.Common.{◌≡◌, true, ℕ, suc, ◌+◌, ◌<◌, List, [], ◌∷◌, drop, length, get_or, Ok, Err, Result, OnOk, sym, ap, ◌∙◌, arith, add-one, drop-cons}
+use Rattle.std.proofs.Common.{◌≡◌, true, ℕ, suc, ◌+◌, ◌<◌, List, [], ◌∷◌, drop, length, get_or, Ok, Err, Result, OnOk, refl, sym, subst, ap, ◌∙◌, arith, add-one, drop-cons}
 use Rattle.sqlite_trees.specs.Tree.{Trees}
 use Rattle.sqlite.specs.declared.error.Error.{Error}
+use Rattle.sqlite.specs.declared.error.Error.TheVariants.{SqliteFailure}
+use Rattle.sqlite.specs.declared.error.ErrorCode.TheVariants.{ConstraintViolation}
+use Rattle.sqlite.specs.Effect.{Database}
+use Rattle.sqlite_schema.specs.declared.schema.Constraint.TheVariants.{Unique}
 use Rattle.std.specs.Borrow.{MutBor}
 use Rattle.sqlite_trees.specs.declared.store.Store.{Ghosts}
 use Rattle.sqlite.specs.Held.{Held, state}
@@ -12,8 +16,8 @@ use Rattle.store.specs.Change.{with_each}
 use Rattle.store.specs.Tables.{Tables}
 use Rattle.store_sql_rows.specs.Broken.{Keeps}
 use Rattle.store_sql_rows.specs.Stored.{Kept, is_sound_in, tables_in}
-use Rattle.store_sql_rows.specs.Ours.{Changes, IsInside, Makes, kept_in}
-use Rattle.store_sql_rows.specs.Steps.{Moves, MovesBy, Steps, Turns}
+use Rattle.store_sql_rows.specs.Ours.{Changes, IsInside, IsOurs, Makes, kept_in}
+use Rattle.store_sql_rows.specs.Steps.{Moves, MovesBy, StaysIfTaken, Steps, Turns}
 
 pub survives_on : (a b c : State) → Survives a b (λ _. ⊥) → Survives b c (λ _. ⊥) → Survives a c (λ _. ⊥)
 survives_on a b c one two = survives_then a b c (λ _. ⊥) (λ _. ⊥) (λ _. ⊥) (λ _ db none. none) (λ _ db none. none) one two
@@ -90,6 +94,29 @@ two_statements {g} {x} {y} {old} {mid} {new} P Q f z first second makes =
         survives = survives_on a b c first.steps.survives second.steps.survives;
       };
     }
+
+-- a statement that another row's key refused turned nothing
+pub stays_put : {S A B : Type 0} {g : Ghosts S} {old new : MutBor (Held S)} {Does : A → State → State → Type 0} {r : Result A Error}
+    (z : B) → r ≡ Err (SqliteFailure (ConstraintViolation Unique)) → MovesBy g Does old new r
+    → StaysIfTaken (state g old.now) (state g new.now) r → Moves g (Turns (λ tables. tables)) old new (Ok z)
+stays_put {g} {old} {new} z taken step stays = record {
+  same_reference = step.same_reference;
+  steps = record {
+    done = λ clean at.
+        let shows = stays clean at taken in
+        record {
+          inside = record {
+            in_transaction = shows.mode;
+            ours = subst IsOurs (sym shows.now_is) at.ours;
+          };
+          makes =
+              subst (λ (db : Database). Makes (λ tables. tables) (kept_in (state g old.now).now.trees) (kept_in db.trees)) (sym shows.now_is)
+              (record { tables = refl; is_sound = λ sound. sound; stands = λ asked stood. stood });
+        };
+    kept = step.steps.kept;
+    survives = step.steps.survives;
+  };
+}
 
 -- one turn after the other
 pub turns_then : {S A B : Type 0} {g : Ghosts S} {x : A} {outcome : Result B Error} {old mid new : MutBor (Held S)}

@@ -98,6 +98,17 @@ abbrev pub Rewrites : (Row → Bool) → Row → ℕ → List Row → List Row �
 Rewrites gone cells zero old now = Loses gone old old × (now ≡ old)
 Rewrites gone cells (suc more) old now = (id : Value) × HasPut (id ∷ cells) gone old now
 
+-- so many rows were found by their number: where none was, the rows are as they were; else as of `Rewrites`
+abbrev pub RewritesAt : (Row → Bool) → Row → ℕ → List Row → List Row → Type 0
+RewritesAt gone cells zero old now = now ≡ old
+RewritesAt gone cells (suc more) old now = Rewrites gone cells (suc more) old now
+
+-- so many rows passed: where none did, the rows are as they were; else those that passed are gone, and to those that are
+-- left, of which none is of the key, one row with these cells is added
+abbrev pub Exchanges : (Row → Bool) → (Row → Bool) → Row → ℕ → List Row → List Row → Type 0
+Exchanges gone key cells zero old now = Loses gone old old × (now ≡ old)
+Exchanges gone key cells (suc more) old now = (left : List Row) × Loses gone old left × Adds key cells left now
+
 -- the row of `desk` is another one, with this as its last cell
 pub record SetsDesk (last : Row → Value) (old new : Kept) : Type 0 where
   pub was : Row

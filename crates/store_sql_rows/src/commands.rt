@@ -4,9 +4,9 @@ ghost use Rattle.sqlite.specs.Held.{state};
 ghost use Rattle.sqlite_value.specs.declared.value.Value.TheVariants.{Int, Text};
 ghost use Rattle.sqlite_value.specs.Order.{column};
 ghost use Rattle.store_sql_rows.specs.Looking.{Finds, FindsLeast, Reads, is_from, is_from_text};
-ghost use Rattle.store_sql_rows.specs.Ours.{Adds, Changes, Loses};
+ghost use Rattle.store_sql_rows.specs.Ours.{Adds, Changes, Exchanges, Loses};
 ghost use Rattle.store_sql_rows.specs.Slot.{On, command_slot};
-ghost use Rattle.store_sql_rows.specs.Steps.{Moves, StaysIfTaken};
+ghost use Rattle.store_sql_rows.specs.Steps.{Moves, MovesBy, StaysIfTaken};
 ghost use Rattle.store_sql_rows.specs.Cells.{cell_of, is_text};
 ghost use Rattle.store_sql_rows.specs.Rows.{of_command, of_lower_command};
 
@@ -60,6 +60,41 @@ pub fn add<S: Alter>(
             whole(cells.code),
             optional(cells.a),
             optional(cells.b),
+        ],
+    )
+}
+
+/// Makes of the row below a number of a panel the row under another number, and answers how many rows that were: none,
+/// or one. Where there are more, or a row stands under that number, it is refused as not unique, and nothing changes.
+pub fn exchange<S: Alter>(
+    transaction: &mut Transaction<'_, S>,
+    panel: &Name,
+    below: u64,
+    number: u64,
+    content: &Content,
+    cells: &StateCells,
+) -> Result<usize, Error>
+    requires below { below < 2 ^ 63 }
+    requires number { number < 2 ^ 63 }
+    ensures refused { StaysIfTaken (state S.Store transaction.old.conn.now) (state S.Store transaction.new.conn.now) result }
+    ensures moves { MovesBy S.Store (λ count. Changes (On command_slot
+        (Exchanges (of_lower_command panel.now below) (of_command panel.now number)
+        (Text panel.now ∷ Int (pos number) ∷ Text content.now.point ∷ Int content.now.priority ∷ cell_of content.now.value
+        ∷ Int cells.now.code ∷ cell_of cells.now.a ∷ cell_of cells.now.b ∷ []) count))) transaction.old.conn transaction.new.conn result }
+{
+    run(
+        transaction,
+        "UPDATE command SET number = ?2, point = ?3, priority = ?4, value = ?5, state = ?6, a = ?7, b = ?8 WHERE panel = ?1 AND number < ?9",
+        &[
+            text(panel),
+            count(number),
+            text(&content.point),
+            whole(content.priority),
+            optional(content.value),
+            whole(cells.code),
+            optional(cells.a),
+            optional(cells.b),
+            count(below),
         ],
     )
 }

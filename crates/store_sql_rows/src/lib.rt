@@ -1,16 +1,21 @@
 //! Which statements read and write the desk's tables, and what do the rows say?
 //!
 //! Each function of the modules `calendars` to `schedules` runs one statement of SQL, and its contract says what that
-//! makes of the rows of the six tables. Those of `putting` put one item of a change into them, in a transaction. What a
-//! row says is read by `cells` and `command_cells`. `run_from` reads the rows of a panel's run, one at a time. `look`
-//! asks a query, whatever it is.
+//! makes of the rows of the six tables. Those of `putting` and of `next_puts`, `place_puts` and `shown_puts` put one item
+//! of a change into them, in a transaction; of the last three a row that was put before is found by its number
+//! (`RowNumbers`). What a row says is read by `cells` and `command_cells`. `run_from` reads the rows of a panel's run,
+//! one at a time. `look` asks a query, whatever it is.
 #![tactic(auto)]
 
 pub use cells::{count_at, entry_at, name_at, number_at, optional_at};
 pub use command_cells::{StateCells, cells_of, command_at};
 pub use command_run::run_from;
 pub use looking::look;
+pub use next_puts::put_next;
+pub use place_puts::put_place;
 pub use read_fault::ReadFault;
+pub use row_numbers::RowNumbers;
+pub use shown_puts::put_shown;
 
 pub mod calendars;
 mod cells;
@@ -19,10 +24,14 @@ mod command_run;
 pub mod commands;
 pub mod desk_row;
 mod looking;
+mod next_puts;
 pub mod panels;
 mod parameters;
+mod place_puts;
 pub mod places;
 pub mod putting;
 mod read_fault;
+mod row_numbers;
 mod running;
 pub mod schedules;
+mod shown_puts;

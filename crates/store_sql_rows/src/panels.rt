@@ -4,13 +4,13 @@ ghost use Rattle.sqlite.specs.Held.{state};
 ghost use Rattle.sqlite_value.specs.declared.value.Value.TheVariants.{Int, Text};
 ghost use Rattle.sqlite_value.specs.Order.{column};
 ghost use Rattle.store_sql_rows.specs.Looking.{Finds, FindsLeast, Reads, is_from_text};
-ghost use Rattle.store_sql_rows.specs.Ours.{Changes, Gains, Rewrites};
+ghost use Rattle.store_sql_rows.specs.Ours.{Changes, Gains, Loses, Rewrites, RewritesAt};
 ghost use Rattle.store_sql_rows.specs.Slot.{On, panel_slot};
 ghost use Rattle.store_sql_rows.specs.Steps.{Moves, MovesBy};
 ghost use Rattle.store_sql_rows.specs.Rows.{of_panel};
 
 use crate::looking::ask;
-use crate::parameters::{count, text, words};
+use crate::parameters::{count, text, whole, words};
 use crate::running::run;
 use points::Name;
 use sqlite::{Alter, Connection, Error, Row, Transaction};
@@ -46,6 +46,36 @@ pub fn set<S: Alter>(
         transaction,
         "UPDATE panel SET next = ?2 WHERE name = ?1",
         &[text(panel), count(next)],
+    )
+}
+
+/// Sets the next number of a panel whose row has this number, and answers how many rows that were: none, or that one.
+pub fn set_at<S: Alter>(
+    transaction: &mut Transaction<'_, S>,
+    row: i64,
+    panel: &Name,
+    next: u64,
+) -> Result<usize, Error>
+    requires { next < 2 ^ 63 }
+    ensures moves { MovesBy S.Store (λ count. Changes (On panel_slot (RewritesAt (of_panel panel.now) (Text panel.now ∷ Int (pos next) ∷ []) count)))
+        transaction.old.conn transaction.new.conn result }
+{
+    run(
+        transaction,
+        "UPDATE panel SET next = ?2 WHERE rowid = ?3 AND name = ?1",
+        &[text(panel), count(next), whole(row)],
+    )
+}
+
+/// Removes the next number of a panel.
+pub fn clear<S: Alter>(transaction: &mut Transaction<'_, S>, panel: &Name) -> Result<usize, Error>
+    ensures moves { Moves S.Store (Changes (On panel_slot (Loses (of_panel panel.now))))
+        transaction.old.conn transaction.new.conn result }
+{
+    run(
+        transaction,
+        "DELETE FROM panel WHERE name = ?1",
+        &[text(panel)],
     )
 }
 

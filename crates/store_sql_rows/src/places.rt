@@ -4,7 +4,7 @@ ghost use Rattle.sqlite.specs.Held.{state};
 ghost use Rattle.sqlite_value.specs.declared.value.Value.TheVariants.{Int, Text};
 ghost use Rattle.sqlite_value.specs.Order.{column};
 ghost use Rattle.store_sql_rows.specs.Looking.{Finds, FindsLeast, Reads, is_from_text};
-ghost use Rattle.store_sql_rows.specs.Ours.{Changes, Gains, Loses, Rewrites};
+ghost use Rattle.store_sql_rows.specs.Ours.{Changes, Gains, Loses, Rewrites, RewritesAt};
 ghost use Rattle.store_sql_rows.specs.Slot.{On, place_slot};
 ghost use Rattle.store_sql_rows.specs.Steps.{Moves, MovesBy};
 ghost use Rattle.store_sql_rows.specs.Cells.{is_text};
@@ -64,6 +64,30 @@ pub fn set<S: Alter>(
         transaction,
         "UPDATE place SET value = ?3 WHERE point = ?1 AND priority = ?2",
         &[text(point), count(u64::from(priority)), whole(value)],
+    )
+}
+
+/// Sets the value in a place whose row has this number, and answers how many rows that were: none, or that one.
+pub fn set_at<S: Alter>(
+    transaction: &mut Transaction<'_, S>,
+    row: i64,
+    point: &Name,
+    priority: u8,
+    value: i64,
+) -> Result<usize, Error>
+    ensures moves { MovesBy S.Store (λ count. Changes
+        (On place_slot (RewritesAt (of_place point.now priority) (Text point.now ∷ Int (pos priority) ∷ Int value ∷ []) count)))
+        transaction.old.conn transaction.new.conn result }
+{
+    run(
+        transaction,
+        "UPDATE place SET value = ?3 WHERE rowid = ?4 AND point = ?1 AND priority = ?2",
+        &[
+            text(point),
+            count(u64::from(priority)),
+            whole(value),
+            whole(row),
+        ],
     )
 }
 

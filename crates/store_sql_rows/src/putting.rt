@@ -1,37 +1,22 @@
-//! One item put into the tables, in a transaction.
-ghost use Rattle.std.specs.Prelude.{◌≡◌, Some};
+//! A command's row, an entry or the last tick put into the tables, in a transaction.
+ghost use Rattle.std.specs.Prelude.{◌≡◌, ◌≤◌, Some};
 ghost use Rattle.dates.specs.Entry.{IsEntry, spelling};
 ghost use Rattle.sqlite.specs.Held.{state};
 ghost use Rattle.sqlite_value.specs.declared.value.Value.TheVariants.{Int};
-ghost use Rattle.store.specs.Change.{IsKeptRow, IsNext, IsPlace};
+ghost use Rattle.store.specs.Change.{IsKeptRow};
 ghost use Rattle.store_sql_rows.specs.Cells.{cell_of};
 ghost use Rattle.store_sql_rows.specs.Rows.{state_in};
-ghost use Rattle.store_sql_rows.specs.Steps.{Moves, Steps, Turns, imported_put, last_put, next_put, place_put, row_put, rows_dropped, shown_put};
+ghost use Rattle.store_sql_rows.specs.Steps.{Moves, Steps, Turns, imported_put, last_put, row_put, rows_dropped};
 
 use crate::command_cells::{StateCells, cells_of};
-use crate::{calendars, commands, desk_row, panels, places, schedules};
+use crate::{calendars, commands, desk_row};
 use points::LAST_NUMBER;
 use sqlite::{Alter, Constraint, Error, ErrorCode, Transaction};
 use std::alloc::Global;
-use store::{ImportedEntry, KeptRow, NextNumber, PlaceValue, RowsBelow, ShownValue};
+use store::{ImportedEntry, KeptRow, RowsBelow};
 
 // A number above that of each command.
 const ABOVE: u64 = LAST_NUMBER + 1;
-
-/// Puts the next number of a panel.
-pub fn put_next<S: Alter>(
-    transaction: &mut Transaction<'_, S>,
-    item: &NextNumber,
-) -> Result<(), Error>
-    requires { IsNext item.now }
-    ensures moves { Moves S.Store (Turns (next_put item.now)) transaction.old.conn transaction.new.conn result }
-{
-    let _name = item.panel.as_str();
-    if panels::set(transaction, &item.panel, item.next)? == 0 {
-        panels::add(transaction, &item.panel, item.next)?;
-    }
-    Ok(())
-}
 
 // Puts the row of a command, whose state these cells say, in place of the one that stands there.
 fn replace_row<S: Alter>(
@@ -99,41 +84,54 @@ pub fn drop_rows<S: Alter>(
     Ok(())
 }
 
-/// Puts a value into a place, or takes it out.
-pub fn put_place<S: Alter>(
+// Drops the rows of a panel below a number and puts the row of a command.
+fn drop_and_put<S: Alter>(
     transaction: &mut Transaction<'_, S>,
-    item: &PlaceValue,
+    item: &KeptRow,
+    below: u64,
 ) -> Result<(), Error>
-    requires { IsPlace item.now }
-    ensures moves { Moves S.Store (Turns (place_put item.now)) transaction.old.conn transaction.new.conn result }
+    requires { IsKeptRow item.now }
+    ensures moves { Moves S.Store (Turns (λ tables. row_put item.now (rows_dropped (record { panel = item.now.panel; number = below }) tables)))
+        transaction.old.conn transaction.new.conn result }
 {
-    let _name = item.point.as_str();
-    let Some(value) = item.value else {
-        places::clear(transaction, &item.point, item.priority)?;
-        return Ok(());
+    let dropped = RowsBelow {
+        panel: item.panel,
+        number: below,
     };
-    if places::set(transaction, &item.point, item.priority, value)? == 0 {
-        places::add(transaction, &item.point, item.priority, value)?;
-    }
-    Ok(())
+    drop_rows(transaction, &dropped)?;
+    put_row(transaction, item)
 }
 
-/// Puts what a schedule shows, or takes it out.
-pub fn put_shown<S: Alter>(
+/// Drops the rows of a panel below a number, and puts the row of a command that has that number or a greater one. Of a
+/// panel that is past its first rows one falls out with each command: that row becomes the new one, so that no other is
+/// touched.
+pub fn exchange_row<S: Alter>(
     transaction: &mut Transaction<'_, S>,
-    item: &ShownValue,
+    item: &KeptRow,
+    below: u64,
 ) -> Result<(), Error>
-    ensures moves { Moves S.Store (Turns (shown_put item.now)) transaction.old.conn transaction.new.conn result }
+    requires item { IsKeptRow item.now }
+    requires below { below ≤ item.now.number }
+    ensures moves { Moves S.Store (Turns (λ tables. row_put item.now (rows_dropped (record { panel = item.now.panel; number = below }) tables)))
+        transaction.old.conn transaction.new.conn result }
 {
-    let _name = item.schedule.as_str();
-    let Some(value) = item.shown else {
-        schedules::clear(transaction, &item.schedule)?;
-        return Ok(());
-    };
-    if schedules::set(transaction, &item.schedule, value)? == 0 {
-        schedules::add(transaction, &item.schedule, value)?;
+    let _name = item.panel.as_str();
+    let _point = item.row.content.point.as_str();
+    let cells = cells_of(&item.row.state);
+    match commands::exchange(
+        transaction,
+        &item.panel,
+        below,
+        item.number,
+        &item.row.content,
+        &cells,
+    ) {
+        Ok(0) => put_row(transaction, item),
+        Ok(_) => Ok(()),
+        Err(Error::SqliteFailure(ErrorCode::ConstraintViolation(Constraint::Unique))) =>
+            drop_and_put(transaction, item, below),
+        Err(error) => Err(error),
     }
-    Ok(())
 }
 
 // Puts an entry into a calendar in place of the one that stands there.

@@ -4,14 +4,14 @@ ghost use Rattle.sqlite.specs.Held.{state};
 ghost use Rattle.sqlite_value.specs.declared.value.Value.TheVariants.{Text};
 ghost use Rattle.sqlite_value.specs.Order.{column};
 ghost use Rattle.store_sql_rows.specs.Looking.{Finds, FindsLeast, Reads, is_from_text};
-ghost use Rattle.store_sql_rows.specs.Ours.{Changes, Gains, Loses, Rewrites};
+ghost use Rattle.store_sql_rows.specs.Ours.{Changes, Gains, Loses, Rewrites, RewritesAt};
 ghost use Rattle.store_sql_rows.specs.Slot.{On, shown_slot};
 ghost use Rattle.store_sql_rows.specs.Steps.{Moves, MovesBy};
 ghost use Rattle.store_sql_rows.specs.Cells.{cell_of};
 ghost use Rattle.store_sql_rows.specs.Rows.{of_schedule};
 
 use crate::looking::ask;
-use crate::parameters::{optional, text, words};
+use crate::parameters::{optional, text, whole, words};
 use crate::running::run;
 use points::Name;
 use sqlite::{Alter, Connection, Error, Row, Transaction};
@@ -61,6 +61,24 @@ pub fn set<S: Alter>(
         transaction,
         "UPDATE shown SET value = ?2 WHERE schedule = ?1",
         &[text(schedule), optional(value)],
+    )
+}
+
+/// Sets what a schedule shows whose row has this number, and answers how many rows that were: none, or that one.
+pub fn set_at<S: Alter>(
+    transaction: &mut Transaction<'_, S>,
+    row: i64,
+    schedule: &Name,
+    value: Option<i64>,
+) -> Result<usize, Error>
+    ensures moves { MovesBy S.Store (λ count. Changes
+        (On shown_slot (RewritesAt (of_schedule schedule.now) (Text schedule.now ∷ cell_of value ∷ []) count)))
+        transaction.old.conn transaction.new.conn result }
+{
+    run(
+        transaction,
+        "UPDATE shown SET value = ?2 WHERE rowid = ?3 AND schedule = ?1",
+        &[text(schedule), optional(value), whole(row)],
     )
 }
 

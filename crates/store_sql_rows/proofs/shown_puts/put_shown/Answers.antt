@@ -1,0 +1,10 @@
+use Rattle.store_sql_rows.proofs.StepLemmas.{one_statement}
+use Rattle.store_sql_rows.proofs.ItemLemmas.{shown_cleared}
+use Rattle.store_sql_rows.proofs.shown_puts.put_shown.Goals as goal
+
+pub returns : goal.returns
+returns g c = record {
+  moves = one_statement _ _ _
+      c.in_ok-clear.ensures.moves
+      (λ k l. shown_cleared k l c.args.item.now c.in_default.is);
+}
