@@ -1,5 +1,6 @@
 pub mod Asking
 pub mod Committed
+pub mod Exchange
 pub mod Fitting
 pub mod Judging
 pub mod Opened

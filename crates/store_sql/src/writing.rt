@@ -1,12 +1,14 @@
 //! Lists of items put into the tables, in a transaction.
 ghost use Rattle.std.specs.List.{All};
+ghost use Rattle.std.specs.Prelude.{IfSome};
+ghost use Rattle.store_sql.specs.Exchange.{IsExchange};
 ghost use Rattle.store.specs.Change.{CanStand, IsKeptRow, IsNext, IsPlace, with_change, with_each};
 ghost use Rattle.store_sql_rows.specs.Steps.{Moves, Turns, imported_put, next_put, place_put, row_put, rows_dropped, shown_put, with_commands, with_values};
 
 use sqlite::{Alter, Error, Transaction};
 use std::alloc::Global;
 use store::{Change, ImportedEntry, KeptRow, NextNumber, PlaceValue, RowsBelow, ShownValue};
-use store_sql_rows::putting::{drop_rows, put_imported, put_last, put_row};
+use store_sql_rows::putting::{drop_rows, exchange_row, put_imported, put_last, put_row};
 use store_sql_rows::{RowNumbers, put_next, put_place, put_shown};
 
 // Puts next numbers, one after the other.
@@ -91,6 +93,22 @@ fn put_all_imported<S: Alter>(
     Ok(())
 }
 
+// The row that a change puts and the number below which it drops those of that panel, where it puts and drops no others.
+fn exchange_of(change: &Change) -> Option<(&KeptRow, u64)>
+    ensures { IfSome result (λ it. IsExchange change.now it.0.now it.1) }
+{
+    let [item] = change.rows.as_slice() else {
+        return None;
+    };
+    let [dropped] = change.dropped.as_slice() else {
+        return None;
+    };
+    if dropped.panel == item.panel && dropped.number <= item.number {
+        return Some((item, dropped.number));
+    }
+    None
+}
+
 // Writes the next numbers and the rows of a change.
 fn write_commands<S: Alter>(
     transaction: &mut Transaction<'_, S>,
@@ -101,6 +119,9 @@ fn write_commands<S: Alter>(
     ensures moves { Moves S.Store (Turns (with_commands change.now)) transaction.old.conn transaction.new.conn result }
 {
     put_nexts(transaction, numbers, &change.nexts)?;
+    if let Some((item, below)) = exchange_of(change) {
+        return exchange_row(transaction, item, below);
+    }
     put_rows(transaction, &change.rows)?;
     drop_all(transaction, &change.dropped)
 }

@@ -44,7 +44,7 @@ adds_where_free slot gone cells old new own one it =
             others = it.change.others;
             rows = (
               none_of_key gone (gains.id ∷ cells) (slot.get (kept_in old.now.trees)) (slot.get (kept_in new.now.trees)) gains.more
-              gains.free (own gains.id) one,
+                  gains.free (own gains.id) one,
               gains,
             );
           };

@@ -1,5 +1,5 @@
 -- What an UPDATE that gives a row another key makes of one of the keyed tables.
-use Rattle.std.proofs.Common.{◌≡◌, inl, inr, ℕ, zero, suc, Bool, true, false, not, List, drop, length, [], ◌∷◌, filter, map, Ok, Err, Result, refl, sym, ap, subst, subst₂, ◌∙◌, IfOk, IsTrue, true≢false}
+use Rattle.std.proofs.Common.{◌≡◌, inl, inr, ℕ, Bool, true, false, not, List, drop, length, [], ◌∷◌, filter, map, Ok, Err, Result, refl, sym, ap, subst, subst₂, ◌∙◌, IfOk, IsTrue, true≢false}
 use Rattle.std.proofs.lemmas.Bool.{and_parts}
 use Rattle.std.proofs.lemmas.List.Sorted.{IsPermutation-map}
 use Rattle.std.specs.List.Sorted.{IsPermutation}

@@ -5,8 +5,8 @@ use std::test::Fail;
 use store::OpenFault;
 use store_sql::SqlStore;
 
-// The tables of a database in memory that has nothing yet.
-fn made(alloc: Global) -> Result<SqlStore<sqlite::MemStore>, Fail> {
+/// The tables of a database in memory that has nothing yet.
+pub(crate) fn made(alloc: Global) -> Result<SqlStore<sqlite::MemStore>, Fail> {
     let connection = Connection::open_in_memory(alloc)?;
     match SqlStore::create(alloc, connection) {
         Ok(store) => Ok(store),

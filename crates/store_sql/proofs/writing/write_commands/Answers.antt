@@ -1,9 +1,29 @@
-use Rattle.std.proofs.Common.{◌≡◌, refl, rules}
+use Rattle.std.proofs.Common.{◌≡◌, ◌∙◌, [], ◌∷◌, refl, ap, rules, sym}
 use Rattle.store.specs.Change.{with_each}
 use Rattle.store.specs.Tables.{Tables}
+use Rattle.store.specs.declared.change.KeptRow.{KeptRow}
+use Rattle.store.specs.declared.change.RowsBelow.{RowsBelow}
 use Rattle.store_sql_rows.specs.Steps.{next_put, row_put, rows_dropped, with_commands}
+use Rattle.store_sql_rows.proofs.DropLemmas.{put_then_drop}
 use Rattle.store_sql_rows.proofs.StepLemmas.{turns_then}
 use Rattle.store_sql.proofs.writing.write_commands.Goals as goal
+
+pub returns-in-Some : goal.returns-in-Some
+returns-in-Some g c =
+    let same_nexts : c.deref.result.now ≡ c.args.change.now.nexts.items = search rules in
+    let change = c.args.change.now in
+    let item : KeptRow = c.in-Some.item.now in
+    let lower : RowsBelow = record { panel = item.panel; number = c.in-Some.below } in
+    let is = c.in-Some.ensures in
+    let first = with_each next_put change.nexts.items in
+    record {
+      moves = turns_then first (λ t. row_put item (rows_dropped lower t)) (with_commands change)
+          (λ t. put_then_drop item c.in-Some.below is.low (first t)
+          ∙ ap (λ l. with_each rows_dropped l (row_put item (first t))) (sym is.dropped)
+          ∙ ap (λ l. with_each rows_dropped change.dropped.items (with_each row_put l (first t))) (sym is.row))
+          (rw same_nexts at c.in_ok-put_nexts.ensures.moves)
+          c.exchange_row.ensures.moves;
+    }
 
 pub returns : goal.returns
 returns g c =
