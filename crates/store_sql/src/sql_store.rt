@@ -21,7 +21,7 @@ use std::alloc::Global;
 use std::marker::Model;
 use store::{Change, Names, OpenFault, Store, StoreFault};
 use store_sql_reads::{
-    array_of, command_of, commands_run, entries_of, last_tick, names_of, next_of, shown_by,
+    array_noted, command_of, commands_run, entries_of, last_tick, names_of, next_noted, shown_noted,
 };
 use store_sql_rows::RowNumbers;
 
@@ -31,7 +31,7 @@ use store_sql_rows::RowNumbers;
 pub struct SqlStore<S: Alter + Drop> {
     alloc: Global,
     session: Session<S>,
-    /// The numbers of the rows that were put before, so that they are found faster.
+    /// The numbers of rows that were read or added, so that they are found faster.
     numbers: RowNumbers,
 }
 
@@ -166,7 +166,7 @@ impl<S: Alter + Drop> Store for SqlStore<S> {
         if self.session.is_shut {
             return Err(StoreFault::Shut);
         }
-        let asked = next_of(&mut self.session.connection, panel);
+        let asked = next_noted(&mut self.session.connection, &mut self.numbers, panel);
         self.session.tell(asked)
     }
 
@@ -195,7 +195,7 @@ impl<S: Alter + Drop> Store for SqlStore<S> {
         if self.session.is_shut {
             return Err(StoreFault::Shut);
         }
-        let asked = array_of(&mut self.session.connection, point);
+        let asked = array_noted(&mut self.session.connection, &mut self.numbers, point);
         self.session.tell(asked)
     }
 
@@ -203,7 +203,7 @@ impl<S: Alter + Drop> Store for SqlStore<S> {
         if self.session.is_shut {
             return Err(StoreFault::Shut);
         }
-        let asked = shown_by(&mut self.session.connection, schedule);
+        let asked = shown_noted(&mut self.session.connection, &mut self.numbers, schedule);
         self.session.tell(asked)
     }
 

@@ -38,7 +38,7 @@ all_picked [] = refl
 all_picked (r ∷ rows) = ap (λ l. r ∷ l) (all_picked rows)
 
 module _ (panel : List ℕ) (kept : Kept) (answer : List Row) (named : IsName panel)
-    (found : Finds (of_panel panel) (λ row. column row 2 ∷ []) kept.panel answer) where
+    (found : Finds (of_panel panel) (λ row. column row 2 ∷ column row 0 ∷ []) kept.panel answer) where
   pub next_none : answer ≡ [] → (tables_in kept).next panel ≡ 1
   next_none none = no_next panel kept (found_none _ _ kept.panel answer found none)
 
@@ -177,7 +177,7 @@ module _ (point : List ℕ) (priority : ℕ) (kept : Kept) (answer : List Row)
       (rw (name_here point (column it.0 1) named.0 text_is, count_here priority (column it.0 2) count_is, named.1, reads) refl)
 
 module _ (schedule : List ℕ) (kept : Kept) (answer : List Row) (named : IsName schedule)
-    (found : Finds (of_schedule schedule) (λ row. column row 2 ∷ []) kept.shown answer) where
+    (found : Finds (of_schedule schedule) (λ row. column row 2 ∷ column row 0 ∷ []) kept.shown answer) where
   pub shown_none : answer ≡ [] → (tables_in kept).shown schedule ≡ None
   shown_none none = no_shown schedule kept (found_none _ _ kept.shown answer found none)
 

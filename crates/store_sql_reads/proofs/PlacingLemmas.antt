@@ -199,7 +199,7 @@ both_filters p q (x ∷ xs) =
     [ true ↦ ap (λ l. cond (p x) (x ∷ l) l) (both_filters p q xs) | false ↦ both_filters p q xs ]
 
 abbrev both : Row → Row
-both row = column row 2 ∷ column row 3 ∷ []
+both row = column row 2 ∷ column row 3 ∷ column row 0 ∷ []
 
 abbrev second : Row → Row
 second row = column row 1 ∷ []
@@ -212,7 +212,7 @@ taken_of places q taken = of (get places q) taken
     of (Some x) is = (x, refl)
 
 module _ (point : List ℕ) (kept : Kept) (answer : List Row) (named : IsName point)
-    (found : Finds (λ row. is_text point (column row 1)) (λ row. column row 2 ∷ column row 3 ∷ []) kept.place answer) where
+    (found : Finds (λ row. is_text point (column row 1)) (λ row. column row 2 ∷ column row 3 ∷ column row 0 ∷ []) kept.place answer) where
   found_at : (q : ℕ) → Finds (of_place point q) (λ row. column row 3 ∷ []) kept.place (map second (rows_at q answer))
   found_at q =
       let here = λ (row : Row). is_text point (column row 1) in

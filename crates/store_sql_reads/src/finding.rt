@@ -18,18 +18,18 @@ use crate::only::only;
 use points::{CommandRow, LAST_NUMBER, Name};
 use sqlite::{Alter, Connection, Row};
 use store_sql_rows::{
-    ReadFault, command_at, commands, count_at, desk_row, optional_at, panels, schedules,
+    ReadFault, RowNumbers, command_at, commands, count_at, desk_row, optional_at, panels, schedules,
 };
 
 const LEAST_NUMBER: u64 = 1;
 
 // What the answer of the query on a panel says.
 fn parsed_next(panel: &Name, rows: Vec<Row>) -> Result<u64, ReadFault>
-    ensures value { (kept : Kept) → Finds (of_panel panel.now) (λ row. column row 2 ∷ []) kept.panel rows.items
+    ensures value { (kept : Kept) → Finds (of_panel panel.now) (λ row. column row 2 ∷ column row 0 ∷ []) kept.panel rows.items
         → IfOk result (λ it. it ≡ (tables_in kept).next panel.now) }
-    ensures bad { (kept : Kept) → Finds (of_panel panel.now) (λ row. column row 2 ∷ []) kept.panel rows.items
+    ensures bad { (kept : Kept) → Finds (of_panel panel.now) (λ row. column row 2 ∷ column row 0 ∷ []) kept.panel rows.items
         → IfErr result (λ _. cannot_stand_in kept (NextOf panel.now) ≡ true) }
-    ensures stood { (kept : Kept) → Finds (of_panel panel.now) (λ row. column row 2 ∷ []) kept.panel rows.items
+    ensures stood { (kept : Kept) → Finds (of_panel panel.now) (λ row. column row 2 ∷ column row 0 ∷ []) kept.panel rows.items
         → IfOk result (λ _. cannot_stand_in kept (NextOf panel.now) ≡ false) }
     ensures fault { IfErr result (λ fault. fault ≡ BadRow) }
 {
@@ -49,6 +49,22 @@ pub fn next_of<S: Alter>(connection: &mut Connection<S>, panel: &Name) -> Result
         (state S.Store connection.old) (state S.Store connection.new) result }
 {
     let rows = panels::find(connection, panel)?;
+    parsed_next(panel, rows)
+}
+
+/// The same, where the number of the panel's row is noted.
+pub fn next_noted<S: Alter>(
+    connection: &mut Connection<S>,
+    numbers: &mut RowNumbers,
+    panel: &Name,
+) -> Result<u64, ReadFault>
+    ensures answers { Answers (λ kept it. (it ≡ (tables_in kept).next panel.now)
+        × (cannot_stand_in kept (NextOf panel.now) ≡ false))
+        (λ kept. cannot_stand_in kept (NextOf panel.now) ≡ true)
+        (state S.Store connection.old) (state S.Store connection.new) result }
+{
+    let rows = panels::find(connection, panel)?;
+    numbers.note_next(panel, &rows);
     parsed_next(panel, rows)
 }
 
@@ -104,11 +120,11 @@ pub fn command_under<S: Alter>(
 
 // What the answer of the query on a schedule says.
 fn parsed_shown(schedule: &Name, rows: Vec<Row>) -> Result<Option<Option<i64>>, ReadFault>
-    ensures value { (kept : Kept) → Finds (of_schedule schedule.now) (λ row. column row 2 ∷ []) kept.shown rows.items
+    ensures value { (kept : Kept) → Finds (of_schedule schedule.now) (λ row. column row 2 ∷ column row 0 ∷ []) kept.shown rows.items
         → IfOk result (λ it. it ≡ (tables_in kept).shown schedule.now) }
-    ensures bad { (kept : Kept) → Finds (of_schedule schedule.now) (λ row. column row 2 ∷ []) kept.shown rows.items
+    ensures bad { (kept : Kept) → Finds (of_schedule schedule.now) (λ row. column row 2 ∷ column row 0 ∷ []) kept.shown rows.items
         → IfErr result (λ _. cannot_stand_in kept (ShownBy schedule.now) ≡ true) }
-    ensures stood { (kept : Kept) → Finds (of_schedule schedule.now) (λ row. column row 2 ∷ []) kept.shown rows.items
+    ensures stood { (kept : Kept) → Finds (of_schedule schedule.now) (λ row. column row 2 ∷ column row 0 ∷ []) kept.shown rows.items
         → IfOk result (λ _. cannot_stand_in kept (ShownBy schedule.now) ≡ false) }
     ensures fault { IfErr result (λ fault. fault ≡ BadRow) }
 {
@@ -131,6 +147,22 @@ pub fn shown_by<S: Alter>(
         (state S.Store connection.old) (state S.Store connection.new) result }
 {
     let rows = schedules::find(connection, schedule)?;
+    parsed_shown(schedule, rows)
+}
+
+/// The same, where the number of the schedule's row is noted.
+pub fn shown_noted<S: Alter>(
+    connection: &mut Connection<S>,
+    numbers: &mut RowNumbers,
+    schedule: &Name,
+) -> Result<Option<Option<i64>>, ReadFault>
+    ensures answers { Answers (λ kept it. (it ≡ (tables_in kept).shown schedule.now)
+        × (cannot_stand_in kept (ShownBy schedule.now) ≡ false))
+        (λ kept. cannot_stand_in kept (ShownBy schedule.now) ≡ true)
+        (state S.Store connection.old) (state S.Store connection.new) result }
+{
+    let rows = schedules::find(connection, schedule)?;
+    numbers.note_shown(schedule, &rows);
     parsed_shown(schedule, rows)
 }
 

@@ -16,7 +16,7 @@ ghost use Rattle.store_sql_rows.specs.Stored.{Kept, tables_in};
 
 use points::{Name, PriorityArray};
 use sqlite::{Alter, Connection, Row};
-use store_sql_rows::{ReadFault, count_at, number_at, places};
+use store_sql_rows::{ReadFault, RowNumbers, count_at, number_at, places};
 
 // Puts the value that a row with the cells of a priority and a value says, where that place has none.
 fn place(array: &mut PriorityArray, row: &Row) -> Result<(), ReadFault>
@@ -36,13 +36,13 @@ fn place(array: &mut PriorityArray, row: &Row) -> Result<(), ReadFault>
 // What the answer of the query on the places of a point says.
 fn parsed_array(point: &Name, rows: Vec<Row>) -> Result<PriorityArray, ReadFault>
     ensures value { (kept : Kept)
-        → Finds (λ row. is_text point.now (column row 1)) (λ row. column row 2 ∷ column row 3 ∷ []) kept.place rows.items
+        → Finds (λ row. is_text point.now (column row 1)) (λ row. column row 2 ∷ column row 3 ∷ column row 0 ∷ []) kept.place rows.items
         → IfOk result (λ it. it ≡ (tables_in kept).places point.now) }
     ensures bad { (kept : Kept)
-        → Finds (λ row. is_text point.now (column row 1)) (λ row. column row 2 ∷ column row 3 ∷ []) kept.place rows.items
+        → Finds (λ row. is_text point.now (column row 1)) (λ row. column row 2 ∷ column row 3 ∷ column row 0 ∷ []) kept.place rows.items
         → IfErr result (λ _. cannot_stand_in kept (ArrayOf point.now) ≡ true) }
     ensures stood { (kept : Kept)
-        → Finds (λ row. is_text point.now (column row 1)) (λ row. column row 2 ∷ column row 3 ∷ []) kept.place rows.items
+        → Finds (λ row. is_text point.now (column row 1)) (λ row. column row 2 ∷ column row 3 ∷ column row 0 ∷ []) kept.place rows.items
         → IfOk result (λ _. cannot_stand_in kept (ArrayOf point.now) ≡ false) }
     ensures fault { IfErr result (λ fault. fault ≡ BadRow) }
 {
@@ -66,5 +66,21 @@ pub fn array_of<S: Alter>(
         (state S.Store connection.old) (state S.Store connection.new) result }
 {
     let rows = places::of_point(connection, point)?;
+    parsed_array(point, rows)
+}
+
+/// The same, where the numbers of the rows are noted.
+pub fn array_noted<S: Alter>(
+    connection: &mut Connection<S>,
+    numbers: &mut RowNumbers,
+    point: &Name,
+) -> Result<PriorityArray, ReadFault>
+    ensures answers { Answers (λ kept it. (it ≡ (tables_in kept).places point.now)
+        × (cannot_stand_in kept (ArrayOf point.now) ≡ false))
+        (λ kept. cannot_stand_in kept (ArrayOf point.now) ≡ true)
+        (state S.Store connection.old) (state S.Store connection.new) result }
+{
+    let rows = places::of_point(connection, point)?;
+    numbers.note_places(point, &rows);
     parsed_array(point, rows)
 }

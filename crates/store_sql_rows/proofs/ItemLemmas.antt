@@ -97,11 +97,6 @@ module _ (item : NextNumber) (named : IsName item.panel) (in' : IsNext item) whe
       → Makes (next_put item) a b
   next_found count some a b set = next_set count some a b (found panel_slot (of_panel item.panel) next_cells count a b some set)
 
-  pub next_renewed : (a b c : Kept) → On panel_slot (Loses (of_panel item.panel)) a b → On panel_slot (Gains next_cells) b c
-      → Makes (next_put item) a c
-  next_renewed a b c lost gains =
-      next_from a c (put_on panel_slot (λ x y k. refl) (of_panel item.panel) next_cells a b c lost gains)
-
 module _ (item : PlaceValue) (value : ℤ) (some_value : item.value ≡ Some value) (named : IsName item.point) (in' : IsPlace item) where
   abbrev place_cells : Row
   place_cells = Text item.point ∷ Int (pos item.priority) ∷ Int value ∷ []
@@ -129,10 +124,6 @@ module _ (item : PlaceValue) (value : ℤ) (some_value : item.value ≡ Some val
   pub place_found : (count : ℕ) → count ≢ 0 → (a b : Kept) → On place_slot (RewritesAt place_gone place_cells count) a b
       → Makes (place_put item) a b
   place_found count some a b set = place_set count some a b (found place_slot place_gone place_cells count a b some set)
-
-  pub place_renewed : (a b c : Kept) → On place_slot (Loses place_gone) a b → On place_slot (Gains place_cells) b c
-      → Makes (place_put item) a c
-  place_renewed a b c lost gains = place_from a c (put_on place_slot (λ x y k. refl) place_gone place_cells a b c lost gains)
 
 module _ (a b : Kept) where
   pub rows_lost : (item : RowsBelow) (number : ℕ) → drops_the_same item number
@@ -230,10 +221,6 @@ module _ (item : ShownValue) (value : Option ℤ) (some_value : item.shown ≡ S
   pub shown_found : (count : ℕ) → count ≢ 0 → (a b : Kept) → On shown_slot (RewritesAt shown_gone shown_cells count) a b
       → Makes (shown_put item) a b
   shown_found count some a b set = shown_set count some a b (found shown_slot shown_gone shown_cells count a b some set)
-
-  pub shown_renewed : (a b c : Kept) → On shown_slot (Loses shown_gone) a b → On shown_slot (Gains shown_cells) b c
-      → Makes (shown_put item) a c
-  shown_renewed a b c lost gains = shown_from a c (put_on shown_slot (λ x y k. refl) shown_gone shown_cells a b c lost gains)
 
 module _ (item : ImportedEntry) (text : List ℕ) (is : text ≡ spelling item.entry) (named : IsName item.calendar) (in' : IsEntry item.entry)
   where

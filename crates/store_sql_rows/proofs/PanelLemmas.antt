@@ -17,16 +17,16 @@ use Rattle.sqlite.specs.Effect.{Database}
 use Rattle.sqlite.specs.State.{ExecutesInside, Shown, State}
 use Rattle.store_sql_create.specs.Schema.{column_of, panel_table, panel_tree}
 use Rattle.store_sql_rows.specs.Meanings.{given, passes}
-use Rattle.store_sql_rows.specs.Ours.{Changes, Gains, IsInside, IsOurs, Loses, Rewrites, RewritesAt}
+use Rattle.store_sql_rows.specs.Ours.{Changes, Gains, IsInside, IsOurs, Rewrites, RewritesAt}
 use Rattle.store_sql_rows.specs.Slot.{On, panel_slot}
 use Rattle.store_sql_rows.proofs.CellLemmas.{and_true, cast_int, cast_null, equal_rowid, equal_text}
 use Rattle.store_sql_rows.proofs.KeyLemmas.{one_number, text_is}
 use Rattle.store_sql_rows.proofs.RewriteLemmas.{Aims, rewrites, rewrites_at}
 use Rattle.store_sql_rows.proofs.RestLemmas.{finds, finds_same}
 use Rattle.store_sql_rows.specs.Looking.{Finds}
-use Rattle.store_sql_rows.proofs.SlotLemmas.{gains, is_panel, loses}
+use Rattle.store_sql_rows.proofs.SlotLemmas.{gains, is_panel}
 use Rattle.store_sql_rows.proofs.TypeLemmas.{IsFilled, first_filled, ruled}
-use Rattle.store_sql_rows.proofs.PanelTexts.{add_runs, add_text, cells_set, clear_runs, clear_text, find_runs, find_text, set_at_runs, set_at_text, set_runs, set_text}
+use Rattle.store_sql_rows.proofs.PanelTexts.{add_runs, add_text, cells_set, find_runs, find_text, set_at_runs, set_at_text, set_runs, set_text}
 use Rattle.store_sql_rows.specs.Cells.{is_text}
 use Rattle.store_sql_rows.specs.Rows.{of_panel}
 
@@ -98,22 +98,14 @@ sets_at panel next number old new result inside h =
     (aims panel next (Int number ∷ []) old inside) inside h number
     (λ row h. passes_at old.now inside.ours panel next number row h)
 
-pub clears : (panel : List ℕ) → (old new : State) (result : Result ℕ Error) → IsInside old
-    → ExecutesInside 0 clear_text (Text panel ∷ []) old new result
-    → OnOk result (Changes (On panel_slot (Loses (of_panel panel))) old new)
-clears panel old new result inside h =
-    loses panel_slot is_panel clear_text clear_runs.plain (given 1 0 ∷ []) (of_panel panel) clear_runs.is
-    (λ a b same. ap (λ l. is_text panel (column l 0)) same) old new (Text panel ∷ []) result
-    (λ row h. passes_panel old.now inside.ours panel row h) inside h
-
 -- the queries
 
 pub find_shown : {V : Type 0} (items : V → List Row) (panel : List ℕ) (old new : State) (r : Result V Error) → IsOurs old.now
     → IfOk r (λ v. Shown find_text (Text panel ∷ []) old new (items v))
-    → IfOk r (λ v. Finds (of_panel panel) (λ row. column row 2 ∷ []) (old.now.trees panel_tree) (items v))
+    → IfOk r (λ v. Finds (of_panel panel) (λ row. column row 2 ∷ column row 0 ∷ []) (old.now.trees panel_tree) (items v))
 find_shown items panel old new (Err e) ours shown = tt
 find_shown items panel old new (Ok v) ours shown =
-    finds_same (passes (given 1 0 ∷ []) (Text panel ∷ [])) (of_panel panel) (λ row. column row 2 ∷ []) (old.now.trees panel_tree)
+    finds_same (passes (given 1 0 ∷ []) (Text panel ∷ [])) (of_panel panel) (λ row. column row 2 ∷ column row 0 ∷ []) (old.now.trees panel_tree)
     (items v) (λ row h. passes_panel old.now ours panel row h)
-    (finds find_text find_runs.plain find_runs.unlisted panel_tree (given 1 0 ∷ []) (col 1 2 ∷ []) (codes "next" ∷ []) find_runs.is old new
+    (finds find_text find_runs.plain find_runs.unlisted panel_tree (given 1 0 ∷ []) (col 1 2 ∷ col 1 0 ∷ []) (codes "next" ∷ codes "rowid" ∷ []) find_runs.is old new
     (Text panel ∷ []) (items v) ours.schema_is shown)

@@ -8,7 +8,7 @@ use Rattle.sqlite_sql.specs.Term.{Term, lit, col}
 use Rattle.sqlite.specs.Listing.{understood}
 use Rattle.sqlite_tied.specs.Compute.{everything}
 use Rattle.store_sql_create.specs.Schema.{panel_tree}
-use Rattle.store_sql_rows.specs.Meanings.{compared_with, deletion, given, least, plain_query, selection}
+use Rattle.store_sql_rows.specs.Meanings.{compared_with, given, least, plain_query, selection}
 use Rattle.store_sql_rows.proofs.Texts.{Runs}
 
 abbrev pub add_text : List ℕ
@@ -39,21 +39,13 @@ pub set_at_runs : Runs set_at_text
 unfolding understood everything
 set_at_runs = record { is = refl; plain = (refl, refl); unlisted = refl }
 
-abbrev pub clear_text : List ℕ
-clear_text = codes "DELETE FROM panel WHERE name = ?1"
-
-pub clear_runs : Runs clear_text
-    (deletion 1 panel_tree (given 1 0 ∷ []))
-unfolding understood everything
-clear_runs = record { is = refl; plain = (refl, refl); unlisted = refl }
-
 -- the queries
 
 abbrev pub find_text : List ℕ
-find_text = codes "SELECT next FROM panel WHERE name = ?1"
+find_text = codes "SELECT next, rowid FROM panel WHERE name = ?1"
 
 pub find_runs : Runs find_text
-    (selection panel_tree (given 1 0 ∷ []) (col 1 2 ∷ []) (codes "next" ∷ []))
+    (selection panel_tree (given 1 0 ∷ []) (col 1 2 ∷ col 1 0 ∷ []) (codes "next" ∷ codes "rowid" ∷ []))
 unfolding understood everything
 find_runs = record { is = refl; plain = (refl, refl); unlisted = refl }
 

@@ -149,11 +149,11 @@ passes_point db ours point row h =
 
 pub of_point_shown : {V : Type 0} (items : V → List Row) (point : List ℕ) (old new : State) (r : Result V Error) → IsOurs old.now
     → IfOk r (λ v. Shown of_point_text (Text point ∷ []) old new (items v))
-    → IfOk r (λ v. Finds (λ row. is_text point (column row 1)) (λ row. column row 2 ∷ column row 3 ∷ [])
+    → IfOk r (λ v. Finds (λ row. is_text point (column row 1)) (λ row. column row 2 ∷ column row 3 ∷ column row 0 ∷ [])
     (old.now.trees place_tree) (items v))
 of_point_shown items point old new (Err e) ours shown = tt
 of_point_shown items point old new (Ok v) ours shown =
     finds_same (passes (given 1 0 ∷ []) (Text point ∷ [])) (λ row. is_text point (column row 1))
-    (λ row. column row 2 ∷ column row 3 ∷ []) (old.now.trees place_tree) (items v) (λ row h. passes_point old.now ours point row h)
-    (finds of_point_text of_point_runs.plain of_point_runs.unlisted place_tree (given 1 0 ∷ []) (col 1 2 ∷ col 1 3 ∷ [])
-    (codes "priority" ∷ codes "value" ∷ []) of_point_runs.is old new (Text point ∷ []) (items v) ours.schema_is shown)
+    (λ row. column row 2 ∷ column row 3 ∷ column row 0 ∷ []) (old.now.trees place_tree) (items v) (λ row h. passes_point old.now ours point row h)
+    (finds of_point_text of_point_runs.plain of_point_runs.unlisted place_tree (given 1 0 ∷ []) (col 1 2 ∷ col 1 3 ∷ col 1 0 ∷ [])
+    (codes "priority" ∷ codes "value" ∷ codes "rowid" ∷ []) of_point_runs.is old new (Text point ∷ []) (items v) ours.schema_is shown)

@@ -58,9 +58,9 @@ unfolding understood everything
 next_point_runs = record { is = refl; plain = (refl, refl); unlisted = refl }
 
 abbrev pub of_point_text : List ℕ
-of_point_text = codes "SELECT priority, value FROM place WHERE point = ?1"
+of_point_text = codes "SELECT priority, value, rowid FROM place WHERE point = ?1"
 
 pub of_point_runs : Runs of_point_text
-    (selection place_tree (given 1 0 ∷ []) (col 1 2 ∷ col 1 3 ∷ []) (codes "priority" ∷ codes "value" ∷ []))
+    (selection place_tree (given 1 0 ∷ []) (col 1 2 ∷ col 1 3 ∷ col 1 0 ∷ []) (codes "priority" ∷ codes "value" ∷ codes "rowid" ∷ []))
 unfolding understood everything
 of_point_runs = record { is = refl; plain = (refl, refl); unlisted = refl }

@@ -113,10 +113,10 @@ sets_at schedule value number old new result inside h =
 
 pub find_shown : {V : Type 0} (items : V → List Row) (schedule : List ℕ) (old new : State) (r : Result V Error) → IsOurs old.now
     → IfOk r (λ v. Shown find_text (Text schedule ∷ []) old new (items v))
-    → IfOk r (λ v. Finds (of_schedule schedule) (λ row. column row 2 ∷ []) (old.now.trees shown_tree) (items v))
+    → IfOk r (λ v. Finds (of_schedule schedule) (λ row. column row 2 ∷ column row 0 ∷ []) (old.now.trees shown_tree) (items v))
 find_shown items schedule old new (Err e) ours shown = tt
 find_shown items schedule old new (Ok v) ours shown =
-    finds_same (passes (given 1 0 ∷ []) (Text schedule ∷ [])) (of_schedule schedule) (λ row. column row 2 ∷ [])
+    finds_same (passes (given 1 0 ∷ []) (Text schedule ∷ [])) (of_schedule schedule) (λ row. column row 2 ∷ column row 0 ∷ [])
     (old.now.trees shown_tree) (items v) (λ row h. passes_shown old.now ours schedule row h)
-    (finds find_text find_runs.plain find_runs.unlisted shown_tree (given 1 0 ∷ []) (col 1 2 ∷ []) (codes "value" ∷ []) find_runs.is old new
+    (finds find_text find_runs.plain find_runs.unlisted shown_tree (given 1 0 ∷ []) (col 1 2 ∷ col 1 0 ∷ []) (codes "value" ∷ codes "rowid" ∷ []) find_runs.is old new
     (Text schedule ∷ []) (items v) ours.schema_is shown)

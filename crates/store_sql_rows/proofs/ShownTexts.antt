@@ -50,10 +50,10 @@ set_at_runs = record { is = refl; plain = (refl, refl); unlisted = refl }
 -- the queries
 
 abbrev pub find_text : List ℕ
-find_text = codes "SELECT value FROM shown WHERE schedule = ?1"
+find_text = codes "SELECT value, rowid FROM shown WHERE schedule = ?1"
 
 pub find_runs : Runs find_text
-    (selection shown_tree (given 1 0 ∷ []) (col 1 2 ∷ []) (codes "value" ∷ []))
+    (selection shown_tree (given 1 0 ∷ []) (col 1 2 ∷ col 1 0 ∷ []) (codes "value" ∷ codes "rowid" ∷ []))
 unfolding understood everything
 find_runs = record { is = refl; plain = (refl, refl); unlisted = refl }
 

@@ -3,56 +3,31 @@ ghost use Rattle.store.specs.Change.{IsNext};
 ghost use Rattle.store_sql_rows.specs.Steps.{Moves, Turns, next_put};
 
 use crate::panels;
-use crate::row_numbers::{RowNumber, RowNumbers, note};
+use crate::row_numbers::{RowNumbers, note};
 use sqlite::{Alter, Error, Transaction};
 use store::NextNumber;
 
 // Puts it by its key.
-fn set<S: Alter>(transaction: &mut Transaction<'_, S>, item: &NextNumber) -> Result<(), Error>
+fn set<S: Alter>(
+    transaction: &mut Transaction<'_, S>,
+    numbers: &mut RowNumbers,
+    item: &NextNumber,
+) -> Result<(), Error>
     requires { IsNext item.now }
     ensures moves { Moves S.Store (Turns (next_put item.now)) transaction.old.conn transaction.new.conn result }
 {
     let _name = item.panel.as_str();
     if panels::set(transaction, &item.panel, item.next)? == 0 {
         panels::add(transaction, &item.panel, item.next)?;
+        let row = transaction.last_insert_rowid();
+        note(&mut numbers.nexts, item.panel, row);
+        return Ok(());
     }
+    let _wrong = numbers.nexts.remove(&item.panel);
     Ok(())
 }
 
-// Puts it in place of the one that stands there, and answers the number of its row.
-fn renew<S: Alter>(
-    transaction: &mut Transaction<'_, S>,
-    item: &NextNumber,
-) -> Result<RowNumber, Error>
-    requires { IsNext item.now }
-    ensures moves { Moves S.Store (Turns (next_put item.now)) transaction.old.conn transaction.new.conn result }
-{
-    let _name = item.panel.as_str();
-    panels::clear(transaction, &item.panel)?;
-    panels::add(transaction, &item.panel, item.next)?;
-    Ok(RowNumber::Was(transaction.last_insert_rowid()))
-}
-
-// Puts it by the number of its row, as far as that is known, and answers what is known of it now.
-fn set_again<S: Alter>(
-    transaction: &mut Transaction<'_, S>,
-    item: &NextNumber,
-    known: RowNumber,
-) -> Result<RowNumber, Error>
-    requires { IsNext item.now }
-    ensures moves { Moves S.Store (Turns (next_put item.now)) transaction.old.conn transaction.new.conn result }
-{
-    let _name = item.panel.as_str();
-    let RowNumber::Was(row) = known else {
-        return renew(transaction, item);
-    };
-    if panels::set_at(transaction, row, &item.panel, item.next)? == 0 {
-        return renew(transaction, item);
-    }
-    Ok(known)
-}
-
-/// Puts the next number of a panel.
+/// Puts the next number of a panel: by the number of its row, where that is known and right.
 pub fn put_next<S: Alter>(
     transaction: &mut Transaction<'_, S>,
     numbers: &mut RowNumbers,
@@ -61,11 +36,12 @@ pub fn put_next<S: Alter>(
     requires { IsNext item.now }
     ensures moves { Moves S.Store (Turns (next_put item.now)) transaction.old.conn transaction.new.conn result }
 {
-    if let Some(known) = numbers.nexts.get_mut(&item.panel) {
-        *known = set_again(transaction, item, *known)?;
-        return Ok(());
+    let _name = item.panel.as_str();
+    let Some(row) = numbers.nexts.get(&item.panel).copied() else {
+        return set(transaction, numbers, item);
+    };
+    if panels::set_at(transaction, row, &item.panel, item.next)? == 0 {
+        return set(transaction, numbers, item);
     }
-    set(transaction, item)?;
-    note(&mut numbers.nexts, item.panel);
     Ok(())
 }

@@ -4,7 +4,7 @@ ghost use Rattle.sqlite.specs.Held.{state};
 ghost use Rattle.sqlite_value.specs.declared.value.Value.TheVariants.{Int, Text};
 ghost use Rattle.sqlite_value.specs.Order.{column};
 ghost use Rattle.store_sql_rows.specs.Looking.{Finds, FindsLeast, Reads, is_from_text};
-ghost use Rattle.store_sql_rows.specs.Ours.{Changes, Gains, Loses, Rewrites, RewritesAt};
+ghost use Rattle.store_sql_rows.specs.Ours.{Changes, Gains, Rewrites, RewritesAt};
 ghost use Rattle.store_sql_rows.specs.Slot.{On, panel_slot};
 ghost use Rattle.store_sql_rows.specs.Steps.{Moves, MovesBy};
 ghost use Rattle.store_sql_rows.specs.Rows.{of_panel};
@@ -67,28 +67,16 @@ pub fn set_at<S: Alter>(
     )
 }
 
-/// Removes the next number of a panel.
-pub fn clear<S: Alter>(transaction: &mut Transaction<'_, S>, panel: &Name) -> Result<usize, Error>
-    ensures moves { Moves S.Store (Changes (On panel_slot (Loses (of_panel panel.now))))
-        transaction.old.conn transaction.new.conn result }
-{
-    run(
-        transaction,
-        "DELETE FROM panel WHERE name = ?1",
-        &[text(panel)],
-    )
-}
-
 // ---- what is read
 
-/// The cell `next` of a panel.
+/// The cell `next` of a panel, and the number of its row.
 pub fn find<S: Alter>(connection: &mut Connection<S>, panel: &Name) -> Result<Vec<Row>, Error>
-    ensures reads { Reads (λ kept rows. Finds (of_panel panel.now) (λ row. column row 2 ∷ []) kept.panel rows.items)
+    ensures reads { Reads (λ kept rows. Finds (of_panel panel.now) (λ row. column row 2 ∷ column row 0 ∷ []) kept.panel rows.items)
         (state S.Store connection.old) (state S.Store connection.new) result }
 {
     ask(
         connection,
-        "SELECT next FROM panel WHERE name = ?1",
+        "SELECT next, rowid FROM panel WHERE name = ?1",
         &[text(panel)],
     )
 }

@@ -4,13 +4,14 @@ ghost use Rattle.store.specs.Change.{IsPlace};
 ghost use Rattle.store_sql_rows.specs.Steps.{Moves, Turns, place_put};
 
 use crate::places;
-use crate::row_numbers::{RowNumber, RowNumbers, note};
+use crate::row_numbers::{RowNumbers, note};
 use sqlite::{Alter, Error, Transaction};
 use store::PlaceValue;
 
-// Puts it by its key.
+// Puts a value by its key.
 fn set<S: Alter>(
     transaction: &mut Transaction<'_, S>,
+    numbers: &mut RowNumbers,
     item: &PlaceValue,
     value: i64,
 ) -> Result<(), Error>
@@ -21,48 +22,15 @@ fn set<S: Alter>(
     let _name = item.point.as_str();
     if places::set(transaction, &item.point, item.priority, value)? == 0 {
         places::add(transaction, &item.point, item.priority, value)?;
+        let row = transaction.last_insert_rowid();
+        note(&mut numbers.places, (item.point, item.priority), row);
+        return Ok(());
     }
+    let _wrong = numbers.places.remove(&(item.point, item.priority));
     Ok(())
 }
 
-// Puts it in place of the one that stands there, and answers the number of its row.
-fn renew<S: Alter>(
-    transaction: &mut Transaction<'_, S>,
-    item: &PlaceValue,
-    value: i64,
-) -> Result<RowNumber, Error>
-    requires place { IsPlace item.now }
-    requires value { item.now.value ≡ Some value }
-    ensures moves { Moves S.Store (Turns (place_put item.now)) transaction.old.conn transaction.new.conn result }
-{
-    let _name = item.point.as_str();
-    places::clear(transaction, &item.point, item.priority)?;
-    places::add(transaction, &item.point, item.priority, value)?;
-    Ok(RowNumber::Was(transaction.last_insert_rowid()))
-}
-
-// Puts it by the number of its row, as far as that is known, and answers what is known of it now.
-fn set_again<S: Alter>(
-    transaction: &mut Transaction<'_, S>,
-    item: &PlaceValue,
-    value: i64,
-    known: RowNumber,
-) -> Result<RowNumber, Error>
-    requires place { IsPlace item.now }
-    requires value { item.now.value ≡ Some value }
-    ensures moves { Moves S.Store (Turns (place_put item.now)) transaction.old.conn transaction.new.conn result }
-{
-    let _name = item.point.as_str();
-    let RowNumber::Was(row) = known else {
-        return renew(transaction, item, value);
-    };
-    if places::set_at(transaction, row, &item.point, item.priority, value)? == 0 {
-        return renew(transaction, item, value);
-    }
-    Ok(known)
-}
-
-// Puts a value, by the number of its row where that is known.
+// Puts a value, by the number of its row where that is known and right.
 fn put_value<S: Alter>(
     transaction: &mut Transaction<'_, S>,
     numbers: &mut RowNumbers,
@@ -73,17 +41,18 @@ fn put_value<S: Alter>(
     requires value { item.now.value ≡ Some value }
     ensures moves { Moves S.Store (Turns (place_put item.now)) transaction.old.conn transaction.new.conn result }
 {
+    let _name = item.point.as_str();
     let key = (item.point, item.priority);
-    if let Some(known) = numbers.places.get_mut(&key) {
-        *known = set_again(transaction, item, value, *known)?;
-        return Ok(());
+    let Some(row) = numbers.places.get(&key).copied() else {
+        return set(transaction, numbers, item, value);
+    };
+    if places::set_at(transaction, row, &item.point, item.priority, value)? == 0 {
+        return set(transaction, numbers, item, value);
     }
-    set(transaction, item, value)?;
-    note(&mut numbers.places, key);
     Ok(())
 }
 
-/// Puts a value into a place, or takes it out.
+/// Puts a value into a place, or takes it out: by the number of its row, where that is known and right.
 pub fn put_place<S: Alter>(
     transaction: &mut Transaction<'_, S>,
     numbers: &mut RowNumbers,
@@ -96,6 +65,6 @@ pub fn put_place<S: Alter>(
         return put_value(transaction, numbers, item, value);
     }
     places::clear(transaction, &item.point, item.priority)?;
-    note(&mut numbers.places, (item.point, item.priority));
+    let _gone = numbers.places.remove(&(item.point, item.priority));
     Ok(())
 }

@@ -105,15 +105,15 @@ pub fn next_point<S: Alter>(connection: &mut Connection<S>, from: &str) -> Resul
     )
 }
 
-/// The cells `priority` and `value` of the places of a point.
+/// The cells `priority` and `value` of the places of a point, and the numbers of their rows.
 pub fn of_point<S: Alter>(connection: &mut Connection<S>, point: &Name) -> Result<Vec<Row>, Error>
     ensures reads { Reads (λ kept rows. Finds (λ row. is_text point.now (column row 1))
-        (λ row. column row 2 ∷ column row 3 ∷ []) kept.place rows.items)
+        (λ row. column row 2 ∷ column row 3 ∷ column row 0 ∷ []) kept.place rows.items)
         (state S.Store connection.old) (state S.Store connection.new) result }
 {
     ask(
         connection,
-        "SELECT priority, value FROM place WHERE point = ?1",
+        "SELECT priority, value, rowid FROM place WHERE point = ?1",
         &[text(point)],
     )
 }

@@ -84,14 +84,14 @@ pub fn set_at<S: Alter>(
 
 // ---- what is read
 
-/// The cell `value` of a schedule.
+/// The cell `value` of a schedule, and the number of its row.
 pub fn find<S: Alter>(connection: &mut Connection<S>, schedule: &Name) -> Result<Vec<Row>, Error>
-    ensures reads { Reads (λ kept rows. Finds (of_schedule schedule.now) (λ row. column row 2 ∷ []) kept.shown rows.items)
+    ensures reads { Reads (λ kept rows. Finds (of_schedule schedule.now) (λ row. column row 2 ∷ column row 0 ∷ []) kept.shown rows.items)
         (state S.Store connection.old) (state S.Store connection.new) result }
 {
     ask(
         connection,
-        "SELECT value FROM shown WHERE schedule = ?1",
+        "SELECT value, rowid FROM shown WHERE schedule = ?1",
         &[text(schedule)],
     )
 }

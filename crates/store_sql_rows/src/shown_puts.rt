@@ -2,7 +2,7 @@
 ghost use Rattle.std.specs.Prelude.{◌≡◌, Some};
 ghost use Rattle.store_sql_rows.specs.Steps.{Moves, Turns, shown_put};
 
-use crate::row_numbers::{RowNumber, RowNumbers, note};
+use crate::row_numbers::{RowNumbers, note};
 use crate::schedules;
 use sqlite::{Alter, Error, Transaction};
 use store::ShownValue;
@@ -10,6 +10,7 @@ use store::ShownValue;
 // Puts it by its key.
 fn set<S: Alter>(
     transaction: &mut Transaction<'_, S>,
+    numbers: &mut RowNumbers,
     item: &ShownValue,
     value: Option<i64>,
 ) -> Result<(), Error>
@@ -19,46 +20,15 @@ fn set<S: Alter>(
     let _name = item.schedule.as_str();
     if schedules::set(transaction, &item.schedule, value)? == 0 {
         schedules::add(transaction, &item.schedule, value)?;
+        let row = transaction.last_insert_rowid();
+        note(&mut numbers.shown, item.schedule, row);
+        return Ok(());
     }
+    let _wrong = numbers.shown.remove(&item.schedule);
     Ok(())
 }
 
-// Puts it in place of what stands there, and answers the number of its row.
-fn renew<S: Alter>(
-    transaction: &mut Transaction<'_, S>,
-    item: &ShownValue,
-    value: Option<i64>,
-) -> Result<RowNumber, Error>
-    requires { item.now.shown ≡ Some value }
-    ensures moves { Moves S.Store (Turns (shown_put item.now)) transaction.old.conn transaction.new.conn result }
-{
-    let _name = item.schedule.as_str();
-    schedules::clear(transaction, &item.schedule)?;
-    schedules::add(transaction, &item.schedule, value)?;
-    Ok(RowNumber::Was(transaction.last_insert_rowid()))
-}
-
-// Puts it by the number of its row, as far as that is known, and answers what is known of it now.
-fn set_again<S: Alter>(
-    transaction: &mut Transaction<'_, S>,
-    item: &ShownValue,
-    value: Option<i64>,
-    known: RowNumber,
-) -> Result<RowNumber, Error>
-    requires { item.now.shown ≡ Some value }
-    ensures moves { Moves S.Store (Turns (shown_put item.now)) transaction.old.conn transaction.new.conn result }
-{
-    let _name = item.schedule.as_str();
-    let RowNumber::Was(row) = known else {
-        return renew(transaction, item, value);
-    };
-    if schedules::set_at(transaction, row, &item.schedule, value)? == 0 {
-        return renew(transaction, item, value);
-    }
-    Ok(known)
-}
-
-// Puts a value that is shown, by the number of its row where that is known.
+// Puts a value that is shown, by the number of its row where that is known and right.
 fn put_value<S: Alter>(
     transaction: &mut Transaction<'_, S>,
     numbers: &mut RowNumbers,
@@ -68,16 +38,17 @@ fn put_value<S: Alter>(
     requires { item.now.shown ≡ Some value }
     ensures moves { Moves S.Store (Turns (shown_put item.now)) transaction.old.conn transaction.new.conn result }
 {
-    if let Some(known) = numbers.shown.get_mut(&item.schedule) {
-        *known = set_again(transaction, item, value, *known)?;
-        return Ok(());
+    let _name = item.schedule.as_str();
+    let Some(row) = numbers.shown.get(&item.schedule).copied() else {
+        return set(transaction, numbers, item, value);
+    };
+    if schedules::set_at(transaction, row, &item.schedule, value)? == 0 {
+        return set(transaction, numbers, item, value);
     }
-    set(transaction, item, value)?;
-    note(&mut numbers.shown, item.schedule);
     Ok(())
 }
 
-/// Puts what a schedule shows, or takes it out.
+/// Puts what a schedule shows, or takes it out: by the number of its row, where that is known and right.
 pub fn put_shown<S: Alter>(
     transaction: &mut Transaction<'_, S>,
     numbers: &mut RowNumbers,
@@ -89,6 +60,6 @@ pub fn put_shown<S: Alter>(
         return put_value(transaction, numbers, item, value);
     }
     schedules::clear(transaction, &item.schedule)?;
-    note(&mut numbers.shown, item.schedule);
+    let _gone = numbers.shown.remove(&item.schedule);
     Ok(())
 }

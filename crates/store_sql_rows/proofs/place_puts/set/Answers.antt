@@ -4,8 +4,8 @@ use Rattle.store_sql_rows.proofs.StepLemmas.{one_statement, two_statements}
 use Rattle.store_sql_rows.proofs.ItemLemmas.{place_added, place_set}
 use Rattle.store_sql_rows.proofs.place_puts.set.Goals as goal
 
-pub returns-in_ok-add : goal.returns-in_ok-add
-returns-in_ok-add g c =
+pub returns-then-branch-eq0 : goal.returns-then-branch-eq0
+returns-then-branch-eq0 g c =
     let whole : to_z w64 (of_z w64 c.args.value) ≡ c.args.value = search rules in
     record {
       moves = two_statements _ _ _ _
@@ -14,8 +14,8 @@ returns-in_ok-add g c =
           c.in_ok-set.field-0 c.if-branch-eq0.true);
     }
 
-pub returns-else-branch-eq0 : goal.returns-else-branch-eq0
-returns-else-branch-eq0 g c =
+pub returns : goal.returns
+returns g c =
     let whole : to_z w64 (of_z w64 c.args.value) ≡ c.args.value = search rules in
     record {
       moves = one_statement _ _ _

@@ -3,7 +3,7 @@ use Rattle.std.specs.Int.{cast_signed as to_z, cast_unsigned as of_z}
 use Rattle.store_sql_rows.specs.Steps.{place_put}
 use Rattle.store_sql_rows.proofs.StepLemmas.{one_statement, turns_then}
 use Rattle.store_sql_rows.proofs.ItemLemmas.{place_found, place_missed}
-use Rattle.store_sql_rows.proofs.place_puts.set_again.Goals as goal
+use Rattle.store_sql_rows.proofs.place_puts.put_value.Goals as goal
 
 pub returns-then-branch-eq0 : goal.returns-then-branch-eq0
 returns-then-branch-eq0 g c =
@@ -11,7 +11,7 @@ returns-then-branch-eq0 g c =
       moves = turns_then (λ t. t) (place_put c.args.item.now) (place_put c.args.item.now) (λ t. refl)
           (one_statement _ _ c.in_ok-set_at.field-0 c.in_ok-set_at.ensures.moves
           (place_missed _ _ c.in_ok-set_at.field-0 c.if-branch-eq0.true))
-          c.renew-then-branch-eq0.ensures.moves;
+          c.set-then-branch-eq0.ensures.moves;
     }
 
 pub returns : goal.returns
@@ -20,6 +20,5 @@ returns g c =
     record {
       moves = one_statement _ _ _
           (rw whole at c.in_ok-set_at.ensures.moves)
-          (place_found c.args.item.now c.args.value c.requires.value c.as_str-name.ensures.is_name c.requires.place
-          c.in_ok-set_at.field-0 c.if-branch-eq0.false);
+          (place_found c.args.item.now c.args.value c.requires.value c.as_str-name.ensures.is_name c.requires.place c.in_ok-set_at.field-0 c.if-branch-eq0.false);
     }
