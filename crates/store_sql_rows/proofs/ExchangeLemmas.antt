@@ -1,7 +1,6 @@
 -- What an UPDATE that gives a row another key makes of one of the keyed tables.
 use Rattle.std.proofs.Common.{◌≡◌, inl, inr, ℕ, Bool, true, false, not, List, drop, length, [], ◌∷◌, filter, map, Ok, Err, Result, refl, sym, ap, subst, subst₂, ◌∙◌, IfOk, IsTrue, true≢false}
 use Rattle.std.proofs.lemmas.Bool.{and_parts}
-use Rattle.std.proofs.lemmas.List.Sorted.{IsPermutation-map}
 use Rattle.std.specs.List.Sorted.{IsPermutation}
 use Rattle.sqlite_value.specs.declared.value.Value.{Value}
 use Rattle.sqlite_value.specs.Order.{Row, column}
@@ -10,9 +9,8 @@ use Rattle.sqlite_sql.specs.Term.{Term, col}
 use Rattle.sqlite_rules.specs.declared.error.Rowids.TheVariants.{Given}
 use Rattle.sqlite_rules.specs.Calls.{ids_of}
 use Rattle.sqlite_rules.specs.Cast.{cast_row}
-use Rattle.sqlite_rules.specs.Edit.{are_fresh, edit_of, id_in, is_taken, put_all, without_all}
+use Rattle.sqlite_rules.specs.Edit.{are_fresh, edit_of, is_taken, put_all, without_all}
 use Rattle.sqlite_rules.specs.Lists.{Has}
-use Rattle.sqlite_rules.proofs.ListLemmas.{has_filtered}
 use Rattle.sqlite_rules.proofs.PlaceLemmas.{given as numbered_given}
 use Rattle.sqlite_rules.proofs.ProbeLemmas.{has_mapped}
 use Rattle.sqlite_rules.proofs.TableLemmas.{has_put, put_all_adds}
@@ -29,8 +27,8 @@ use Rattle.store_sql_rows.specs.Meanings.{passes, plain_query, shows}
 use Rattle.store_sql_rows.specs.Ours.{AreOwn, Changes, Exchanges, HasOneMore, IsInside, IsOurs}
 use Rattle.store_sql_rows.specs.Slot.{On, Slot}
 use Rattle.store_sql_rows.proofs.AddLemmas.{none_of_key}
-use Rattle.store_sql_rows.proofs.AnswerLemmas.{map_map}
-use Rattle.store_sql_rows.proofs.RowLemmas.{deleted, filter_same, has_permuted, own_filtered, own_put, put_apart, tied_taken}
+use Rattle.store_sql_rows.proofs.RowLemmas.{filter_same, own_filtered, own_put, put_apart, tied_taken}
+use Rattle.store_sql_rows.proofs.PickedLemmas.{origin, taken_out}
 use Rattle.store_sql_rows.proofs.SlotLemmas.{IsSlot, changed, not_true, own_rows}
 use Rattle.store_sql_rows.proofs.WriteLemmas.{Ran, updates}
 
@@ -70,31 +68,22 @@ module _ (slot : Slot) (is_slot : IsSlot slot) (sql : List ℕ) (plain : IsPlain
   abbrev cast : Row → Row
   cast r = cast_row slot.table (drop 1 r)
 
-  -- the rows that pass are taken out by their numbers
-  taken_out : (answer : List Row) → IsPermutation (map show (filter gone rows)) answer → without_all rows (ids_of answer) ≡ others
-  taken_out answer picked =
-      let own = own_rows slot is_slot sql plain old inside in
-      let number = λ (r : Row). rowid r ∷ [] in
-      let outcome =
-      subst (λ l. IsPermutation l (map number answer)) (map_map number show (filter gone rows))
-      (IsPermutation-map number (map show (filter gone rows)) answer picked) in
-      ap (without_all rows) (sym (map_map (λ r. id_in (rowid r)) number answer))
-      ∙ deleted gone rows (map number answer) own.numbered (λ a b ha hb tied. it.by_key a b (own.apart a b ha hb tied)) outcome
+  tied : (a b : Row) → Has rows a → Has rows b → rowid a ≡ rowid b → gone a ≡ gone b
+  tied a b ha hb same = it.by_key a b ((own_rows slot is_slot sql plain old inside).apart a b ha hb same)
 
-  -- what an answer's row is put in for
-  origin : (answer : List Row) (a : Row) → IsPermutation (map show (filter gone rows)) answer → Has answer a
-      → (row : Row) × Has rows row × (cast a ≡ rowid row ∷ cells)
-  origin answer a picked h =
-      let from = has_mapped show (filter gone rows) a (has_permuted (map show (filter gone rows)) answer a picked h) in
-      let row = has_filtered gone rows from.0 from.1 in
-      (from.0, row.0, ap cast from.2 ∙ it.made from.0 row.0 row.1)
+  left_of : (answer : List Row) → IsPermutation (map show (filter gone rows)) answer → without_all rows (ids_of answer) ≡ others
+  left_of answer picked = taken_out slot is_slot sql plain gone set params cells old inside answer picked tied
+
+  from_of : (answer : List Row) (a : Row) → IsPermutation (map show (filter gone rows)) answer → Has answer a
+      → (row : Row) × Has rows row × (gone row ≡ true) × (cast a ≡ rowid row ∷ cells)
+  from_of answer a picked = origin slot is_slot sql plain gone set params cells old inside answer picked it.made a
 
   numbered : (answer : List Row) → IsPermutation (map show (filter gone rows)) answer → (row : Row) → Has (map cast answer) row
       → IsTrue (is_int (rowid row))
   numbered answer picked row h =
       let from = has_mapped cast answer row h in
-      let was = origin answer from.0 picked from.1 in
-      subst (λ (r : Row). IsTrue (is_int (rowid r))) (sym (from.2 ∙ was.2))
+      let was = from_of answer from.0 picked from.1 in
+      subst (λ (r : Row). IsTrue (is_int (rowid r))) (sym (from.2 ∙ was.3))
       ((own_rows slot is_slot sql plain old inside).numbered was.0 was.1)
 
   -- what was put in, and that the rows are ours still
@@ -106,7 +95,7 @@ module _ (slot : Slot) (is_slot : IsSlot slot) (sql : List ℕ) (plain : IsPlain
   became : (answer : List Row) → IsPermutation (map show (filter gone rows)) answer
       → Ran old new (edit_of old.now.trees slot.table (ids_of answer) Given 1 answer) → Became answer
   became answer picked ran =
-      let left = taken_out answer picked in
+      let left = left_of answer picked in
       let news = numbered_given (without_all rows (ids_of answer)) (map cast answer) in
       let fresh = subst₂ (λ l n. are_fresh l n ≡ true) left news ran.applies.fresh in
       let is : now ≡ put_all others (map cast answer) =
@@ -138,16 +127,16 @@ module _ (slot : Slot) (is_slot : IsSlot slot) (sql : List ℕ) (plain : IsPlain
       → Changes (On slot (Exchanges gone key cells count)) old new
   exchanged count [] picked counted ran =
       let all = became [] picked ran in
-      let left = taken_out [] picked in
+      let left = left_of [] picked in
       subst (λ n. Changes (On slot (Exchanges gone key cells n)) old new) (sym counted)
       (so_far (Exchanges gone key cells 0) all.whole (left, all.is ∙ sym left))
   exchanged count (a ∷ []) picked counted ran =
       let all = became (a ∷ []) picked ran in
-      let from = origin (a ∷ []) a picked (inl refl) in
+      let from = from_of (a ∷ []) a picked (inl refl) in
       let row = rowid from.0 ∷ cells in
       let free : is_taken others row ≡ false =
-      subst (λ r. is_taken others r ≡ false) from.2 (not_true _ (and_parts _ _ all.fresh).0) in
-      let is : now ≡ put_row row others = all.is ∙ ap (λ r. put_row r others) from.2 in
+      subst (λ r. is_taken others r ≡ false) from.3 (not_true _ (and_parts _ _ all.fresh).0) in
+      let is : now ≡ put_row row others = all.is ∙ ap (λ r. put_row r others) from.3 in
       let more = subst (HasOneMore row others) (sym is) (put_apart row others free) in
       let none = none_of_key key row others now more free (it.own (rowid from.0)) (it.one new.now all.whole.ours) in
       subst (λ n. Changes (On slot (Exchanges gone key cells n)) old new) (sym counted)
@@ -156,18 +145,18 @@ module _ (slot : Slot) (is_slot : IsSlot slot) (sql : List ℕ) (plain : IsPlain
   exchanged count (a ∷ b ∷ more) picked counted ran =
       let answer = a ∷ b ∷ more in
       let all = became answer picked ran in
-      let first = origin answer a picked (inl refl) in
-      let second = origin answer b picked (inr (inl refl)) in
+      let first = from_of answer a picked (inl refl) in
+      let second = from_of answer b picked (inr (inl refl)) in
       let one = rowid first.0 ∷ cells in
       let other = rowid second.0 ∷ cells in
       let here : (r : Row) → Has (map cast answer) r → Has now r =
       λ r h. subst (λ l. Has l r) (sym all.is) (put_all_adds (map cast answer) others r all.fresh h) in
       let same =
       it.one new.now all.whole.ours one other
-      (here one (inl (sym first.2))) (here other (inr (inl (sym second.2))))
+      (here one (inl (sym first.3))) (here other (inr (inl (sym second.3))))
       (it.own (rowid first.0)) (it.own (rowid second.0)) in
       let later : is_taken (put_row (cast a) others) (cast b) ≡ false = not_true _ (and_parts _ _ (and_parts _ _ all.fresh).1).0 in
-      let free = subst₂ (λ x y. is_taken (put_row x others) y ≡ false) first.2 second.2 later in
+      let free = subst₂ (λ x y. is_taken (put_row x others) y ≡ false) first.3 second.3 later in
       let taken = tied_taken other (put_row one others) one (has_put one others) same in
       absurd (true≢false (sym taken ∙ free))
 

@@ -60,17 +60,17 @@ makes_from : (f : Tables → Tables) (a b c : Kept) → c ≡ b → (tables_in b
 makes_from f a b c is both = subst (Makes f a) (sym is) (record { tables = both.0; is_sound = both.1; stands = both.2 })
 
 -- the same where it was found by its number
-found : (slot : Slot) (gone : Row → Bool) (cells : Row) (count : ℕ) (a b : Kept) → count ≢ 0 → On slot (RewritesAt gone cells count) a b
-    → On slot (Rewrites gone cells count) a b
-found slot gone cells zero a b some set = absurd (some refl)
-found slot gone cells (suc more) a b some set = record { others = set.others; rows = set.rows }
+found : (slot : Slot) (number : ℤ) (gone : Row → Bool) (cells : Row) (count : ℕ) (a b : Kept) → count ≢ 0
+    → On slot (RewritesAt number gone cells count) a b → On slot (Rewrites gone cells count) a b
+found slot number gone cells zero a b some set = absurd (some refl)
+found slot number gone cells (suc more) a b some set = record { others = set.others; rows = set.rows.3 }
 
 -- where none was found, all is as it was
-missed : (slot : Slot) → ((k : Kept) → slot.set (slot.get k) k ≡ k) → (gone : Row → Bool) (cells : Row) (count : ℕ) (a b : Kept) → count ≡ 0
-    → On slot (RewritesAt gone cells count) a b → Makes (λ tables. tables) a b
-missed slot law gone cells count a b none set =
-    let rows = subst (λ n. RewritesAt gone cells n (slot.get a) (slot.get b)) none set.rows in
-    makes_from (λ tables. tables) a a b (set.others ∙ ap (λ l. slot.set l a) rows ∙ law a) (refl, λ sound. sound, λ asked stood. stood)
+missed : (slot : Slot) → ((k : Kept) → slot.set (slot.get k) k ≡ k) → (number : ℤ) (gone : Row → Bool) (cells : Row) (count : ℕ) (a b : Kept)
+    → count ≡ 0 → On slot (RewritesAt number gone cells count) a b → Makes (λ tables. tables) a b
+missed slot law number gone cells count a b none set =
+    let rows = subst (λ n. RewritesAt number gone cells n (slot.get a) (slot.get b)) none set.rows in
+    makes_from (λ tables. tables) a a b (set.others ∙ ap (λ l. slot.set l a) rows.1 ∙ law a) (refl, λ sound. sound, λ asked stood. stood)
 
 -- the items that an UPDATE put, or else an INSERT
 module _ (item : NextNumber) (named : IsName item.panel) (in' : IsNext item) where
@@ -93,9 +93,9 @@ module _ (item : NextNumber) (named : IsName item.panel) (in' : IsNext item) whe
       (none_lost panel_slot (of_panel item.panel) next_cells count a b none set) gains)
 
   -- by the number of its row
-  pub next_found : (count : ℕ) → count ≢ 0 → (a b : Kept) → On panel_slot (RewritesAt (of_panel item.panel) next_cells count) a b
+  pub next_found : (number : ℤ) (count : ℕ) → count ≢ 0 → (a b : Kept) → On panel_slot (RewritesAt number (of_panel item.panel) next_cells count) a b
       → Makes (next_put item) a b
-  next_found count some a b set = next_set count some a b (found panel_slot (of_panel item.panel) next_cells count a b some set)
+  next_found number count some a b set = next_set count some a b (found panel_slot number (of_panel item.panel) next_cells count a b some set)
 
 module _ (item : PlaceValue) (value : ℤ) (some_value : item.value ≡ Some value) (named : IsName item.point) (in' : IsPlace item) where
   abbrev place_cells : Row
@@ -121,9 +121,9 @@ module _ (item : PlaceValue) (value : ℤ) (some_value : item.value ≡ Some val
       (none_lost place_slot place_gone place_cells count a b none set) gains)
 
   -- by the number of its row
-  pub place_found : (count : ℕ) → count ≢ 0 → (a b : Kept) → On place_slot (RewritesAt place_gone place_cells count) a b
+  pub place_found : (number : ℤ) (count : ℕ) → count ≢ 0 → (a b : Kept) → On place_slot (RewritesAt number place_gone place_cells count) a b
       → Makes (place_put item) a b
-  place_found count some a b set = place_set count some a b (found place_slot place_gone place_cells count a b some set)
+  place_found number count some a b set = place_set count some a b (found place_slot number place_gone place_cells count a b some set)
 
 module _ (a b : Kept) where
   pub rows_lost : (item : RowsBelow) (number : ℕ) → drops_the_same item number
@@ -218,9 +218,9 @@ module _ (item : ShownValue) (value : Option ℤ) (some_value : item.shown ≡ S
       (none_lost shown_slot shown_gone shown_cells count a b none set) gains)
 
   -- by the number of its row
-  pub shown_found : (count : ℕ) → count ≢ 0 → (a b : Kept) → On shown_slot (RewritesAt shown_gone shown_cells count) a b
+  pub shown_found : (number : ℤ) (count : ℕ) → count ≢ 0 → (a b : Kept) → On shown_slot (RewritesAt number shown_gone shown_cells count) a b
       → Makes (shown_put item) a b
-  shown_found count some a b set = shown_set count some a b (found shown_slot shown_gone shown_cells count a b some set)
+  shown_found number count some a b set = shown_set count some a b (found shown_slot number shown_gone shown_cells count a b some set)
 
 module _ (item : ImportedEntry) (text : List ℕ) (is : text ≡ spelling item.entry) (named : IsName item.calendar) (in' : IsEntry item.entry)
   where
@@ -251,17 +251,17 @@ module _ (item : ImportedEntry) (text : List ℕ) (is : text ≡ spelling item.e
         (record { others = added.others; rows = added.rows.1 }))
 
 -- an UPDATE by a number that no row of the key has
-pub next_missed : (gone : Row → Bool) (cells : Row) (count : ℕ) → count ≡ 0 → (a b : Kept) → On panel_slot (RewritesAt gone cells count) a b
-    → Makes (λ tables. tables) a b
-next_missed gone cells count none a b = missed panel_slot (λ k. refl) gone cells count a b none
+pub next_missed : (number : ℤ) (gone : Row → Bool) (cells : Row) (count : ℕ) → count ≡ 0 → (a b : Kept)
+    → On panel_slot (RewritesAt number gone cells count) a b → Makes (λ tables. tables) a b
+next_missed number gone cells count none a b = missed panel_slot (λ k. refl) number gone cells count a b none
 
-pub place_missed : (gone : Row → Bool) (cells : Row) (count : ℕ) → count ≡ 0 → (a b : Kept) → On place_slot (RewritesAt gone cells count) a b
-    → Makes (λ tables. tables) a b
-place_missed gone cells count none a b = missed place_slot (λ k. refl) gone cells count a b none
+pub place_missed : (number : ℤ) (gone : Row → Bool) (cells : Row) (count : ℕ) → count ≡ 0 → (a b : Kept)
+    → On place_slot (RewritesAt number gone cells count) a b → Makes (λ tables. tables) a b
+place_missed number gone cells count none a b = missed place_slot (λ k. refl) number gone cells count a b none
 
-pub shown_missed : (gone : Row → Bool) (cells : Row) (count : ℕ) → count ≡ 0 → (a b : Kept) → On shown_slot (RewritesAt gone cells count) a b
-    → Makes (λ tables. tables) a b
-shown_missed gone cells count none a b = missed shown_slot (λ k. refl) gone cells count a b none
+pub shown_missed : (number : ℤ) (gone : Row → Bool) (cells : Row) (count : ℕ) → count ≡ 0 → (a b : Kept)
+    → On shown_slot (RewritesAt number gone cells count) a b → Makes (λ tables. tables) a b
+shown_missed number gone cells count none a b = missed shown_slot (λ k. refl) number gone cells count a b none
 
 module _ (a b : Kept) where
   pub place_cleared : (item : PlaceValue) → item.value ≡ None → On place_slot (Loses (of_place item.point item.priority)) a b

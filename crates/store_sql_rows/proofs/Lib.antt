@@ -21,6 +21,7 @@ pub mod NamelessLemmas
 pub mod OrderedLemmas
 pub mod PanelLemmas
 pub mod PanelTexts
+pub mod PickedLemmas
 pub mod PlaceLemmas
 pub mod PlaceTexts
 pub mod ReadCellLemmas

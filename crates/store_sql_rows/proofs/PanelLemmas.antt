@@ -91,7 +91,7 @@ passes_at db ours panel next number row h =
 
 pub sets_at : (panel : List ℕ) (next : ℕ) (number : ℤ) → (old new : State) (result : Result ℕ Error) → IsInside old
     → ExecutesInside 0 set_at_text (Text panel ∷ Int (pos next) ∷ Int number ∷ []) old new result
-    → IfOk result (λ count. Changes (On panel_slot (RewritesAt (of_panel panel) (Text panel ∷ Int (pos next) ∷ []) count)) old new)
+    → IfOk result (λ count. Changes (On panel_slot (RewritesAt number (of_panel panel) (Text panel ∷ Int (pos next) ∷ []) count)) old new)
 sets_at panel next number old new result inside h =
     rewrites_at panel_slot is_panel set_at_text set_at_runs.plain (given 0 2 ∷ given 1 0 ∷ []) cells_set set_at_runs.is (of_panel panel)
     old new (Text panel ∷ Int (pos next) ∷ Int number ∷ []) (Text panel ∷ Int (pos next) ∷ []) result

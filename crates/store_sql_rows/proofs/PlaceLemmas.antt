@@ -132,7 +132,7 @@ passes_at db ours point priority value number row h =
 pub sets_at : (point : List ℕ) (priority : ℕ) (value number : ℤ) (old new : State) (result : Result ℕ Error) → IsInside old
     → ExecutesInside 0 set_at_text (Text point ∷ Int (pos priority) ∷ Int value ∷ Int number ∷ []) old new result
     → IfOk result (λ count. Changes (On place_slot
-    (RewritesAt (of_place point priority) (Text point ∷ Int (pos priority) ∷ Int value ∷ []) count)) old new)
+    (RewritesAt number (of_place point priority) (Text point ∷ Int (pos priority) ∷ Int value ∷ []) count)) old new)
 sets_at point priority value number old new result inside h =
     rewrites_at place_slot is_place set_at_text set_at_runs.plain (given 0 3 ∷ given 1 0 ∷ given 2 1 ∷ []) cells_set set_at_runs.is
     (of_place point priority) old new (Text point ∷ Int (pos priority) ∷ Int value ∷ Int number ∷ [])

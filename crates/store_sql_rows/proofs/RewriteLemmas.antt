@@ -1,7 +1,6 @@
 -- What an UPDATE of the rows of a key makes of one of the keyed tables.
 use Rattle.std.proofs.Common.{◌≡◌, inl, inr, ℕ, zero, suc, ℤ, Bool, true, false, not, ◌&&◌, List, drop, length, [], ◌∷◌, filter, map, Ok, Err, Result, refl, sym, ap, ap₂, subst, subst₂, ◌∙◌, IfOk, true≢false}
 use Rattle.std.proofs.lemmas.Bool.{and_parts}
-use Rattle.std.proofs.lemmas.List.Sorted.{IsPermutation-map}
 use Rattle.std.specs.List.Sorted.{IsPermutation}
 use Rattle.sqlite_value.specs.declared.value.Value.TheVariants.{Int}
 use Rattle.sqlite_value.specs.Order.{Row, column, value_cmp}
@@ -11,13 +10,11 @@ use Rattle.sqlite_sql.specs.Term.{Term, col}
 use Rattle.sqlite_rules.specs.declared.error.Rowids.TheVariants.{Given}
 use Rattle.sqlite_rules.specs.Calls.{ids_of}
 use Rattle.sqlite_rules.specs.Cast.{cast_row}
-use Rattle.sqlite_rules.specs.Edit.{are_fresh, edit_of, id_in, is_taken, put_all, without_all}
+use Rattle.sqlite_rules.specs.Edit.{are_fresh, edit_of, is_taken, put_all, without_all}
 use Rattle.sqlite_rules.specs.Lists.{Has}
-use Rattle.sqlite_rules.proofs.ListLemmas.{has_filtered}
 use Rattle.sqlite_rules.proofs.PlaceLemmas.{given as numbered_given}
-use Rattle.sqlite_rules.proofs.ProbeLemmas.{has_mapped}
 use Rattle.sqlite_rules.proofs.TableLemmas.{has_put}
-use Rattle.sqlite_trees.specs.Tree.{has_rowid, put_row, rowid}
+use Rattle.sqlite_trees.specs.Tree.{put_row, rowid}
 use Rattle.sqlite.specs.declared.error.Error.{Error}
 use Rattle.sqlite.specs.Given.{IsPlain}
 use Rattle.sqlite.specs.Listing.{understood}
@@ -25,10 +22,10 @@ use Rattle.sqlite.specs.State.{ExecutesInside, Shows, State}
 use Rattle.sqlite.proofs.Callers.{command_of}
 use Rattle.store_sql_create.specs.Schema.{desk_schema}
 use Rattle.store_sql_rows.specs.Meanings.{passes, plain_query, shows}
-use Rattle.store_sql_rows.specs.Ours.{AreOwn, Changes, IsInside, Rewrites, RewritesAt}
+use Rattle.store_sql_rows.specs.Ours.{AreOwn, Changes, IsInside, Rewrites, RewritesAt, at_number}
 use Rattle.store_sql_rows.specs.Slot.{On, Slot}
-use Rattle.store_sql_rows.proofs.AnswerLemmas.{map_map}
-use Rattle.store_sql_rows.proofs.RowLemmas.{by_both, deleted, filter_same, has_permuted, own_filtered, own_put, put_apart, tied_taken}
+use Rattle.store_sql_rows.proofs.RowLemmas.{by_both, filter_same, own_filtered, own_put, put_apart, tied_taken}
+use Rattle.store_sql_rows.proofs.PickedLemmas.{origin, taken_out}
 use Rattle.store_sql_rows.proofs.SlotLemmas.{IsSlot, changed, not_true, own_rows}
 use Rattle.store_sql_rows.proofs.WriteLemmas.{Ran, updates}
 use Rattle.store_sql_rows.specs.Stored.{HasPut}
@@ -66,24 +63,12 @@ module _ (slot : Slot) (is_slot : IsSlot slot) (sql : List ℕ) (plain : IsPlain
   abbrev show : Row → Row
   show = shows (col 1 0 ∷ set) params
 
-  -- the rows of the key are taken out by their number
-  taken_out : (answer : List Row) → IsPermutation (map show (filter gone rows)) answer → without_all rows (ids_of answer) ≡ others
-  taken_out answer picked =
-      let own = own_rows slot is_slot sql plain old inside in
-      let number = λ (r : Row). rowid r ∷ [] in
-      let outcome =
-      subst (λ l. IsPermutation l (map number answer)) (map_map number show (filter gone rows))
-      (IsPermutation-map number (map show (filter gone rows)) answer picked) in
-      ap (without_all rows) (sym (map_map (λ r. id_in (rowid r)) number answer))
-      ∙ deleted gone rows (map number answer) own.numbered picks.tied outcome
+  left_of : (answer : List Row) → IsPermutation (map show (filter gone rows)) answer → without_all rows (ids_of answer) ≡ others
+  left_of answer picked = taken_out slot is_slot sql plain gone set params cells old inside answer picked picks.tied
 
-  -- what an answer's row is put in for
-  origin : (answer : List Row) (a : Row) → IsPermutation (map show (filter gone rows)) answer → Has answer a
+  from_of : (answer : List Row) (a : Row) → IsPermutation (map show (filter gone rows)) answer → Has answer a
       → (row : Row) × Has rows row × (gone row ≡ true) × (cast_row slot.table (drop 1 a) ≡ rowid row ∷ cells)
-  origin answer a picked h =
-      let from = has_mapped show (filter gone rows) a (has_permuted (map show (filter gone rows)) answer a picked h) in
-      let row = has_filtered gone rows from.0 from.1 in
-      (from.0, row.0, row.1, ap (λ r. cast_row slot.table (drop 1 r)) from.2 ∙ picks.made from.0 row.0 row.1)
+  from_of answer a picked = origin slot is_slot sql plain gone set params cells old inside answer picked picks.made a
 
   -- the rows by what the UPDATE answered
   turned : (count : ℕ) (answer : List Row) → IsPermutation (map show (filter gone rows)) answer → count ≡ length answer
@@ -94,12 +79,12 @@ module _ (slot : Slot) (is_slot : IsSlot slot) (sql : List ℕ) (plain : IsPlain
       let now : new.now.trees slot.table.tree ≡ rows = ran.applies.rows in
       subst (λ n. Changes (On slot (Becomes n)) old new) (sym counted)
       (changed slot is_slot sql plain (Becomes 0) _ old new refl inside seen ran (subst (AreOwn slot.key) (sym now) own)
-      (become 0 (new.now.trees slot.table.tree) (taken_out [] picked, now) tt))
+      (become 0 (new.now.trees slot.table.tree) (left_of [] picked, now) tt))
   turned count (a ∷ []) picked counted ran =
       let own = own_rows slot is_slot sql plain old inside in
-      let from = origin (a ∷ []) a picked (inl refl) in
+      let from = from_of (a ∷ []) a picked (inl refl) in
       let row = rowid from.0 ∷ cells in
-      let left = taken_out (a ∷ []) picked in
+      let left = left_of (a ∷ []) picked in
       let news = numbered_given (without_all rows (ids_of (a ∷ []))) (cast_row slot.table (drop 1 a) ∷ []) ∙ ap (λ r. r ∷ []) from.3 in
       let free : is_taken others row ≡ false =
       not_true _ (and_parts _ _ (subst₂ (λ l n. are_fresh l n ≡ true) left news ran.applies.fresh)).0 in
@@ -114,15 +99,15 @@ module _ (slot : Slot) (is_slot : IsSlot slot) (sql : List ℕ) (plain : IsPlain
       (become 1 (new.now.trees slot.table.tree) (rowid from.0, has) (from.0, from.1, from.2)))
   turned count (a ∷ b ∷ more) picked counted ran =
       let answer = a ∷ b ∷ more in
-      let first = origin answer a picked (inl refl) in
-      let second = origin answer b picked (inr (inl refl)) in
+      let first = from_of answer a picked (inl refl) in
+      let second = from_of answer b picked (inr (inl refl)) in
       let one = rowid first.0 ∷ cells in
       let other = rowid second.0 ∷ cells in
       let rest = map (λ r. cast_row slot.table (drop 1 r)) more in
       let news =
       numbered_given (without_all rows (ids_of answer)) (map (λ r. cast_row slot.table (drop 1 r)) answer)
       ∙ ap₂ (λ x y. x ∷ y ∷ rest) first.3 second.3 in
-      let fresh = subst₂ (λ l n. are_fresh l n ≡ true) (taken_out answer picked) news ran.applies.fresh in
+      let fresh = subst₂ (λ l n. are_fresh l n ≡ true) (left_of answer picked) news ran.applies.fresh in
       let free = not_true _ (and_parts _ _ (and_parts _ _ fresh).1).0 in
       let taken =
       tied_taken other (put_row one others) one (has_put one others) (picks.one first.0 second.0 first.1 second.1 first.2 second.2) in
@@ -169,46 +154,41 @@ module _ (slot : Slot) (is_slot : IsSlot slot) (sql : List ℕ) (plain : IsPlain
 
     -- the row of a number, where it is of the key
     module _ (number : ℤ) where
-      abbrev at_number : Row → Bool
-      at_number row = has_rowid number row && gone row
+      abbrev is_it : Row → Bool
+      is_it = at_number number gone
 
-      tied_at : (a b : Row) → Has kept a → Has kept b → rowid a ≡ rowid b → at_number a ≡ at_number b
+      tied_at : (a b : Row) → Has kept a → Has kept b → rowid a ≡ rowid b → is_it a ≡ is_it b
       tied_at a b ha hb tied =
           ap₂ (λ x y. x && y) (ap (λ v. is_eq (value_cmp v (Int number))) tied) (tied_by_key a b ha hb tied)
 
-      of_key : (row : Row) → at_number row ≡ true → gone row ≡ true
+      of_key : (row : Row) → is_it row ≡ true → gone row ≡ true
       of_key row is = (and_parts _ _ is).1
 
       -- where a row of that number was of the key, the rows of the key are that row
-      alike : (row : Row) → Has kept row → at_number row ≡ true
-          → filter (λ r. not (gone r)) kept ≡ filter (λ r. not (at_number r)) kept
+      alike : (row : Row) → Has kept row → is_it row ≡ true
+          → filter (λ r. not (gone r)) kept ≡ filter (λ r. not (is_it r)) kept
       alike row h is =
-          filter_same (λ r. not (gone r)) (λ r. not (at_number r)) kept
-          (λ r hr. ap not (by_both (gone r) (at_number r)
+          filter_same (λ r. not (gone r)) (λ r. not (is_it r)) kept
+          (λ r hr. ap not (by_both (gone r) (is_it r)
           (λ own. tied_at r row hr h (aims.one r row hr h own (of_key row is)) ∙ is) (of_key r)))
 
-      by_number : (count : ℕ) (now : List Row) → Rewrites at_number cells count kept now → IsPicked at_number count kept
-          → RewritesAt gone cells count kept now
-      by_number zero now rewritten picked = rewritten.1
+      by_number : (count : ℕ) (now : List Row) → Rewrites is_it cells count kept now → IsPicked is_it count kept
+          → RewritesAt number gone cells count kept now
+      by_number zero now rewritten picked = rewritten
       by_number (suc more) now rewritten picked =
-          let has = rewritten.1 in (
-            rewritten.0,
-            record {
-              before = has.before;
-              after = has.after;
-              left = alike picked.0 picked.1 picked.2 ∙ has.left;
-              is = has.is;
-            },
-          )
+          let has = rewritten.1 in
+          let own : HasPut (rewritten.0 ∷ cells) gone kept now =
+          record { before = has.before; after = has.after; left = alike picked.0 picked.1 picked.2 ∙ has.left; is = has.is } in
+          (picked.0, picked.1, picked.2, (rewritten.0, own))
 
       -- a statement that changes the row of a number, where it is of a key
-      pub rewrites_at : ((row : Row) → Has kept row → passes terms params row ≡ at_number row)
-          → IfOk result (λ count. Changes (On slot (RewritesAt gone cells count)) old new)
+      pub rewrites_at : ((row : Row) → Has kept row → passes terms params row ≡ is_it row)
+          → IfOk result (λ count. Changes (On slot (RewritesAt number gone cells count)) old new)
       rewrites_at same =
-          becomes at_number old new params cells result same
+          becomes is_it old new params cells result same
           (record {
             tied = tied_at;
             one = λ a b ha hb is_a is_b. aims.one a b ha hb (of_key a is_a) (of_key b is_b);
             made = λ row h is. aims.made row h (of_key row is);
           })
-          (RewritesAt gone cells) by_number inside ran
+          (RewritesAt number gone cells) by_number inside ran

@@ -102,7 +102,7 @@ passes_at db ours schedule value number row h =
 pub sets_at : (schedule : List ℕ) (value : Option ℤ) (number : ℤ) → (old new : State) (result : Result ℕ Error) → IsInside old
     → ExecutesInside 0 set_at_text (Text schedule ∷ cell_of value ∷ Int number ∷ []) old new result
     → IfOk result (λ count. Changes
-    (On shown_slot (RewritesAt (of_schedule schedule) (Text schedule ∷ cell_of value ∷ []) count)) old new)
+    (On shown_slot (RewritesAt number (of_schedule schedule) (Text schedule ∷ cell_of value ∷ []) count)) old new)
 sets_at schedule value number old new result inside h =
     rewrites_at shown_slot is_shown set_at_text set_at_runs.plain (given 0 2 ∷ given 1 0 ∷ []) cells_set set_at_runs.is
     (of_schedule schedule) old new (Text schedule ∷ cell_of value ∷ Int number ∷ []) (Text schedule ∷ cell_of value ∷ []) result

@@ -1,9 +1,9 @@
 -- A database of the six tables.
-use Rattle.std.specs.Prelude.{◌≡◌, ℕ, zero, suc, Bool, true, false, not, filter, IsTrue, List, [], ◌∷◌, ◌++◌, map}
+use Rattle.std.specs.Prelude.{◌≡◌, ℕ, zero, suc, ℤ, Bool, true, false, not, ◌&&◌, filter, IsTrue, List, [], ◌∷◌, ◌++◌, map}
 use Rattle.sqlite_value.specs.declared.value.Value.{Value}
 use Rattle.sqlite_rules.specs.Edit.{is_taken}
 use Rattle.sqlite_rules.specs.Lists.{Has}
-use Rattle.sqlite_trees.specs.Tree.{Trees, rowid}
+use Rattle.sqlite_trees.specs.Tree.{Trees, has_rowid, rowid}
 use Rattle.sqlite_trees.specs.View.{is_int}
 use Rattle.sqlite_value.specs.Order.{Row, column}
 use Rattle.sqlite.specs.Effect.{Database, IsDatabase}
@@ -98,10 +98,15 @@ abbrev pub Rewrites : (Row → Bool) → Row → ℕ → List Row → List Row �
 Rewrites gone cells zero old now = Loses gone old old × (now ≡ old)
 Rewrites gone cells (suc more) old now = (id : Value) × HasPut (id ∷ cells) gone old now
 
--- so many rows were found by their number: where none was, the rows are as they were; else as of `Rewrites`
-abbrev pub RewritesAt : (Row → Bool) → Row → ℕ → List Row → List Row → Type 0
-RewritesAt gone cells zero old now = now ≡ old
-RewritesAt gone cells (suc more) old now = Rewrites gone cells (suc more) old now
+-- the row of a number, where it passes
+abbrev pub at_number : ℤ → (Row → Bool) → Row → Bool
+at_number number gone row = has_rowid number row && gone row
+
+-- so many rows of a number passed: where none did, the rows are as they were; else such a row stood, and as of `Rewrites`
+abbrev pub RewritesAt : ℤ → (Row → Bool) → Row → ℕ → List Row → List Row → Type 0
+RewritesAt number gone cells zero old now = Rewrites (at_number number gone) cells zero old now
+RewritesAt number gone cells (suc more) old now =
+    (row : Row) × Has old row × (at_number number gone row ≡ true) × Rewrites gone cells (suc more) old now
 
 -- so many rows passed: where none did, the rows are as they were; else those that passed are gone, and to those that are
 -- left, of which none is of the key, one row with these cells is added

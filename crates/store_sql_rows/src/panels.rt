@@ -57,7 +57,7 @@ pub fn set_at<S: Alter>(
     next: u64,
 ) -> Result<usize, Error>
     requires { next < 2 ^ 63 }
-    ensures moves { MovesBy S.Store (λ count. Changes (On panel_slot (RewritesAt (of_panel panel.now) (Text panel.now ∷ Int (pos next) ∷ []) count)))
+    ensures moves { MovesBy S.Store (λ count. Changes (On panel_slot (RewritesAt row (of_panel panel.now) (Text panel.now ∷ Int (pos next) ∷ []) count)))
         transaction.old.conn transaction.new.conn result }
 {
     run(

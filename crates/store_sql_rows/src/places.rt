@@ -76,7 +76,7 @@ pub fn set_at<S: Alter>(
     value: i64,
 ) -> Result<usize, Error>
     ensures moves { MovesBy S.Store (λ count. Changes
-        (On place_slot (RewritesAt (of_place point.now priority) (Text point.now ∷ Int (pos priority) ∷ Int value ∷ []) count)))
+        (On place_slot (RewritesAt row (of_place point.now priority) (Text point.now ∷ Int (pos priority) ∷ Int value ∷ []) count)))
         transaction.old.conn transaction.new.conn result }
 {
     run(

@@ -72,7 +72,7 @@ pub fn set_at<S: Alter>(
     value: Option<i64>,
 ) -> Result<usize, Error>
     ensures moves { MovesBy S.Store (λ count. Changes
-        (On shown_slot (RewritesAt (of_schedule schedule.now) (Text schedule.now ∷ cell_of value ∷ []) count)))
+        (On shown_slot (RewritesAt row (of_schedule schedule.now) (Text schedule.now ∷ cell_of value ∷ []) count)))
         transaction.old.conn transaction.new.conn result }
 {
     run(

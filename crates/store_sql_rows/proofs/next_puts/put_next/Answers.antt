@@ -9,7 +9,7 @@ returns-then-branch-eq0 g c =
     record {
       moves = turns_then (λ t. t) (next_put c.args.item.now) (next_put c.args.item.now) (λ t. refl)
           (one_statement _ _ c.in_ok-set_at.field-0 c.in_ok-set_at.ensures.moves
-          (next_missed _ _ c.in_ok-set_at.field-0 c.if-branch-eq0.true))
+          (next_missed _ _ _ c.in_ok-set_at.field-0 c.if-branch-eq0.true))
           c.set-then-branch-eq0.ensures.moves;
     }
 
@@ -18,5 +18,5 @@ returns g c =
     record {
       moves = one_statement _ _ _
           c.in_ok-set_at.ensures.moves
-          (next_found c.args.item.now c.as_str-name.ensures.is_name c.requires c.in_ok-set_at.field-0 c.if-branch-eq0.false);
+          (next_found c.args.item.now c.as_str-name.ensures.is_name c.requires _ c.in_ok-set_at.field-0 c.if-branch-eq0.false);
     }

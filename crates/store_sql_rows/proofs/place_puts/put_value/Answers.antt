@@ -10,7 +10,7 @@ returns-then-branch-eq0 g c =
     record {
       moves = turns_then (λ t. t) (place_put c.args.item.now) (place_put c.args.item.now) (λ t. refl)
           (one_statement _ _ c.in_ok-set_at.field-0 c.in_ok-set_at.ensures.moves
-          (place_missed _ _ c.in_ok-set_at.field-0 c.if-branch-eq0.true))
+          (place_missed _ _ _ c.in_ok-set_at.field-0 c.if-branch-eq0.true))
           c.set-then-branch-eq0.ensures.moves;
     }
 
@@ -20,5 +20,5 @@ returns g c =
     record {
       moves = one_statement _ _ _
           (rw whole at c.in_ok-set_at.ensures.moves)
-          (place_found c.args.item.now c.args.value c.requires.value c.as_str-name.ensures.is_name c.requires.place c.in_ok-set_at.field-0 c.if-branch-eq0.false);
+          (place_found c.args.item.now c.args.value c.requires.value c.as_str-name.ensures.is_name c.requires.place _ c.in_ok-set_at.field-0 c.if-branch-eq0.false);
     }
