@@ -15,7 +15,7 @@ use sqlite::{Alter, Connection, Error, ErrorCode};
 use std::alloc::Global;
 use store::{Change, RowsBelow};
 use store_sql_reads::{names_of, next_of};
-use store_sql_rows::ReadFault;
+use store_sql_rows::{ReadFault, RowNumbers};
 
 // How many numbers below a panel's next one keep their rows.
 const KEPT: u64 = 1_000;
@@ -35,6 +35,7 @@ fn push(list: &mut Vec<RowsBelow>, item: RowsBelow) -> Result<(), ReadFault>
 fn early_of<S: Alter>(
     alloc: Global,
     connection: &mut Connection<S>,
+    numbers: &mut RowNumbers,
     panels: &[Name],
 ) -> Result<Vec<RowsBelow>, ReadFault>
     ensures answers { Answers (λ kept it. it.items ≡ map (early_rows (tables_in kept).next) panels.now)
@@ -42,7 +43,7 @@ fn early_of<S: Alter>(
 {
     let mut dropped = Vec::new(alloc);
     for panel in panels {
-        let number = next_of(connection, panel)?.saturating_sub(KEPT);
+        let number = next_of(connection, numbers, panel)?.saturating_sub(KEPT);
         push(
             &mut dropped,
             RowsBelow {
@@ -63,8 +64,9 @@ pub fn dropping<S: Alter>(
     ensures answers { Answers (λ kept. DropsEarly (tables_in kept))
         (λ kept. is_sound_in kept ≡ false) (state S.Store connection.old) (state S.Store connection.new) result }
 {
-    let names = names_of(alloc, connection)?;
+    let mut numbers = RowNumbers::new(alloc);
+    let names = names_of(alloc, connection, &mut numbers)?;
     let mut change = Change::new(alloc);
-    change.dropped = early_of(alloc, connection, &names.panels)?;
+    change.dropped = early_of(alloc, connection, &mut numbers, &names.panels)?;
     Ok(change)
 }

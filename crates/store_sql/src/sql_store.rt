@@ -21,7 +21,7 @@ use std::alloc::Global;
 use std::marker::Model;
 use store::{Change, Names, OpenFault, Store, StoreFault};
 use store_sql_reads::{
-    array_noted, command_of, commands_run, entries_of, last_tick, names_of, next_noted, shown_noted,
+    array_of, command_of, commands_run, entries_of, last_tick, names_of, next_of, shown_by,
 };
 use store_sql_rows::RowNumbers;
 
@@ -166,7 +166,7 @@ impl<S: Alter + Drop> Store for SqlStore<S> {
         if self.session.is_shut {
             return Err(StoreFault::Shut);
         }
-        let asked = next_noted(&mut self.session.connection, &mut self.numbers, panel);
+        let asked = next_of(&mut self.session.connection, &mut self.numbers, panel);
         self.session.tell(asked)
     }
 
@@ -195,7 +195,7 @@ impl<S: Alter + Drop> Store for SqlStore<S> {
         if self.session.is_shut {
             return Err(StoreFault::Shut);
         }
-        let asked = array_noted(&mut self.session.connection, &mut self.numbers, point);
+        let asked = array_of(&mut self.session.connection, &mut self.numbers, point);
         self.session.tell(asked)
     }
 
@@ -203,7 +203,7 @@ impl<S: Alter + Drop> Store for SqlStore<S> {
         if self.session.is_shut {
             return Err(StoreFault::Shut);
         }
-        let asked = shown_noted(&mut self.session.connection, &mut self.numbers, schedule);
+        let asked = shown_by(&mut self.session.connection, &mut self.numbers, schedule);
         self.session.tell(asked)
     }
 
@@ -227,7 +227,7 @@ impl<S: Alter + Drop> Store for SqlStore<S> {
         if self.session.is_shut {
             return Err(StoreFault::Shut);
         }
-        let asked = names_of(self.alloc, &mut self.session.connection);
+        let asked = names_of(self.alloc, &mut self.session.connection, &mut self.numbers);
         self.session.tell(asked)
     }
 

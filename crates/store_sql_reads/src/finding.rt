@@ -41,19 +41,8 @@ fn parsed_next(panel: &Name, rows: Vec<Row>) -> Result<u64, ReadFault>
     }
 }
 
-/// The next number of a panel: 1 where none is kept.
-pub fn next_of<S: Alter>(connection: &mut Connection<S>, panel: &Name) -> Result<u64, ReadFault>
-    ensures answers { Answers (λ kept it. (it ≡ (tables_in kept).next panel.now)
-        × (cannot_stand_in kept (NextOf panel.now) ≡ false))
-        (λ kept. cannot_stand_in kept (NextOf panel.now) ≡ true)
-        (state S.Store connection.old) (state S.Store connection.new) result }
-{
-    let rows = panels::find(connection, panel)?;
-    parsed_next(panel, rows)
-}
-
-/// The same, where the number of the panel's row is noted.
-pub fn next_noted<S: Alter>(
+/// The next number of a panel: 1 where none is kept. Where one is, the number of its row is noted.
+pub fn next_of<S: Alter>(
     connection: &mut Connection<S>,
     numbers: &mut RowNumbers,
     panel: &Name,
@@ -136,22 +125,9 @@ fn parsed_shown(schedule: &Name, rows: Vec<Row>) -> Result<Option<Option<i64>>, 
     }
 }
 
-/// What a schedule shows: a value or NULL, or nothing where it is quiet.
+/// What a schedule shows: a value or NULL, or nothing where it is quiet. Where it shows something, the number of its row
+/// is noted.
 pub fn shown_by<S: Alter>(
-    connection: &mut Connection<S>,
-    schedule: &Name,
-) -> Result<Option<Option<i64>>, ReadFault>
-    ensures answers { Answers (λ kept it. (it ≡ (tables_in kept).shown schedule.now)
-        × (cannot_stand_in kept (ShownBy schedule.now) ≡ false))
-        (λ kept. cannot_stand_in kept (ShownBy schedule.now) ≡ true)
-        (state S.Store connection.old) (state S.Store connection.new) result }
-{
-    let rows = schedules::find(connection, schedule)?;
-    parsed_shown(schedule, rows)
-}
-
-/// The same, where the number of the schedule's row is noted.
-pub fn shown_noted<S: Alter>(
     connection: &mut Connection<S>,
     numbers: &mut RowNumbers,
     schedule: &Name,

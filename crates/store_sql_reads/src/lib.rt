@@ -6,9 +6,9 @@
 #![tactic(auto)]
 
 pub use entries::entries_of;
-pub use finding::{last_tick, next_noted, next_of, shown_by, shown_noted};
+pub use finding::{last_tick, next_of, shown_by};
 pub use names::names_of;
-pub use placing::{array_noted, array_of};
+pub use placing::array_of;
 pub use rows::{command_of, commands_run};
 
 mod entries;

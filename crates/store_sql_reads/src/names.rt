@@ -30,7 +30,7 @@ use points::{LOWEST_PRIORITY, Name, PriorityArray};
 use sqlite::{Alter, Connection, Row};
 use std::alloc::Global;
 use store::Names;
-use store_sql_rows::{ReadFault, commands};
+use store_sql_rows::{ReadFault, RowNumbers, commands};
 
 const LEAST_NUMBER: u64 = 1;
 
@@ -69,22 +69,30 @@ fn check_numbers<S: Alter>(connection: &mut Connection<S>, panel: &Name) -> Resu
 }
 
 // Whether a panel has a next number other than 1, or a row.
-fn has_panel<S: Alter>(connection: &mut Connection<S>, panel: &Name) -> Result<bool, ReadFault>
+fn has_panel<S: Alter>(
+    connection: &mut Connection<S>,
+    numbers: &mut RowNumbers,
+    panel: &Name,
+) -> Result<bool, ReadFault>
     ensures answers { Answers (λ kept. Tells (HasPanel (tables_in kept) panel.now))
         (λ kept. IsSomeBroken (cannot_stand_in kept)) (state S.Store connection.old) (state S.Store connection.new) result }
 {
-    if next_of(connection, panel)? != LEAST_NUMBER {
+    if next_of(connection, numbers, panel)? != LEAST_NUMBER {
         return Ok(true);
     }
     has_row(connection, panel)
 }
 
-fn stands_panel<S: Alter>(connection: &mut Connection<S>, panel: &Name) -> Result<bool, ReadFault>
+fn stands_panel<S: Alter>(
+    connection: &mut Connection<S>,
+    numbers: &mut RowNumbers,
+    panel: &Name,
+) -> Result<bool, ReadFault>
     ensures answers { Answers (λ kept. IsNumbered kept panel.now)
         (λ kept. IsSomeBroken (cannot_stand_in kept)) (state S.Store connection.old) (state S.Store connection.new) result }
 {
     check_numbers(connection, panel)?;
-    has_panel(connection, panel)
+    has_panel(connection, numbers, panel)
 }
 
 fn has_value(array: &PriorityArray) -> bool
@@ -98,21 +106,26 @@ fn has_value(array: &PriorityArray) -> bool
     false
 }
 
-fn stands_point<S: Alter>(connection: &mut Connection<S>, point: &Name) -> Result<bool, ReadFault>
+fn stands_point<S: Alter>(
+    connection: &mut Connection<S>,
+    numbers: &mut RowNumbers,
+    point: &Name,
+) -> Result<bool, ReadFault>
     ensures answers { Answers (λ kept. Tells (HasPoint (tables_in kept) point.now))
         (λ kept. IsSomeBroken (cannot_stand_in kept)) (state S.Store connection.old) (state S.Store connection.new) result }
 {
-    Ok(has_value(&array_of(connection, point)?))
+    Ok(has_value(&array_of(connection, numbers, point)?))
 }
 
 fn stands_schedule<S: Alter>(
     connection: &mut Connection<S>,
+    numbers: &mut RowNumbers,
     schedule: &Name,
 ) -> Result<bool, ReadFault>
     ensures answers { Answers (λ kept. Tells (HasSchedule (tables_in kept) schedule.now))
         (λ kept. IsSomeBroken (cannot_stand_in kept)) (state S.Store connection.old) (state S.Store connection.new) result }
 {
-    Ok(shown_by(connection, schedule)?.is_some())
+    Ok(shown_by(connection, numbers, schedule)?.is_some())
 }
 
 fn stands_calendar<S: Alter>(
@@ -128,6 +141,7 @@ fn stands_calendar<S: Alter>(
 fn stands_in<S: Alter>(
     list: NameList,
     connection: &mut Connection<S>,
+    numbers: &mut RowNumbers,
     name: &Name,
 ) -> Result<bool, ReadFault>
     ensures answers { Answers (λ kept. IsListed list kept name.now)
@@ -136,9 +150,9 @@ fn stands_in<S: Alter>(
     // What is printed is a name, as a row's own has to be.
     let _name = name.as_str();
     match list {
-        NameList::Panels => stands_panel(connection, name),
-        NameList::Points => stands_point(connection, name),
-        NameList::Schedules => stands_schedule(connection, name),
+        NameList::Panels => stands_panel(connection, numbers, name),
+        NameList::Points => stands_point(connection, numbers, name),
+        NameList::Schedules => stands_schedule(connection, numbers, name),
         NameList::Calendars => stands_calendar(connection, name),
     }
 }
@@ -197,6 +211,7 @@ fn names_in<S: Alter>(
     alloc: Global,
     list: NameList,
     connection: &mut Connection<S>,
+    numbers: &mut RowNumbers,
 ) -> Result<Vec<Name>, ReadFault>
     ensures answers { Answers (λ kept it. AreAll list kept it.items)
         (λ kept. IsSomeBroken (cannot_stand_in kept)) (state S.Store connection.old) (state S.Store connection.new) result }
@@ -206,7 +221,7 @@ fn names_in<S: Alter>(
     for _ in 0..u64::MAX {
         match next_in(list, connection, &from)? {
             Some(name) => {
-                let stands = stands_in(list, connection, &name)?;
+                let stands = stands_in(list, connection, numbers, &name)?;
                 from = text_after(alloc, name.as_str())?;
                 push_if(&mut names, name, stands)?;
             }
@@ -217,15 +232,19 @@ fn names_in<S: Alter>(
     Err(no_memory())
 }
 
-/// The names that stand in the tables.
-pub fn names_of<S: Alter>(alloc: Global, connection: &mut Connection<S>) -> Result<Names, ReadFault>
+/// The names that stand in the tables. The numbers of the rows that are read are noted.
+pub fn names_of<S: Alter>(
+    alloc: Global,
+    connection: &mut Connection<S>,
+    numbers: &mut RowNumbers,
+) -> Result<Names, ReadFault>
     ensures answers { Answers (λ kept it. AreNames (tables_in kept) it × (cannot_stand_in kept AnyName ≡ false))
         (λ kept. IsSomeBroken (cannot_stand_in kept)) (state S.Store connection.old) (state S.Store connection.new) result }
 {
-    let panels = names_in(alloc, NameList::Panels, connection)?;
-    let points = names_in(alloc, NameList::Points, connection)?;
-    let schedules = names_in(alloc, NameList::Schedules, connection)?;
-    let calendars = names_in(alloc, NameList::Calendars, connection)?;
+    let panels = names_in(alloc, NameList::Panels, connection, numbers)?;
+    let points = names_in(alloc, NameList::Points, connection, numbers)?;
+    let schedules = names_in(alloc, NameList::Schedules, connection, numbers)?;
+    let calendars = names_in(alloc, NameList::Calendars, connection, numbers)?;
     Ok(Names {
         panels,
         points,

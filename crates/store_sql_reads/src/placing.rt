@@ -55,22 +55,8 @@ fn parsed_array(point: &Name, rows: Vec<Row>) -> Result<PriorityArray, ReadFault
     Ok(array)
 }
 
-/// The priority array of a point: without values where nothing is kept of it.
+/// The priority array of a point: without values where nothing is kept of it. The numbers of its rows are noted.
 pub fn array_of<S: Alter>(
-    connection: &mut Connection<S>,
-    point: &Name,
-) -> Result<PriorityArray, ReadFault>
-    ensures answers { Answers (λ kept it. (it ≡ (tables_in kept).places point.now)
-        × (cannot_stand_in kept (ArrayOf point.now) ≡ false))
-        (λ kept. cannot_stand_in kept (ArrayOf point.now) ≡ true)
-        (state S.Store connection.old) (state S.Store connection.new) result }
-{
-    let rows = places::of_point(connection, point)?;
-    parsed_array(point, rows)
-}
-
-/// The same, where the numbers of the rows are noted.
-pub fn array_noted<S: Alter>(
     connection: &mut Connection<S>,
     numbers: &mut RowNumbers,
     point: &Name,

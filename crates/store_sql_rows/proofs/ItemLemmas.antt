@@ -87,10 +87,16 @@ module _ (item : NextNumber) (named : IsName item.panel) (in' : IsNext item) whe
   next_set count some a b set = next_from a b (put_in panel_slot (of_panel item.panel) next_cells count a b some set)
 
   pub next_added : (count : ℕ) → count ≡ 0 → (a b c : Kept) → On panel_slot (Rewrites (of_panel item.panel) next_cells count) a b
-      → On panel_slot (Gains next_cells) b c → Makes (next_put item) a c
-  next_added count none a b c set gains =
+      → On panel_slot (Adds (of_panel item.panel) next_cells) b c → Makes (next_put item) a c
+  next_added count none a b c set added =
       next_from a c (put_on panel_slot (λ x y k. refl) (of_panel item.panel) next_cells a b c
-      (none_lost panel_slot (of_panel item.panel) next_cells count a b none set) gains)
+      (none_lost panel_slot (of_panel item.panel) next_cells count a b none set) (record { others = added.others; rows = added.rows.1 }))
+
+  -- one that is new
+  pub next_new : (a b : Kept) → On panel_slot (Adds (of_panel item.panel) next_cells) a b → Makes (next_put item) a b
+  next_new a b added =
+      next_from a b (put_on panel_slot (λ x y k. refl) (of_panel item.panel) next_cells a a b (record { others = refl; rows = added.rows.0 })
+      (record { others = added.others; rows = added.rows.1 }))
 
   -- by the number of its row
   pub next_found : (number : ℤ) (count : ℕ) → count ≢ 0 → (a b : Kept) → On panel_slot (RewritesAt number (of_panel item.panel) next_cells count) a b
@@ -115,10 +121,16 @@ module _ (item : PlaceValue) (value : ℤ) (some_value : item.value ≡ Some val
   place_set count some a b set = place_from a b (put_in place_slot place_gone place_cells count a b some set)
 
   pub place_added : (count : ℕ) → count ≡ 0 → (a b c : Kept) → On place_slot (Rewrites place_gone place_cells count) a b
-      → On place_slot (Gains place_cells) b c → Makes (place_put item) a c
-  place_added count none a b c set gains =
+      → On place_slot (Adds place_gone place_cells) b c → Makes (place_put item) a c
+  place_added count none a b c set added =
       place_from a c (put_on place_slot (λ x y k. refl) place_gone place_cells a b c
-      (none_lost place_slot place_gone place_cells count a b none set) gains)
+      (none_lost place_slot place_gone place_cells count a b none set) (record { others = added.others; rows = added.rows.1 }))
+
+  -- one that is new
+  pub place_new : (a b : Kept) → On place_slot (Adds place_gone place_cells) a b → Makes (place_put item) a b
+  place_new a b added =
+      place_from a b (put_on place_slot (λ x y k. refl) place_gone place_cells a a b (record { others = refl; rows = added.rows.0 })
+      (record { others = added.others; rows = added.rows.1 }))
 
   -- by the number of its row
   pub place_found : (number : ℤ) (count : ℕ) → count ≢ 0 → (a b : Kept) → On place_slot (RewritesAt number place_gone place_cells count) a b
@@ -212,10 +224,16 @@ module _ (item : ShownValue) (value : Option ℤ) (some_value : item.shown ≡ S
   shown_set count some a b set = shown_from a b (put_in shown_slot shown_gone shown_cells count a b some set)
 
   pub shown_added : (count : ℕ) → count ≡ 0 → (a b c : Kept) → On shown_slot (Rewrites shown_gone shown_cells count) a b
-      → On shown_slot (Gains shown_cells) b c → Makes (shown_put item) a c
-  shown_added count none a b c set gains =
+      → On shown_slot (Adds shown_gone shown_cells) b c → Makes (shown_put item) a c
+  shown_added count none a b c set added =
       shown_from a c (put_on shown_slot (λ x y k. refl) shown_gone shown_cells a b c
-      (none_lost shown_slot shown_gone shown_cells count a b none set) gains)
+      (none_lost shown_slot shown_gone shown_cells count a b none set) (record { others = added.others; rows = added.rows.1 }))
+
+  -- one that is new
+  pub shown_new : (a b : Kept) → On shown_slot (Adds shown_gone shown_cells) a b → Makes (shown_put item) a b
+  shown_new a b added =
+      shown_from a b (put_on shown_slot (λ x y k. refl) shown_gone shown_cells a a b (record { others = refl; rows = added.rows.0 })
+      (record { others = added.others; rows = added.rows.1 }))
 
   -- by the number of its row
   pub shown_found : (number : ℤ) (count : ℕ) → count ≢ 0 → (a b : Kept) → On shown_slot (RewritesAt number shown_gone shown_cells count) a b

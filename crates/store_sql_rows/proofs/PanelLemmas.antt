@@ -1,5 +1,6 @@
 -- The statements on the next numbers.
 use Rattle.std.proofs.Common.{◌≡◌, inl, inr, ℕ, ℤ, ◌&&◌, Result, IfOk, Ok, Err, OnOk, pos, true, List, [], ◌∷◌, codes, refl, sym, ap, subst, ◌∙◌}
+use Rattle.std.proofs.lemmas.Slice.Eq.{bytes_eq-Decides}
 use Rattle.sqlite_value.specs.declared.value.Value.TheVariants.{Int, Null, Text}
 use Rattle.sqlite_value.specs.Keys.{first_key}
 use Rattle.sqlite_value.specs.Order.{Row, column}
@@ -17,9 +18,10 @@ use Rattle.sqlite.specs.Effect.{Database}
 use Rattle.sqlite.specs.State.{ExecutesInside, Shown, State}
 use Rattle.store_sql_create.specs.Schema.{column_of, panel_table, panel_tree}
 use Rattle.store_sql_rows.specs.Meanings.{given, passes}
-use Rattle.store_sql_rows.specs.Ours.{Changes, Gains, IsInside, IsOurs, Rewrites, RewritesAt}
+use Rattle.store_sql_rows.specs.Ours.{Adds, Changes, IsInside, IsOurs, Rewrites, RewritesAt}
 use Rattle.store_sql_rows.specs.Slot.{On, panel_slot}
 use Rattle.store_sql_rows.proofs.CellLemmas.{and_true, cast_int, cast_null, equal_rowid, equal_text}
+use Rattle.store_sql_rows.proofs.AddLemmas.{adds_alone}
 use Rattle.store_sql_rows.proofs.KeyLemmas.{one_number, text_is}
 use Rattle.store_sql_rows.proofs.RewriteLemmas.{Aims, rewrites, rewrites_at}
 use Rattle.store_sql_rows.proofs.RestLemmas.{finds, finds_same}
@@ -43,15 +45,6 @@ passes_panel db ours panel row h =
     let cell = panel_cells db ours row h in
     rw (equal_text panel (column row 1) cell.of cell.filled, and_true) refl
 
-pub adds : (panel : List ℕ) (next : ℕ) → (old new : State) (result : Result ℕ Error) → IsInside old
-    → ExecutesInside 0 add_text (Text panel ∷ Int (pos next) ∷ []) old new result
-    → OnOk result (Changes (On panel_slot (Gains (Text panel ∷ Int (pos next) ∷ []))) old new)
-adds panel next old new result inside h =
-    gains panel_slot is_panel add_text add_runs.plain (codes "panel") panel_table.columns panel_table.checks
-    (lit Null ∷ col 0 0 ∷ col 0 1 ∷ []) 3 panel_tree refl add_runs.is
-    old new (Text panel ∷ Int (pos next) ∷ []) (Text panel ∷ Int (pos next) ∷ []) result
-    (rw (cast_null, cast_int (pos next)) refl) inside h
-
 -- no two rows have one name
 one_panel : (db : Database) → IsOurs db → (panel : List ℕ) (a b : Row) → Has (db.trees panel_tree) a → Has (db.trees panel_tree) b
     → of_panel panel a ≡ true → of_panel panel b ≡ true → rowid a ≡ rowid b
@@ -60,6 +53,18 @@ one_panel db ours panel a b ha hb is_a is_b =
     one_number (automatic panel_table 0 (1 ∷ []) 2) panel_table (1 ∷ []) db ours (inr (inl refl)) (inl refl) refl ours.rows.panel a b ha hb
     (subst (λ v. passes (given 1 0 ∷ []) (v ∷ []) a ≡ true) (sym (text_is panel (column b 1) is_b))
     (passes_panel db ours panel a ha ∙ is_a))
+
+pub adds : (panel : List ℕ) (next : ℕ) → (old new : State) (result : Result ℕ Error) → IsInside old
+    → ExecutesInside 0 add_text (Text panel ∷ Int (pos next) ∷ []) old new result
+    → OnOk result (Changes (On panel_slot (Adds (of_panel panel) (Text panel ∷ Int (pos next) ∷ []))) old new)
+adds panel next old new result inside h =
+    adds_alone panel_slot (of_panel panel) (Text panel ∷ Int (pos next) ∷ []) old new result
+    (λ id. (bytes_eq-Decides panel panel).1 refl)
+    (λ it a b ha hb is_a is_b. one_panel new.now it.ours panel a b ha hb is_a is_b)
+    (gains panel_slot is_panel add_text add_runs.plain (codes "panel") panel_table.columns panel_table.checks
+    (lit Null ∷ col 0 0 ∷ col 0 1 ∷ []) 3 panel_tree refl add_runs.is
+    old new (Text panel ∷ Int (pos next) ∷ []) (Text panel ∷ Int (pos next) ∷ []) result
+    (rw (cast_null, cast_int (pos next)) refl) inside h)
 
 -- an UPDATE of the next number, whatever parameters it has besides
 aims : (panel : List ℕ) (next : ℕ) (more : Row) (old : State) → IsInside old

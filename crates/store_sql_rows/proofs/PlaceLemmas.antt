@@ -1,6 +1,8 @@
 -- The statements on the places.
 use Rattle.std.proofs.Common.{◌≡◌, inl, inr, ℕ, ℤ, Result, IfOk, Ok, Err, OnOk, pos, true, ◌&&◌, List, [], ◌∷◌, codes, refl, sym, ap, subst₂, ◌∙◌}
 use Rattle.std.proofs.lemmas.Bool.{and_parts}
+use Rattle.std.proofs.lemmas.Slice.Eq.{bytes_eq-Decides}
+use Rattle.std.proofs.lemmas.Bool.Decides.{Decides-eqb}
 use Rattle.sqlite_value.specs.declared.value.Value.TheVariants.{Int, Null, Text}
 use Rattle.sqlite_value.specs.Keys.{first_key}
 use Rattle.sqlite_value.specs.Order.{Row, column}
@@ -21,10 +23,11 @@ use Rattle.store_sql_rows.proofs.TypeLemmas.{IsFilled, first_filled, ruled, seco
 use Rattle.sqlite_sql.specs.Term.{lit, col}
 use Rattle.sqlite.specs.declared.error.Error.{Error}
 use Rattle.sqlite.specs.State.{ExecutesInside, Shown, State}
-use Rattle.store_sql_rows.specs.Ours.{Changes, Gains, IsInside, Loses, Rewrites, RewritesAt}
+use Rattle.store_sql_rows.specs.Ours.{Adds, Changes, IsInside, Loses, Rewrites, RewritesAt}
 use Rattle.store_sql_rows.specs.Slot.{On, place_slot}
 use Rattle.store_sql_rows.proofs.CellLemmas.{and_true, cast_int, cast_null, equal_count, equal_text}
 use Rattle.store_sql_rows.proofs.PlaceTexts.{add_runs, add_text, cells_set, clear_runs, clear_text, of_point_runs, of_point_text, set_at_runs, set_at_text, set_runs, set_text}
+use Rattle.store_sql_rows.proofs.AddLemmas.{adds_alone}
 use Rattle.store_sql_rows.proofs.KeyLemmas.{count_is, one_number, text_is}
 use Rattle.store_sql_rows.proofs.RewriteLemmas.{Aims, rewrites, rewrites_at}
 use Rattle.store_sql_rows.proofs.RestLemmas.{finds, finds_same}
@@ -64,15 +67,6 @@ clears point priority old new result inside h =
     (Text point ∷ Int (pos priority) ∷ []) result
     (λ row h. passes_place old.now inside.ours point priority row h) inside h
 
-pub adds : (point : List ℕ) (priority : ℕ) (value : ℤ) (old new : State) (result : Result ℕ Error) → IsInside old
-    → ExecutesInside 0 add_text (Text point ∷ Int (pos priority) ∷ Int value ∷ []) old new result
-    → OnOk result (Changes (On place_slot (Gains (Text point ∷ Int (pos priority) ∷ Int value ∷ []))) old new)
-adds point priority value old new result inside h =
-    gains place_slot is_place add_text add_runs.plain (codes "place") place_table.columns place_table.checks
-    (lit Null ∷ col 0 0 ∷ col 0 1 ∷ col 0 2 ∷ []) 4 place_tree refl add_runs.is
-    old new (Text point ∷ Int (pos priority) ∷ Int value ∷ []) (Text point ∷ Int (pos priority) ∷ Int value ∷ []) result
-    (rw (cast_null, cast_int (pos priority), cast_int value) refl) inside h
-
 -- no two rows have one place
 one_place : (db : Database) → IsOurs db → (point : List ℕ) (priority : ℕ) (a b : Row) → Has (db.trees place_tree) a
     → Has (db.trees place_tree) b
@@ -85,6 +79,18 @@ one_place db ours point priority a b ha hb is_a is_b =
     (subst₂ (λ v w. passes (given 1 0 ∷ given 2 1 ∷ []) (v ∷ w ∷ []) a ≡ true) (sym (text_is point (column b 1) parts.0))
     (sym (count_is priority (column b 2) parts.1))
     (passes_place db ours point priority a ha ∙ is_a))
+
+pub adds : (point : List ℕ) (priority : ℕ) (value : ℤ) (old new : State) (result : Result ℕ Error) → IsInside old
+    → ExecutesInside 0 add_text (Text point ∷ Int (pos priority) ∷ Int value ∷ []) old new result
+    → OnOk result (Changes (On place_slot (Adds (of_place point priority) (Text point ∷ Int (pos priority) ∷ Int value ∷ []))) old new)
+adds point priority value old new result inside h =
+    adds_alone place_slot (of_place point priority) (Text point ∷ Int (pos priority) ∷ Int value ∷ []) old new result
+    (λ id. rw ((bytes_eq-Decides point point).1 refl, (Decides-eqb priority priority).1 refl) refl)
+    (λ it a b ha hb is_a is_b. one_place new.now it.ours point priority a b ha hb is_a is_b)
+    (gains place_slot is_place add_text add_runs.plain (codes "place") place_table.columns place_table.checks
+    (lit Null ∷ col 0 0 ∷ col 0 1 ∷ col 0 2 ∷ []) 4 place_tree refl add_runs.is
+    old new (Text point ∷ Int (pos priority) ∷ Int value ∷ []) (Text point ∷ Int (pos priority) ∷ Int value ∷ []) result
+    (rw (cast_null, cast_int (pos priority), cast_int value) refl) inside h)
 
 -- an UPDATE of the value, whatever parameters it has besides
 aims : (point : List ℕ) (priority : ℕ) (value : ℤ) (more : Row) (old : State) → IsInside old

@@ -1,5 +1,6 @@
 -- The statements on the shown values.
 use Rattle.std.proofs.Common.{◌≡◌, ◌&&◌, ◌∙◌, inl, inr, ℕ, ℤ, Option, Result, IfOk, Ok, Err, OnOk, true, false, List, [], ◌∷◌, codes, refl, sym, ap, subst}
+use Rattle.std.proofs.lemmas.Slice.Eq.{bytes_eq-Decides}
 use Rattle.sqlite_value.specs.declared.value.Value.TheVariants.{Int, Null, Text}
 use Rattle.sqlite_value.specs.Keys.{first_key}
 use Rattle.sqlite_value.specs.Order.{Row, column}
@@ -7,6 +8,7 @@ use Rattle.sqlite_catalog.specs.Listing.{automatic}
 use Rattle.sqlite_rules.specs.Edit.{id_in}
 use Rattle.sqlite_rules.proofs.TableLemmas.{int_is}
 use Rattle.sqlite_trees.specs.Tree.{has_rowid, rowid}
+use Rattle.store_sql_rows.proofs.AddLemmas.{adds_alone}
 use Rattle.store_sql_rows.proofs.KeyLemmas.{one_number, text_is}
 use Rattle.store_sql_rows.proofs.RewriteLemmas.{Aims, rewrites, rewrites_at}
 use Rattle.sqlite_schema.specs.declared.schema.Constraint.TheVariants.{Datatype, NotNull}
@@ -19,7 +21,7 @@ use Rattle.sqlite.specs.Effect.{Database}
 use Rattle.sqlite.specs.State.{ExecutesInside, Shown, State}
 use Rattle.store_sql_create.specs.Schema.{column_of, shown_table, shown_tree}
 use Rattle.store_sql_rows.specs.Meanings.{given, passes}
-use Rattle.store_sql_rows.specs.Ours.{Changes, Gains, IsInside, IsOurs, Loses, Rewrites, RewritesAt}
+use Rattle.store_sql_rows.specs.Ours.{Adds, Changes, IsInside, IsOurs, Loses, Rewrites, RewritesAt}
 use Rattle.store_sql_rows.specs.Slot.{On, shown_slot}
 use Rattle.store_sql_rows.proofs.CellLemmas.{and_true, cast_cell, cast_int, cast_null, equal_rowid, equal_text}
 use Rattle.store_sql_rows.proofs.RestLemmas.{finds, finds_same}
@@ -51,15 +53,6 @@ clears schedule old new result inside h =
     (λ a b same. ap (λ l. is_text schedule (column l 0)) same) old new (Text schedule ∷ []) result
     (λ row h. passes_shown old.now inside.ours schedule row h) inside h
 
-pub adds : (schedule : List ℕ) (value : Option ℤ) → (old new : State) (result : Result ℕ Error) → IsInside old
-    → ExecutesInside 0 add_text (Text schedule ∷ cell_of value ∷ []) old new result
-    → OnOk result (Changes (On shown_slot (Gains (Text schedule ∷ cell_of value ∷ []))) old new)
-adds schedule value old new result inside h =
-    gains shown_slot is_shown add_text add_runs.plain (codes "shown") shown_table.columns shown_table.checks
-    (lit Null ∷ col 0 0 ∷ col 0 1 ∷ []) 3 shown_tree refl add_runs.is
-    old new (Text schedule ∷ cell_of value ∷ []) (Text schedule ∷ cell_of value ∷ []) result
-    (rw (cast_null, cast_cell value) refl) inside h
-
 -- no two rows have one name
 one_shown : (db : Database) → IsOurs db → (schedule : List ℕ) (a b : Row) → Has (db.trees shown_tree) a → Has (db.trees shown_tree) b
     → of_schedule schedule a ≡ true → of_schedule schedule b ≡ true → rowid a ≡ rowid b
@@ -69,6 +62,18 @@ one_shown db ours schedule a b ha hb is_a is_b =
     (inr (inr (inr (inl refl)))) refl ours.rows.shown a b ha hb
     (subst (λ v. passes (given 1 0 ∷ []) (v ∷ []) a ≡ true) (sym (text_is schedule (column b 1) is_b))
     (passes_shown db ours schedule a ha ∙ is_a))
+
+pub adds : (schedule : List ℕ) (value : Option ℤ) → (old new : State) (result : Result ℕ Error) → IsInside old
+    → ExecutesInside 0 add_text (Text schedule ∷ cell_of value ∷ []) old new result
+    → OnOk result (Changes (On shown_slot (Adds (of_schedule schedule) (Text schedule ∷ cell_of value ∷ []))) old new)
+adds schedule value old new result inside h =
+    adds_alone shown_slot (of_schedule schedule) (Text schedule ∷ cell_of value ∷ []) old new result
+    (λ id. (bytes_eq-Decides schedule schedule).1 refl)
+    (λ it a b ha hb is_a is_b. one_shown new.now it.ours schedule a b ha hb is_a is_b)
+    (gains shown_slot is_shown add_text add_runs.plain (codes "shown") shown_table.columns shown_table.checks
+    (lit Null ∷ col 0 0 ∷ col 0 1 ∷ []) 3 shown_tree refl add_runs.is
+    old new (Text schedule ∷ cell_of value ∷ []) (Text schedule ∷ cell_of value ∷ []) result
+    (rw (cast_null, cast_cell value) refl) inside h)
 
 -- an UPDATE of what is shown, whatever parameters it has besides
 aims : (schedule : List ℕ) (value : Option ℤ) (more : Row) (old : State) → IsInside old

@@ -4,9 +4,9 @@ ghost use Rattle.sqlite.specs.Held.{state};
 ghost use Rattle.sqlite_value.specs.declared.value.Value.TheVariants.{Int, Text};
 ghost use Rattle.sqlite_value.specs.Order.{column};
 ghost use Rattle.store_sql_rows.specs.Looking.{Finds, FindsLeast, Reads, is_from_text};
-ghost use Rattle.store_sql_rows.specs.Ours.{Changes, Gains, Rewrites, RewritesAt};
+ghost use Rattle.store_sql_rows.specs.Ours.{Adds, Changes, Rewrites, RewritesAt};
 ghost use Rattle.store_sql_rows.specs.Slot.{On, panel_slot};
-ghost use Rattle.store_sql_rows.specs.Steps.{Moves, MovesBy};
+ghost use Rattle.store_sql_rows.specs.Steps.{Moves, MovesBy, StaysIfTaken};
 ghost use Rattle.store_sql_rows.specs.Rows.{of_panel};
 
 use crate::looking::ask;
@@ -15,14 +15,15 @@ use crate::running::run;
 use points::Name;
 use sqlite::{Alter, Connection, Error, Row, Transaction};
 
-/// Adds the next number of a panel.
+/// Adds the next number of a panel. Where it has one it is refused as not unique, and nothing changes.
 pub fn add<S: Alter>(
     transaction: &mut Transaction<'_, S>,
     panel: &Name,
     next: u64,
 ) -> Result<usize, Error>
     requires { next < 2 ^ 63 }
-    ensures moves { Moves S.Store (Changes (On panel_slot (Gains (Text panel.now ∷ Int (pos next) ∷ []))))
+    ensures refused { StaysIfTaken (state S.Store transaction.old.conn.now) (state S.Store transaction.new.conn.now) result }
+    ensures moves { Moves S.Store (Changes (On panel_slot (Adds (of_panel panel.now) (Text panel.now ∷ Int (pos next) ∷ []))))
         transaction.old.conn transaction.new.conn result }
 {
     run(

@@ -4,9 +4,9 @@ ghost use Rattle.sqlite.specs.Held.{state};
 ghost use Rattle.sqlite_value.specs.declared.value.Value.TheVariants.{Int, Text};
 ghost use Rattle.sqlite_value.specs.Order.{column};
 ghost use Rattle.store_sql_rows.specs.Looking.{Finds, FindsLeast, Reads, is_from_text};
-ghost use Rattle.store_sql_rows.specs.Ours.{Changes, Gains, Loses, Rewrites, RewritesAt};
+ghost use Rattle.store_sql_rows.specs.Ours.{Adds, Changes, Loses, Rewrites, RewritesAt};
 ghost use Rattle.store_sql_rows.specs.Slot.{On, place_slot};
-ghost use Rattle.store_sql_rows.specs.Steps.{Moves, MovesBy};
+ghost use Rattle.store_sql_rows.specs.Steps.{Moves, MovesBy, StaysIfTaken};
 ghost use Rattle.store_sql_rows.specs.Cells.{is_text};
 ghost use Rattle.store_sql_rows.specs.Rows.{of_place};
 
@@ -32,15 +32,16 @@ pub fn clear<S: Alter>(
     )
 }
 
-/// Adds a value in a place.
+/// Adds a value in a place. Where it has one it is refused as not unique, and nothing changes.
 pub fn add<S: Alter>(
     transaction: &mut Transaction<'_, S>,
     point: &Name,
     priority: u8,
     value: i64,
 ) -> Result<usize, Error>
-    ensures moves { Moves S.Store (Changes (On place_slot (Gains (Text point.now ∷ Int (pos priority) ∷ Int value ∷ []))))
-        transaction.old.conn transaction.new.conn result }
+    ensures refused { StaysIfTaken (state S.Store transaction.old.conn.now) (state S.Store transaction.new.conn.now) result }
+    ensures moves { Moves S.Store (Changes (On place_slot (Adds (of_place point.now priority)
+        (Text point.now ∷ Int (pos priority) ∷ Int value ∷ [])))) transaction.old.conn transaction.new.conn result }
 {
     run(
         transaction,

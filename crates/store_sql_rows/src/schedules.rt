@@ -4,9 +4,9 @@ ghost use Rattle.sqlite.specs.Held.{state};
 ghost use Rattle.sqlite_value.specs.declared.value.Value.TheVariants.{Text};
 ghost use Rattle.sqlite_value.specs.Order.{column};
 ghost use Rattle.store_sql_rows.specs.Looking.{Finds, FindsLeast, Reads, is_from_text};
-ghost use Rattle.store_sql_rows.specs.Ours.{Changes, Gains, Loses, Rewrites, RewritesAt};
+ghost use Rattle.store_sql_rows.specs.Ours.{Adds, Changes, Loses, Rewrites, RewritesAt};
 ghost use Rattle.store_sql_rows.specs.Slot.{On, shown_slot};
-ghost use Rattle.store_sql_rows.specs.Steps.{Moves, MovesBy};
+ghost use Rattle.store_sql_rows.specs.Steps.{Moves, MovesBy, StaysIfTaken};
 ghost use Rattle.store_sql_rows.specs.Cells.{cell_of};
 ghost use Rattle.store_sql_rows.specs.Rows.{of_schedule};
 
@@ -31,13 +31,14 @@ pub fn clear<S: Alter>(
     )
 }
 
-/// Adds what a schedule shows.
+/// Adds what a schedule shows. Where it shows something it is refused as not unique, and nothing changes.
 pub fn add<S: Alter>(
     transaction: &mut Transaction<'_, S>,
     schedule: &Name,
     value: Option<i64>,
 ) -> Result<usize, Error>
-    ensures moves { Moves S.Store (Changes (On shown_slot (Gains (Text schedule.now ∷ cell_of value ∷ []))))
+    ensures refused { StaysIfTaken (state S.Store transaction.old.conn.now) (state S.Store transaction.new.conn.now) result }
+    ensures moves { Moves S.Store (Changes (On shown_slot (Adds (of_schedule schedule.now) (Text schedule.now ∷ cell_of value ∷ []))))
         transaction.old.conn transaction.new.conn result }
 {
     run(

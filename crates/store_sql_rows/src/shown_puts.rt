@@ -4,7 +4,7 @@ ghost use Rattle.store_sql_rows.specs.Steps.{Moves, Turns, shown_put};
 
 use crate::row_numbers::{RowNumbers, note};
 use crate::schedules;
-use sqlite::{Alter, Error, Transaction};
+use sqlite::{Alter, Constraint, Error, ErrorCode, Transaction};
 use store::ShownValue;
 
 // Puts it by its key.
@@ -28,6 +28,33 @@ fn set<S: Alter>(
     Ok(())
 }
 
+// Adds it; where something is shown whose number is not known, that is set by its key.
+fn add<S: Alter>(
+    transaction: &mut Transaction<'_, S>,
+    numbers: &mut RowNumbers,
+    item: &ShownValue,
+    value: Option<i64>,
+) -> Result<(), Error>
+    requires { item.now.shown ≡ Some value }
+    ensures moves { Moves S.Store (Turns (shown_put item.now)) transaction.old.conn transaction.new.conn result }
+{
+    let _name = item.schedule.as_str();
+    match schedules::add(transaction, &item.schedule, value) {
+        Ok(_) => {
+            let row = transaction.last_insert_rowid();
+            note(&mut numbers.shown, item.schedule, row);
+            Ok(())
+        }
+        Err(Error::SqliteFailure(ErrorCode::ConstraintViolation(Constraint::Unique))) => set(
+            transaction,
+            numbers,
+            item,
+            value,
+        ),
+        Err(error) => Err(error),
+    }
+}
+
 // Puts a value that is shown, by the number of its row where that is known and right.
 fn put_value<S: Alter>(
     transaction: &mut Transaction<'_, S>,
@@ -40,10 +67,10 @@ fn put_value<S: Alter>(
 {
     let _name = item.schedule.as_str();
     let Some(row) = numbers.shown.get(&item.schedule).copied() else {
-        return set(transaction, numbers, item, value);
+        return add(transaction, numbers, item, value);
     };
     if schedules::set_at(transaction, row, &item.schedule, value)? == 0 {
-        return set(transaction, numbers, item, value);
+        return add(transaction, numbers, item, value);
     }
     Ok(())
 }

@@ -10,7 +10,7 @@ returns-then-branch-eq0 g c =
       moves = turns_then (λ t. t) (shown_put c.args.item.now) (shown_put c.args.item.now) (λ t. refl)
           (one_statement _ _ c.in_ok-set_at.field-0 c.in_ok-set_at.ensures.moves
           (shown_missed _ _ _ c.in_ok-set_at.field-0 c.if-branch-eq0.true))
-          c.set-then-branch-eq0.ensures.moves;
+          c.add-then-branch-eq0.ensures.moves;
     }
 
 pub returns : goal.returns

@@ -10,20 +10,20 @@ use Rattle.store_sql.proofs.sql_store.SqlStoreStore.array.Goals as goal
 
 pub invariant_of-self : goal.invariant_of-self
 invariant_of-self g c =
-    (reported_left g.S.Store c.self.inside.session c.array_noted-asked.new.connection c.tell.new.self c.array_noted-asked.result c.tell.result
+    (reported_left g.S.Store c.self.inside.session c.array_of-asked.new.connection c.tell.new.self c.array_of-asked.result c.tell.result
     (λ kept. unsound kept (ArrayOf c.args.point.now)) c.if-self.false c.self.invariant (λ h db. g.met.S.Store.settled h.store db)
-    c.array_noted-asked.ensures.answers c.tell.ensures.mode c.tell.ensures.survives c.tell.ensures.reported).fit
+    c.array_of-asked.ensures.answers c.tell.ensures.mode c.tell.ensures.survives c.tell.ensures.reported).fit
 
 pub returns-clause-reads : goal.returns-clause-reads
 returns-clause-reads g c =
     subst (λ s. Reads (result_err c.tell.result) (standing_of g.S.Store s) (standing_of g.S.Store c.tell.new.self)) c.self.view_is
-    (reported_left g.S.Store c.self.inside.session c.array_noted-asked.new.connection c.tell.new.self c.array_noted-asked.result c.tell.result
+    (reported_left g.S.Store c.self.inside.session c.array_of-asked.new.connection c.tell.new.self c.array_of-asked.result c.tell.result
     (λ kept. unsound kept (ArrayOf c.args.point.now)) c.if-self.false c.self.invariant (λ h db. g.met.S.Store.settled h.store db)
-    c.array_noted-asked.ensures.answers c.tell.ensures.mode c.tell.ensures.survives c.tell.ensures.reported).reads
+    c.array_of-asked.ensures.answers c.tell.ensures.mode c.tell.ensures.survives c.tell.ensures.reported).reads
 
 pub returns-clause-judges : goal.returns-clause-judges
 returns-clause-judges g c clean =
     subst (λ s. Judges (IsTrue ((standing_of g.S.Store s).cannot_stand (ArrayOf c.args.point.now))) (result_err c.tell.result)) c.self.view_is
-    (judges_left (reported_left g.S.Store c.self.inside.session c.array_noted-asked.new.connection c.tell.new.self c.array_noted-asked.result c.tell.result
+    (judges_left (reported_left g.S.Store c.self.inside.session c.array_of-asked.new.connection c.tell.new.self c.array_of-asked.result c.tell.result
     (λ kept. unsound kept (ArrayOf c.args.point.now)) c.if-self.false c.self.invariant (λ h db. g.met.S.Store.settled h.store db)
-    c.array_noted-asked.ensures.answers c.tell.ensures.mode c.tell.ensures.survives c.tell.ensures.reported) clean (λ it holds broken. true≢false (sym broken ∙ holds.1)))
+    c.array_of-asked.ensures.answers c.tell.ensures.mode c.tell.ensures.survives c.tell.ensures.reported) clean (λ it holds broken. true≢false (sym broken ∙ holds.1)))
