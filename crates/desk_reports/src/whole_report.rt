@@ -12,7 +12,7 @@ use crate::report_lines::{day_line, push_schedule};
 use building::{Building, NamedSchedule};
 use dates::Day;
 use desk_settling::calendars_today;
-use points::{Point, point_line};
+use points::{Point, push_point_line};
 use sched::Calendar;
 use std::alloc::{AllocError, Global};
 use store::{Store, StoreFault};
@@ -33,12 +33,7 @@ fn push_schedules(
 }
 
 #[tactic(auto, unfolding(crate::specs::DayReport::line_of_point))]
-fn push_point<S: Store>(
-    alloc: Global,
-    store: &mut S,
-    text: &mut String,
-    point: &Point,
-) -> Result<(), StoreFault>
+fn push_point<S: Store>(store: &mut S, text: &mut String, point: &Point) -> Result<(), StoreFault>
     requires open { IsOpen (S.standing store.old) }
     ensures reads { Reads (result_err result) (S.standing store.old) (S.standing store.new) }
     ensures line { (S.standing store.new).is_honest → OnOk result (string_bytes text.new
@@ -46,13 +41,11 @@ fn push_point<S: Store>(
 {
     let places = store.array(&point.name)?;
     let (present, priority) = places.present(point.relinquish_default);
-    let line = point_line(alloc, &point.name, present, priority)?;
-    text.push_str(line.as_str())?;
+    push_point_line(text, &point.name, present, priority)?;
     Ok(())
 }
 
 fn push_points<S: Store>(
-    alloc: Global,
     store: &mut S,
     text: &mut String,
     points: &[Point],
@@ -63,7 +56,7 @@ fn push_points<S: Store>(
         ≡ string_bytes text.old ++ flat_map (line_of_point (S.standing store.old).content.tables.places) points.now) }
 {
     for point in points {
-        push_point(alloc, store, text, point)?;
+        push_point(store, text, point)?;
     }
     Ok(())
 }
@@ -93,6 +86,6 @@ pub fn day_report<S: Store>(
         today.as_slice(),
         day,
     )?;
-    push_points(alloc, store, &mut text, building.points())?;
+    push_points(store, &mut text, building.points())?;
     Ok(text)
 }

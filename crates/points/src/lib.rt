@@ -19,7 +19,7 @@ pub use name_index::NameIndex;
 pub use numbered_row::{LAST_NUMBER, NumberedRow};
 pub use panel::Panel;
 pub use point::Point;
-pub use point_lines::{point_line, push_right};
+pub use point_lines::{point_line, push_point_line, push_right};
 pub use priority::{event_priority_of, write_priority_of};
 pub use priority_array::{LOWEST_PRIORITY, PriorityArray};
 pub use rights::{find_point, permit, permit_for};

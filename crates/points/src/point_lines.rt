@@ -5,6 +5,7 @@ ghost use Rattle.std.specs.Prelude.{◌≡◌, ◌++◌, IfOk, OnOk, replicate, 
 ghost use Rattle.points.specs.PointLine.{left_in, point_line, right_in};
 
 use crate::name::Name;
+use itoa::Buffer;
 use std::alloc::{AllocError, Global};
 
 // The columns of a name, of a present value and of a priority, in characters.
@@ -13,6 +14,9 @@ const NAME_WIDTH: usize = 32;
 const VALUE_WIDTH: usize = 12;
 
 const PRIORITY_WIDTH: usize = 2;
+
+// Those of nearly every line, with its first word, its space and its line end.
+const LINE_WIDTH: usize = 54;
 
 /// The POINT line of a point, with its line end (LF).
 pub fn point_line(
@@ -23,15 +27,26 @@ pub fn point_line(
 ) -> Result<String, AllocError>
     ensures { IfOk result (λ line. string_bytes line ≡ point_line name.now present priority) }
 {
-    let present = present.to_string(alloc)?;
-    let priority = priority.to_string(alloc)?;
-    let mut line = String::from_str(alloc, "POINT ")?;
-    push_left(&mut line, name.as_str(), NAME_WIDTH)?;
-    push_right(&mut line, present.as_str(), VALUE_WIDTH)?;
-    line.push_str(" ")?;
-    push_right(&mut line, priority.as_str(), PRIORITY_WIDTH)?;
-    line.push_str("\n")?;
+    let mut line = String::with_capacity(alloc, LINE_WIDTH)?;
+    push_point_line(&mut line, name, present, priority)?;
     Ok(line)
+}
+
+/// Writes the POINT line of a point, with its line end (LF).
+pub fn push_point_line(
+    text: &mut String,
+    name: &Name,
+    present: i64,
+    priority: u8,
+) -> Result<(), AllocError>
+    ensures { OnOk result (string_bytes text.new ≡ string_bytes text.old ++ point_line name.now present priority) }
+{
+    text.push_str("POINT ")?;
+    push_left(text, name.as_str(), NAME_WIDTH)?;
+    push_right(text, Buffer::new().format(present), VALUE_WIDTH)?;
+    text.push_str(" ")?;
+    push_right(text, Buffer::new().format(priority), PRIORITY_WIDTH)?;
+    text.push_str("\n")
 }
 
 fn push_left(line: &mut String, text: &str, width: usize) -> Result<(), AllocError>

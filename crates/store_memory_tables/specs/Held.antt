@@ -22,6 +22,7 @@ use Rattle.points.specs.Texts.{Text}
 
 -- ---- panels
 
+-- the slot of a number, if there is one: its row, or room for that
 abbrev pub slot_at : PanelTable → ℕ → Option (Option CommandRow)
 slot_at table number = slot_for table.rows number
 
