@@ -5,6 +5,7 @@ ghost use Rattle.httparse.specs.Grammar.{RequestHead};
 ghost use Rattle.panel_http_requests.specs.Endings.{IsEndOf, MayBegin};
 ghost use Rattle.panel_http_requests.specs.Heads.{HasNoHead, IsHead};
 
+use crate::limits::{MOST_FIELDS, MOST_HEAD_BYTES};
 use arrayvec::ArrayVec;
 use httparse::Status;
 use httparse::spans::{EMPTY_HEADER_SPAN, parse_request};
@@ -51,11 +52,11 @@ fn completes(start: &[u8], ending: &[u8]) -> bool
     ensures may { result ≡ true → (head : RequestHead) × (rest : List ℕ) × IsHead (start.now ++ ending.now) head rest }
     ensures exact { (head : RequestHead) → IsHead (start.now ++ ending.now) head [] → result ≡ true }
 {
-    let mut text: ArrayVec<u8, 8_192> = ArrayVec::new();
+    let mut text: ArrayVec<u8, MOST_HEAD_BYTES> = ArrayVec::new();
     if text.try_extend_from_slice(start).is_err() || text.try_extend_from_slice(ending).is_err() {
         return false;
     }
-    let mut headers = [EMPTY_HEADER_SPAN; 64];
+    let mut headers = [EMPTY_HEADER_SPAN; MOST_FIELDS];
     match parse_request(&text, &mut headers) {
         Ok(Status::Complete(_)) => true,
         Ok(Status::Partial) | Err(_) => false,

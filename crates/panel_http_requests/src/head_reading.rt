@@ -1,6 +1,7 @@
 //! A head, read.
 ghost use Rattle.std.specs.Prelude.{◌≡◌, length, IfSome};
 ghost use Rattle.panel_http_requests.specs.Heads.{Counts, LiesWithin, Sees};
+ghost use Rattle.panel_http_requests.specs.declared.limits.TheConstants.{MOST_FIELDS, MOST_HEAD_BYTES};
 
 use crate::counted_end::Counted;
 use crate::seen::{FoundHead, Seen};
@@ -15,8 +16,8 @@ pub fn read_head<R: Read>(
     buffer: &mut [u8],
     headers: &mut [HeaderSpan],
 ) -> Seen
-    requires room { length buffer.old ≡ 8_192 }
-    requires fields { length headers.old ≡ 64 }
+    requires room { length buffer.old ≡ MOST_HEAD_BYTES }
+    requires fields { length headers.old ≡ MOST_FIELDS }
     ensures sees { IfSome (R.remaining reader.old.inner)
         (λ bytes. Sees bytes (R.remaining reader.new.inner) buffer.new headers.new result) }
     ensures within { LiesWithin buffer.new headers.new result }

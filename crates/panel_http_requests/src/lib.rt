@@ -32,6 +32,7 @@ mod counted_end;
 mod field_values;
 mod head_reading;
 mod laws;
+mod limits;
 mod panel_bodies;
 mod reading;
 mod refusal;

@@ -10,6 +10,7 @@ use crate::asked_route::{AskedRoute, route_asked};
 use crate::body_bytes::{BodySeen, read_body};
 use crate::counted_end::Counted;
 use crate::head_reading::read_head;
+use crate::limits::{MOST_FIELDS, MOST_HEAD_BYTES};
 use crate::refusal::Refusal;
 use crate::request::{Request, Unread};
 use crate::route_request::request_to;
@@ -32,8 +33,8 @@ pub fn read_request<R: Read>(
     ensures reads { IfSome (R.remaining reader.old.inner) (λ bytes. Reads building.now bytes result) }
     ensures failures { Counts reader.old.failures reader.new.failures result }
 {
-    let mut buffer = [0; 8_192];
-    let mut headers = [EMPTY_HEADER_SPAN; 64];
+    let mut buffer = [0; MOST_HEAD_BYTES];
+    let mut headers = [EMPTY_HEADER_SPAN; MOST_FIELDS];
     match read_head(reader, &mut buffer, &mut headers) {
         Seen::Head(found) => read_after(alloc, routes, building, reader, &buffer, &headers, &found),
         Seen::NoHead => Ok(Request::Refused(Refusal::NoHead)),

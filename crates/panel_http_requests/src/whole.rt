@@ -9,6 +9,7 @@ ghost use Rattle.panel_http_requests.specs.Whole.{Lacks, lacks_of};
 
 use crate::asked_route::route_asked;
 use crate::beginning::may_begin;
+use crate::limits::{MOST_FIELDS, MOST_HEAD_BYTES};
 use crate::routes::Routes;
 use httparse::Status;
 use httparse::spans::{EMPTY_HEADER_SPAN, HeaderSpan, RequestSpans, parse_request};
@@ -22,11 +23,11 @@ pub fn lacking(alloc: Global, routes: &Routes, come: &[u8]) -> usize
     if come.is_empty() {
         return 1;
     }
-    let mut headers = [EMPTY_HEADER_SPAN; 64];
-    let front = &come[..come.len().min(8_192)];
+    let mut headers = [EMPTY_HEADER_SPAN; MOST_FIELDS];
+    let front = &come[..come.len().min(MOST_HEAD_BYTES)];
     match parse_request(front, &mut headers) {
         Err(_) => 0,
-        Ok(Status::Partial) if front.len() == 8_192 => 0,
+        Ok(Status::Partial) if front.len() == MOST_HEAD_BYTES => 0,
         Ok(Status::Partial) if may_begin(front) => 1,
         Ok(Status::Partial) => 0,
         Ok(Status::Complete(spans)) => {

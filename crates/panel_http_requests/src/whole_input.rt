@@ -7,6 +7,7 @@ ghost use Rattle.panel_http_requests.specs.AskedRoute.{route_asked, shown};
 ghost use Rattle.panel_http_requests.specs.Requests.{IsAsked, IsAskedBy, IsRequest};
 
 use crate::asked_route::{AskedRoute, route_asked};
+use crate::limits::{MOST_FIELDS, MOST_HEAD_BYTES};
 use crate::refusal::Refusal;
 use crate::request::Request;
 use crate::route_request::request_to;
@@ -17,7 +18,8 @@ use httparse::spans::{EMPTY_HEADER_SPAN, HeaderSpan, RequestSpans, parse_request
 use std::alloc::{AllocError, Global};
 
 /// What an input that has come whole asks of the desk of a building. Its parts are looked at where they lie: neither the
-/// head nor the body is copied. The routes are lent, since their table costs more to make than a request to read.
+/// head nor the body is copied. The routes are lent, since their table costs more to make than a request to read. Where
+/// memory is refused, it says no more than that.
 pub fn request_in(
     alloc: Global,
     routes: &Routes,
@@ -26,8 +28,8 @@ pub fn request_in(
 ) -> Result<Request, AllocError>
     ensures { IfOk result (IsRequest building.now input.now) }
 {
-    let mut headers = [EMPTY_HEADER_SPAN; 64];
-    let front = &input[..input.len().min(8_192)];
+    let mut headers = [EMPTY_HEADER_SPAN; MOST_FIELDS];
+    let front = &input[..input.len().min(MOST_HEAD_BYTES)];
     match parse_request(front, &mut headers) {
         Ok(Status::Complete(spans)) => {
             let after = &input[spans.len..];
