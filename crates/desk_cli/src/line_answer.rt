@@ -25,7 +25,8 @@ const REPLY_ROOM: usize = 96;
 /// The line is one JSON object without its line end; a CR at its end is white space. A line that
 /// is no delivery changes nothing, and so does an import whose holiday list is at fault, which is
 /// answered with its refusal. After a lack of memory the desk holds its tables from before the line,
-/// or those with the line's delivery. One `scratch` and one `text` are lent to each line.
+/// or those with the line's delivery. After any fault what `text` has is no reply. One `scratch` and one `text` are lent
+/// to each line.
 pub fn answer_line<S: Store + Drop>(
     alloc: Global,
     scratch: &mut Scratch,
