@@ -14,6 +14,17 @@ pub(crate) fn made(alloc: Global) -> Result<SqlStore<sqlite::MemStore>, Fail> {
     }
 }
 
+/// The same tables, in a store that has read none of their rows.
+pub(crate) fn opened_again(
+    alloc: Global,
+    store: SqlStore<sqlite::MemStore>,
+) -> Result<SqlStore<sqlite::MemStore>, Fail> {
+    match SqlStore::open(alloc, store.into_connection()) {
+        Ok(store) => Ok(store),
+        Err((fault, _connection)) => Err(Fail::from(fault)),
+    }
+}
+
 // Why no tables were made, if none were.
 fn fault_of<T: Drop, C: Drop>(made: Result<T, (OpenFault, C)>) -> Option<OpenFault> {
     match made {

@@ -1,6 +1,6 @@
-//! Rows that are put again, by their keys at first and then by their numbers, and rows that take the place of one that
-//! falls out.
-use crate::trials::databases::made;
+//! Rows that are put again, by their numbers and, where these are not known, by their keys, and rows that take the place of
+//! one that falls out.
+use crate::trials::databases::{made, opened_again};
 use points::{CommandRow, CommandState, Content, Name};
 use std::alloc::Global;
 use std::test::Fail;
@@ -106,6 +106,23 @@ fn a_next_number_is_put_again_and_again(rt: HostRuntime) -> Result<(), Fail> {
         assert_eq!(rt; store.panel_next(&Name::read("P1")?)?, next);
     }
     assert_eq!(rt; store.panel_next(&Name::read("P2")?)?, 7);
+    Ok(())
+}
+
+#[test]
+fn rows_that_were_not_read_are_put_again(rt: HostRuntime) -> Result<(), Fail> {
+    let alloc = rt.alloc();
+    let mut store = made(alloc)?;
+    put_place(alloc, &mut store, "R101-SET", Some(2100))?;
+    put_shown(alloc, &mut store, "R101-DAY", Some(Some(2100)))?;
+    put_next(alloc, &mut store, "P1", 2)?;
+    let mut store = opened_again(alloc, store)?;
+    put_place(alloc, &mut store, "R101-SET", Some(2150))?;
+    put_shown(alloc, &mut store, "R101-DAY", Some(None))?;
+    put_next(alloc, &mut store, "P1", 3)?;
+    assert_eq!(rt; place(&mut store, "R101-SET")?, Some(2150));
+    assert_eq!(rt; store.shown(&Name::read("R101-DAY")?)?, Some(None));
+    assert_eq!(rt; store.panel_next(&Name::read("P1")?)?, 3);
     Ok(())
 }
 
