@@ -8,7 +8,7 @@ use std::alloc::Global;
 use std::fs;
 use std::io::{self, BufWriter, Read, Write};
 use store::{OpenFault, Store, StoreFault};
-use store_file::{close_store, open_record, open_store};
+use store_file::{close_served_store, close_store, open_record, open_served_store, open_store};
 use store_remembered::Remembered;
 
 /// What a run over a database does.
@@ -25,7 +25,8 @@ pub enum DatabaseRun<'a> {
 }
 
 /// Makes a run over the building and the database of these paths, and writes each delivery down in the record of a
-/// path, if there is one. It is an error where memory for the output's buffer is refused.
+/// path, if there is one. A server's rows are answered from memory: to open them so would take the other runs longer
+/// than it saves. It is an error where memory for the output's buffer is refused.
 pub fn run<'a>(
     rt: &HostRuntime,
     file: &'a str,
@@ -33,15 +34,59 @@ pub fn run<'a>(
     record: Option<&'a str>,
     run: &DatabaseRun<'a>,
 ) -> io::Result<Status> {
+    match run {
+        DatabaseRun::Serve(_) => run_server(rt, file, database, record, run),
+        _ => run_once(rt, file, database, record, run),
+    }
+}
+
+fn run_server<'a>(
+    rt: &HostRuntime,
+    file: &'a str,
+    database: &str,
+    record: Option<&'a str>,
+    run: &DatabaseRun<'a>,
+) -> io::Result<Status> {
+    let opener = || open_served_store(rt, database);
+    run_and_close(rt, file, opener, close_served_store, record, run)
+}
+
+fn run_once<'a>(
+    rt: &HostRuntime,
+    file: &'a str,
+    database: &str,
+    record: Option<&'a str>,
+    run: &DatabaseRun<'a>,
+) -> io::Result<Status> {
+    let opener = || open_store(rt, database);
+    run_and_close(rt, file, opener, close_store, record, run)
+}
+
+/// Makes a run over the store that the one call opens, which the other closes at its end.
+fn run_and_close<'a, S: Store + Drop, O, C>(
+    rt: &HostRuntime,
+    file: &'a str,
+    opener: O,
+    closer: C,
+    record: Option<&'a str>,
+    run: &DatabaseRun<'a>,
+) -> io::Result<Status>
+where
+    O: FnOnce() -> Result<S, OpenFault>,
+    O: Drop,
+    C: FnOnce(S) -> Result<(), StoreFault>,
+    C: Drop,
+    requires opens { O.IsAlwaysCallable opener }
+    requires closes { C.IsAlwaysCallable closer }
+{
     let mut out = BufWriter::new(rt.alloc(), io::writer(rt))?;
     let input_of = |path| Input {
         path,
         reader: fs::open(rt, path),
     };
-    let opener = || open_store(rt, database);
     let fault = &mut rt.stderr();
     let ended = run_remembered(rt, file, input_of, opener, record, run, &mut out, fault);
-    Ok(finish(rt.alloc(), ended, close_store, fault))
+    Ok(finish(rt.alloc(), ended, closer, fault))
 }
 
 /// A store over the one that is opened, which answers from memory what it was asked before.

@@ -1,1 +1,3 @@
 pub mod BeginLemmas
+pub mod ClosingLemmas
+pub mod ServingLemmas

@@ -10,12 +10,17 @@
 //! in these calls, so that what they cost to prove is paid once.
 #![tactic(auto)]
 
-pub use closing::closed;
+pub use closing::{closed, closed_served};
 pub use connecting::{connected, options};
-pub use database_file::{DeskStore, RecordFile, close_store, find_store, open_record, open_store};
+pub use database_file::{
+    DeskStore, RecordFile, ServedStore, close_served_store, close_store, find_store, open_record,
+    open_served_store, open_store,
+};
+pub use serving::remembering;
 
 mod closing;
 mod connecting;
 mod database_file;
 mod finding;
 mod lost_part;
+mod serving;

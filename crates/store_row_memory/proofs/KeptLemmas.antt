@@ -74,16 +74,18 @@ pub lets_go : (place : Place) (kept : Kept) → IsDistinct place_eq (keys_of kep
 lets_go place [] distinct at row is = absurd (Contains-nil (at, row) is)
 lets_go place (first ∷ rest) distinct at row is = (elim (place_eq place first.0)
     as (λ here. place_eq place first.0 ≡ here → Contains (first ∷ rest) (at, row) × (at ≢ place)) [
-  | true ↦ λ here.
-      let later = rw here at is in
-      (Contains-tail first rest (at, row) later, apart_from place first rest distinct here at row later)
-  | false ↦ λ elsewhere. elim (Contains-cons first (remove_entry (place_eq place) rest) (at, row) (rw elsewhere at is)) [
-    | inl is_first ↦ (subst (Contains (first ∷ rest)) is_first (Contains-head first rest),
-      λ same. true≢false (sym (laws.laws-law.refl place) ∙ subst (λ p. place_eq place p ≡ false) (ap (λ e. e.0) is_first ∙ same) elsewhere))
-    | inr later ↦ let further = lets_go place rest (IsDistinct-tail place_eq first.0 (keys_of rest) distinct) at row later in
-        (Contains-tail first rest (at, row) further.0, further.1)
-  ]
-]) refl
+      | true ↦ λ here.
+          let later = rw here at is in
+          (Contains-tail first rest (at, row) later, apart_from place first rest distinct here at row later)
+      | false ↦ λ elsewhere. elim (Contains-cons first (remove_entry (place_eq place) rest) (at, row) (rw elsewhere at is)) [
+        | inl is_first ↦ (
+          subst (Contains (first ∷ rest)) is_first (Contains-head first rest),
+          λ same. true≢false (sym (laws.laws-law.refl place) ∙ subst (λ p. place_eq place p ≡ false) (ap (λ e. e.0) is_first ∙ same) elsewhere),
+        )
+        | inr later ↦ let further = lets_go place rest (IsDistinct-tail place_eq first.0 (keys_of rest) distinct) at row later in
+            (Contains-tail first rest (at, row) further.0, further.1)
+      ]
+    ]) refl
 
 -- a row that is written over the one of its place leaves the others
 pub set_leaves : (place : Place) (cells : Row) (kept : Kept) → LeavesOthers place kept (set_value (place_eq place) kept cells)
@@ -116,8 +118,10 @@ set_follows place cells (first ∷ rest) distinct at row is =
       | inr there ↦ inl (Contains-tail first rest (at, row) there, apart_from place first rest distinct here at row there)
     ]
     go false here is later = elim (Contains-cons first (set_value (place_eq place) rest cells) (at, row) is) [
-      | inl same ↦ inl (subst (Contains (first ∷ rest)) same (Contains-head first rest),
-        λ one. true≢false (sym (laws.laws-law.refl place) ∙ subst (λ p. place_eq place p ≡ false) (ap (λ e. e.0) same ∙ one) here))
+      | inl same ↦ inl (
+        subst (Contains (first ∷ rest)) same (Contains-head first rest),
+        λ one. true≢false (sym (laws.laws-law.refl place) ∙ subst (λ p. place_eq place p ≡ false) (ap (λ e. e.0) same ∙ one) here),
+      )
       | inr there ↦ elim (later there) [
         | inl was ↦ inl (Contains-tail first rest (at, row) was.0, was.1)
         | inr put ↦ inr put
@@ -127,6 +131,9 @@ set_follows place cells (first ∷ rest) distinct at row is =
 -- where a look-up finds none, nothing is kept under the place
 pub none_follows : (place : Place) (cells : Row) (kept : Kept) → IsDistinct place_eq (keys_of kept) → lookup (place_eq place) kept ≡ None
     → Follows place cells kept kept
-none_follows place cells kept distinct none at row is = inl (is, λ same.
-  let found = lookup-from_Contains laws.laws-law place row kept distinct (subst (λ p. Contains kept (p, row)) same is) in
-  no_such row (sym found ∙ none))
+none_follows place cells kept distinct none at row is = inl (
+  is,
+  λ same.
+      let found = lookup-from_Contains laws.laws-law place row kept distinct (subst (λ p. Contains kept (p, row)) same is) in
+      no_such row (sym found ∙ none),
+)

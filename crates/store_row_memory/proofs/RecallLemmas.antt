@@ -82,7 +82,7 @@ at_other : (old new : View) (tree : ℕ) (edit : List Row → List Row) → Sets
     → (place : Place) (row : Row) → place.table ≢ tree → IsAt old place row → IsAt new place row
 at_other old new tree edit sets place row apart was =
     let trees : new.trees place.table ≡ old.trees place.table =
-        ap (λ (v : View). v.trees place.table) sets.is ∙ elsewhere old.trees tree place.table (edit (old.trees tree)) apart in
+    ap (λ (v : View). v.trees place.table) sets.is ∙ elsewhere old.trees tree place.table (edit (old.trees tree)) apart in
     (ap (λ (v : View). v.shape place.table) sets.is ∙ was.0, subst (λ rows. Finds rows place.row row true) (sym trees) was.1)
 
 -- an index was edited, and no table

@@ -67,8 +67,11 @@ module _ (id : ℤ) (new : Row) where
             rw (own, none_above rows (all_weaker _ (λ y. value_cmp (rowid new) (rowid y) ≡ Less) (λ y h. sym (value_cmp_total.congr _ _ (rowid y) is) ∙ h) rows table.0))
         go Greater is later =
             let first = above value_cmp_total _ _ is in
-            rw (own, none_above (r ∷ rows)
-            (first, all_weaker _ (λ y. value_cmp (rowid new) (rowid y) ≡ Less) (λ y. value_cmp_total.trans _ _ _ first) rows table.0))
+            rw (
+              own,
+              none_above (r ∷ rows)
+                  (first, all_weaker _ (λ y. value_cmp (rowid new) (rowid y) ≡ Less) (λ y. value_cmp_total.trans _ _ _ first) rows table.0),
+            )
 
 -- a row that is taken out leaves the row of another number as it is
 pub other_taken : (id gone : ℤ) → id ≢ gone → (rows : List Row) → filter (has_rowid id) (without_rowid gone rows) ≡ filter (has_rowid id) rows

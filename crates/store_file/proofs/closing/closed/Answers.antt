@@ -1,18 +1,21 @@
-use Rattle.std.proofs.Common.{refl, subst}
-use Rattle.sqlite.specs.Closing.{IsCopied}
-use Rattle.sqlite.specs.Files.{file_state, IsClosed}
+use Rattle.std.proofs.Common.{subst}
+use Rattle.sqlite_trees.specs.View.{IsQuiet, IsRolledBack}
+use Rattle.sqlite_store.specs.FileStore.{faults, is_shielded, recovers, view}
+use Rattle.store_file.proofs.ClosingLemmas.{left_as_before, rests_as_before, was_honest}
 use Rattle.store_file.proofs.closing.closed.Goals as goal
 
-pub returns-in-Ok-clause-at_rest : goal.returns-in-Ok-clause-at_rest
-returns-in-Ok-clause-at_rest g c = λ clean.
-    let copied = subst (λ it. IsCopied it c.in-Ok.files) c.into_connection.ensures (c.in-Ok.ensures.copied clean) in
-    record { db = (file_state c.args.store.connection).committed.trees; content_is = refl; seen = copied.seen; left = copied.left }
+pub returns-clause-at_rest : goal.returns-clause-at_rest
+returns-clause-at_rest g c =
+    let undone = subst (λ k. IsRolledBack (view k.store) (view c.into_store.result)) c.into_connection.ensures c.into_store.ensures.undone in
+    rests_as_before g.D.Disk (view c.args.store.connection.store) (view c.into_store.result) undone c.rested.result c.rested.ensures.rests c.rested.ensures.honest
 
-pub returns-in-Ok-clause-honest : goal.returns-in-Ok-clause-honest
-returns-in-Ok-clause-honest g c = λ clean.
-    (subst (λ it. IsCopied it c.in-Ok.files) c.into_connection.ensures (c.in-Ok.ensures.copied clean)).was_clean
+pub returns-clause-honest : goal.returns-clause-honest
+returns-clause-honest g c =
+    let undone = subst (λ k. IsRolledBack (view k.store) (view c.into_store.result)) c.into_connection.ensures c.into_store.ensures.undone in
+    let quiet = subst (λ k. IsQuiet view faults recovers is_shielded k.store c.into_store.result) c.into_connection.ensures c.into_store.ensures.quiet in
+    was_honest g.D.Disk (view c.args.store.connection.store) (view c.into_store.result) undone quiet.clean c.rested.result c.rested.ensures.honest
 
-pub returns-in-Err-clause-kept : goal.returns-in-Err-clause-kept
-returns-in-Err-clause-kept g c = λ db held.
-    let closed = subst (λ it. IsClosed it c.in-Err.left) c.into_connection.ensures c.in-Err.ensures.err.0 in
-    (db, closed.quiet.outcomes db held, refl)
+pub returns-clause-kept : goal.returns-clause-kept
+returns-clause-kept g c =
+    let quiet = subst (λ k. IsQuiet view faults recovers is_shielded k.store c.into_store.result) c.into_connection.ensures c.into_store.ensures.quiet in
+    left_as_before recovers (recovers c.into_store.result) (recovers c.args.store.connection.store) c.rested.result quiet.outcomes c.rested.ensures.kept

@@ -17,6 +17,6 @@ invariant_of-self-2 g c is_clean sound =
     let after = g.S.Store.view c.delete.new.self in
     let sets = subst (λ id. SetsTree before after c.args.table (without_rowid id)) (to_z-of_z w64 c.args.id c.ranges.id) (c.in_ok-delete.ensures.ok is_clean) in
     let gone = subst (λ id. LetsGo (record { table = c.args.table; row = id }) c.self.inside.rows.kept.entries c.forget.new.self.kept.entries)
-        (to_z-of_z w64 c.args.id c.ranges.id) c.forget.ensures in
+    (to_z-of_z w64 c.args.id c.ranges.id) c.forget.ensures in
     row_taken before after c.args.table c.args.id c.self.inside.rows.kept.entries c.forget.new.self.kept.entries c.self.invariant sets gone
     (was_clean (doubt before.is_clean) (doubt after.is_clean) c.in_ok-delete.ensures.quiet.clean is_clean)

@@ -25,9 +25,9 @@ invariant_of-self-then-found g c is_clean sound =
     let was = was_clean (doubt before.is_clean) (doubt after.is_clean) c.in_ok-found.ensures.quiet.clean is_clean in
     let shaped = subst (λ s. IsClean (g.S.Store.view s) → (g.S.Store.view s).shape c.args.table ≡ Table) (sym c.self.view_is) c.requires in
     let found = subst (λ is. Finds (before.trees c.args.table) c.args.id c.get.new.row is) c.if-found.true
-        (subst (λ id. Finds (before.trees c.args.table) id c.get.new.row c.in_ok-found.found) (to_z-of_z w64 c.args.id c.ranges.id) (c.in_ok-found.ensures.ok is_clean)) in
+    (subst (λ id. Finds (before.trees c.args.table) id c.get.new.row c.in_ok-found.found) (to_z-of_z w64 c.args.id c.ranges.id) (c.in_ok-found.ensures.ok is_clean)) in
     let kept = subst (λ id. Keeps (record { table = c.args.table; row = id }) c.get.new.row c.self.inside.rows.kept.entries c.keep.new.self.kept.entries)
-        (to_z-of_z w64 c.args.id c.ranges.id) c.keep.ensures in
+    (to_z-of_z w64 c.args.id c.ranges.id) c.keep.ensures in
     row_read before after c.args.table c.args.id c.self.inside.rows.kept.entries c.keep.new.self.kept.entries c.self.invariant
     c.get.new.row (c.in_ok-found.ensures.same is_clean) (shaped was) found kept was (c.in_ok-found.ensures.sound is_clean)
 

@@ -19,6 +19,6 @@ invariant_of-self-in-Int g c is_clean sound =
     let shaped = subst (λ s. IsClean (g.S.Store.view s) → (g.S.Store.view s).shape c.args.table ≡ Table) (sym c.self.view_is) c.requires.table in
     let fits : SFits w64 c.in-Int.id = search rules in
     let follows = subst (λ id. Follows (record { table = c.args.table; row = id }) c.args.row.now c.self.inside.rows.kept.entries c.follow.new.self.kept.entries)
-        (to_z-of_z fits) c.follow.ensures in
+    (to_z-of_z fits) c.follow.ensures in
     row_put before after c.args.table c.in-Int.id c.self.inside.rows.kept.entries c.follow.new.self.kept.entries c.self.invariant
     c.args.row.now (sym c.in-Int.ensures) sets (shaped was) (g.met.S.Store.ordered c.self.inside.below sets.sound) follows was
