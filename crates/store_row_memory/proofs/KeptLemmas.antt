@@ -1,6 +1,6 @@
 -- What is kept after a call of the cache.
-use Rattle.std.proofs.Common.{◌≡◌, ◌≢◌, ◌⊎◌, ℕ, nat_eq, ◌∷◌, [], Bool, true, false, cond, List, Contains, Option, Some, None, Result, Ok, Err, OnOk, OnErr, inl, inr, refl, sym, ◌∙◌, subst, ap, true≢false}
-use Rattle.std.specs.Cmp.{IsEquivalence, first_so, second_so, unsigned_Decides}
+use Rattle.std.proofs.Common.{◌≡◌, ◌≢◌, ◌⊎◌, nat_eq, ◌∷◌, [], Bool, true, false, cond, Contains, Some, None, Result, Ok, Err, OnOk, OnErr, inl, inr, refl, sym, ◌∙◌, subst, ap, true≢false}
+use Rattle.std.specs.Cmp.{first_so, second_so, unsigned_Decides}
 use Rattle.std.specs.List.{IsDistinct}
 use Rattle.std.specs.Map.{keys_of, lookup, remove_entry, set_value}
 use Rattle.std.specs.Result.{is_err, is_ok}

@@ -1,11 +1,11 @@
 -- What is kept of a store's rows, after a call of the store.
-use Rattle.std.proofs.Common.{◌≡◌, ◌≢◌, ◌⊎◌, ℕ, ℤ, ◌≤◌, ◌==◌, if◌then◌else◌, Bool, true, false, IsTrue, List, filter, true≢false, Contains, Result, Ok, Err, OnOk, OnErr, IfErr, inl, inr, refl, sym, ◌∙◌, ap, subst, arith}
+use Rattle.std.proofs.Common.{◌≡◌, ◌≢◌, ◌⊎◌, ℕ, ℤ, ◌≤◌, ◌==◌, if◌then◌else◌, true, false, List, filter, true≢false, Contains, Result, Ok, Err, OnOk, IfErr, inl, inr, refl, sym, ◌∙◌, ap, subst, arith}
 use Rattle.std.specs.Cmp.{unsigned_Decides}
 use Rattle.sqlite_trees.specs.Tree.{IsIndexShape, IsTable, Trees, has_rowid, put_row, rowid, with_tree, without_rowid}
-use Rattle.sqlite_trees.specs.View.{Commits, Finds, IsClean, IsFailure, IsOrdered, IsShaped, SetsTree, View, doubt}
+use Rattle.sqlite_trees.specs.View.{Finds, IsClean, IsFailure, IsOrdered, IsShaped, SetsTree, View, doubt}
 use Rattle.sqlite_trees.specs.declared.error.StoreError.{StoreError}
 use Rattle.sqlite_trees.specs.declared.store.Shape.{Shape}
-use Rattle.sqlite_trees.specs.declared.store.Shape.TheVariants.{Table, Index}
+use Rattle.sqlite_trees.specs.declared.store.Shape.TheVariants.{Table}
 use Rattle.sqlite_value.specs.declared.value.Value.TheVariants.{Int}
 use Rattle.sqlite_value.specs.Order.{Row}
 use Rattle.store_row_memory.specs.Recalled.{Follows, IsAt, Keeps, Kept, LetsGo, Recalls}

@@ -1,5 +1,5 @@
 -- The row of a number, after a row of its table was put or taken out.
-use Rattle.std.proofs.Common.{◌≡◌, ◌≢◌, ℕ, ℤ, Bool, true, false, not, List, [], ◌∷◌, filter, rules, refl, sym, ◌∙◌, ap, inl, inr, cond, arith}
+use Rattle.std.proofs.Common.{◌≡◌, ◌≢◌, ℤ, Bool, true, false, not, List, [], ◌∷◌, filter, refl, sym, ◌∙◌, ap, inl, inr, cond, arith}
 use Rattle.std.specs.List.{AllByRecursion}
 use Rattle.std.specs.declared.cmp.Ordering.{Ordering}
 use Rattle.std.specs.declared.cmp.Ordering.TheVariants.{Less, Equal, Greater}

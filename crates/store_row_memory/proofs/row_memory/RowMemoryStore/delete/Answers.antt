@@ -1,4 +1,4 @@
-use Rattle.std.proofs.Common.{sym, subst, w64}
+use Rattle.std.proofs.Common.{subst, w64}
 use Rattle.std.proofs.lemmas.Int.{to_z-of_z}
 use Rattle.sqlite_trees.specs.Tree.{without_rowid}
 use Rattle.sqlite_trees.specs.View.{SetsTree, doubt}
