@@ -1,5 +1,5 @@
 -- What a connection leaves of its store, which another connection is made over.
-use Rattle.std.proofs.Common.{◌≡◌, ◌∙◌, [], ℕ, Bool, true, false, IsTrue, Option, None, Some, IsSome, MatchOption, refl, sym, true≢false}
+use Rattle.std.proofs.Common.{◌≡◌, ◌∙◌, ℕ, Bool, true, false, IsTrue, Option, None, Some, IsSome, MatchOption, refl, sym, true≢false}
 use Rattle.sqlite_trees.specs.View.{View, IsClean, IsRolledBack}
 use Rattle.sqlite.specs.Steps.{IsFresh}
 
@@ -23,6 +23,6 @@ module _ (old new : View) (undone : IsRolledBack old new) (clean : IsClean new) 
   }
 
 -- a number that is not 0 is one
-pub is_given : {X : Type 0} {P : X → Type 0} (n : ℕ) (o : Option X) → (n ≡ 0 → ⊥) → MatchOption o (n ≡ 0) P → IsSome o
-is_given n None other none = absurd (other none)
-is_given n (Some x) other some = refl
+pub is_given : {X : Type 0} (P : X → Type 0) (n : ℕ) (o : Option X) → (n ≡ 0 → ⊥) → MatchOption o (n ≡ 0) P → IsSome o
+is_given P n None other none = absurd (other none)
+is_given P n (Some x) other some = refl
