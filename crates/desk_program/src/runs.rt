@@ -8,7 +8,10 @@ use std::alloc::Global;
 use std::fs;
 use std::io::{self, BufWriter, Read, Write};
 use store::{OpenFault, Store, StoreFault};
-use store_file::{close_served_store, close_store, open_record, open_served_store, open_store};
+use store_file::{
+    DeskStore, ServedStore, close_served_store, close_store, open_record, open_served_store,
+    open_store,
+};
 use store_remembered::Remembered;
 
 /// What a run over a database does.
@@ -35,55 +38,74 @@ pub fn run<'a>(
     run: &DatabaseRun<'a>,
 ) -> io::Result<Status> {
     match run {
-        DatabaseRun::Serve(_) => run_server(rt, file, database, record, run),
-        _ => run_once(rt, file, database, record, run),
+        DatabaseRun::Serve(_) => run_and_close(rt, file, &Server { rt, database }, record, run),
+        _ => run_and_close(rt, file, &Once { rt, database }, record, run),
     }
 }
 
-fn run_server<'a>(
+/// Where a run has its store, and how it closes it. A trait, since a call that names the types of a real store and of
+/// closures over it is dear to prove.
+trait Home {
+    type Held: Store + Drop;
+
+    fn open(&self) -> Result<Self::Held, OpenFault>;
+
+    fn close(&self, held: Self::Held) -> Result<(), StoreFault>;
+}
+
+/// A database of one delivery or report.
+#[derive(Drop)]
+struct Once<'a> {
+    rt: &'a HostRuntime,
+    database: &'a str,
+}
+
+impl Home for Once<'_> {
+    type Held = DeskStore;
+
+    fn open(&self) -> Result<DeskStore, OpenFault> {
+        open_store(self.rt, self.database)
+    }
+
+    fn close(&self, held: DeskStore) -> Result<(), StoreFault> {
+        close_store(held)
+    }
+}
+
+/// A server's database.
+#[derive(Drop)]
+struct Server<'a> {
+    rt: &'a HostRuntime,
+    database: &'a str,
+}
+
+impl Home for Server<'_> {
+    type Held = ServedStore;
+
+    fn open(&self) -> Result<ServedStore, OpenFault> {
+        open_served_store(self.rt, self.database)
+    }
+
+    fn close(&self, held: ServedStore) -> Result<(), StoreFault> {
+        close_served_store(held)
+    }
+}
+
+/// Makes a run over the store that its home opens, and closes it at its end.
+fn run_and_close<'a, H: Home>(
     rt: &HostRuntime,
     file: &'a str,
-    database: &str,
+    home: &H,
     record: Option<&'a str>,
     run: &DatabaseRun<'a>,
 ) -> io::Result<Status> {
-    let opener = || open_served_store(rt, database);
-    run_and_close(rt, file, opener, close_served_store, record, run)
-}
-
-fn run_once<'a>(
-    rt: &HostRuntime,
-    file: &'a str,
-    database: &str,
-    record: Option<&'a str>,
-    run: &DatabaseRun<'a>,
-) -> io::Result<Status> {
-    let opener = || open_store(rt, database);
-    run_and_close(rt, file, opener, close_store, record, run)
-}
-
-/// Makes a run over the store that the one call opens, which the other closes at its end.
-fn run_and_close<'a, S: Store + Drop, O, C>(
-    rt: &HostRuntime,
-    file: &'a str,
-    opener: O,
-    closer: C,
-    record: Option<&'a str>,
-    run: &DatabaseRun<'a>,
-) -> io::Result<Status>
-where
-    O: FnOnce() -> Result<S, OpenFault>,
-    O: Drop,
-    C: FnOnce(S) -> Result<(), StoreFault>,
-    C: Drop,
-    requires opens { O.IsAlwaysCallable opener }
-    requires closes { C.IsAlwaysCallable closer }
-{
     let mut out = BufWriter::new(rt.alloc(), io::writer(rt))?;
     let input_of = |path| Input {
         path,
         reader: fs::open(rt, path),
     };
+    let opener = || home.open();
+    let closer = |held| home.close(held);
     let fault = &mut rt.stderr();
     let ended = run_remembered(rt, file, input_of, opener, record, run, &mut out, fault);
     Ok(finish(rt.alloc(), ended, closer, fault))
