@@ -1,6 +1,6 @@
 //! Lists of items put into the tables, in a transaction.
 ghost use Rattle.std.specs.List.{All};
-ghost use Rattle.std.specs.Prelude.{IfSome};
+ghost use Rattle.std.specs.Prelude.{◌≡◌, ◌≤◌, IfSome, drop, length};
 ghost use Rattle.store_sql.specs.Exchange.{IsExchange};
 ghost use Rattle.store.specs.Change.{CanStand, IsKeptRow, IsNext, IsPlace, with_change, with_each};
 ghost use Rattle.store_sql_rows.specs.Steps.{Moves, Turns, imported_put, next_put, place_put, row_put, rows_dropped, shown_put, with_commands, with_values};
@@ -9,7 +9,7 @@ use sqlite::{Alter, Error, Transaction};
 use std::alloc::Global;
 use store::{Change, ImportedEntry, KeptRow, NextNumber, PlaceValue, RowsBelow, ShownValue};
 use store_sql_rows::putting::{drop_rows, exchange_row, put_imported, put_last, put_row};
-use store_sql_rows::{RowNumbers, put_next, put_place, put_shown};
+use store_sql_rows::{RowNumbers, put_leading_places, put_leading_shown, put_next};
 
 // Puts next numbers, one after the other.
 fn put_nexts<S: Alter>(
@@ -50,7 +50,15 @@ fn drop_all<S: Alter>(
     Ok(())
 }
 
-// Puts values into places, one after the other.
+// The items behind so many.
+fn behind<T>(items: &[T], count: usize) -> &[T]
+    requires { count ≤ length items.now }
+    ensures { result.now ≡ drop count items.now }
+{
+    &items[count..]
+}
+
+// Puts values into places, one after the other, or together where one value goes into rows that follow one another.
 fn put_places<S: Alter>(
     transaction: &mut Transaction<'_, S>,
     numbers: &mut RowNumbers,
@@ -59,13 +67,15 @@ fn put_places<S: Alter>(
     requires { All IsPlace items.now }
     ensures moves { Moves S.Store (Turns (with_each place_put items.now)) transaction.old.conn transaction.new.conn result }
 {
-    for item in items {
-        put_place(transaction, numbers, item)?;
+    let mut rest = items;
+    while !rest.is_empty() {
+        let count = put_leading_places(transaction, numbers, rest)?;
+        rest = behind(rest, count);
     }
     Ok(())
 }
 
-// Puts what schedules show, one after the other.
+// Puts what schedules show, one after the other, or together where rows that follow one another show one value.
 fn put_all_shown<S: Alter>(
     transaction: &mut Transaction<'_, S>,
     numbers: &mut RowNumbers,
@@ -73,8 +83,10 @@ fn put_all_shown<S: Alter>(
 ) -> Result<(), Error>
     ensures moves { Moves S.Store (Turns (with_each shown_put items.now)) transaction.old.conn transaction.new.conn result }
 {
-    for item in items {
-        put_shown(transaction, numbers, item)?;
+    let mut rest = items;
+    while !rest.is_empty() {
+        let count = put_leading_shown(transaction, numbers, rest)?;
+        rest = behind(rest, count);
     }
     Ok(())
 }

@@ -72,6 +72,21 @@ equal_count n (Real x) kind filled = absurd (true≢false (sym kind))
 equal_count n (Text s) kind filled = absurd (true≢false (sym kind))
 equal_count n (Blob b) kind filled = absurd (true≢false (sym kind))
 
+-- a cell that is filled with a text, or with a number
+pub text_cell : (cell : Value) → is_of kind.Text cell ≡ true → is_null cell ≡ false → (text : List ℕ) × (cell ≡ Text text)
+text_cell Null kind filled = absurd (true≢false filled)
+text_cell (Int n) kind filled = absurd (true≢false (sym kind))
+text_cell (Real x) kind filled = absurd (true≢false (sym kind))
+text_cell (Text t) kind filled = (t, refl)
+text_cell (Blob b) kind filled = absurd (true≢false (sym kind))
+
+pub int_cell : (cell : Value) → is_of kind.Integer cell ≡ true → is_null cell ≡ false → (number : ℤ) × (cell ≡ Int number)
+int_cell Null kind filled = absurd (true≢false filled)
+int_cell (Int n) kind filled = (n, refl)
+int_cell (Real x) kind filled = absurd (true≢false (sym kind))
+int_cell (Text t) kind filled = absurd (true≢false (sym kind))
+int_cell (Blob b) kind filled = absurd (true≢false (sym kind))
+
 equal_numbers : (n m : ℤ) → is_true (binary (Compare Eq Binary) (Int m) (Int n)) ≡ is_eq (value_cmp (Int m) (Int n))
 unfolding binary
 equal_numbers n m = truth_of _

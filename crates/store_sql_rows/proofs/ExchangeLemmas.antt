@@ -33,7 +33,7 @@ use Rattle.store_sql_rows.proofs.SlotLemmas.{IsSlot, changed, not_true, own_rows
 use Rattle.store_sql_rows.proofs.WriteLemmas.{Ran, updates}
 
 -- rows that no other has the number of stay apart
-own_put_all : (key : List ℕ) (news rows : List Row) → ((row : Row) → Has news row → IsTrue (is_int (rowid row)))
+pub own_put_all : (key : List ℕ) (news rows : List Row) → ((row : Row) → Has news row → IsTrue (is_int (rowid row)))
     → are_fresh rows news ≡ true → AreOwn key rows → AreOwn key (put_all rows news)
 own_put_all key [] rows numbered fresh own = own
 own_put_all key (n ∷ news) rows numbered fresh own =

@@ -1,5 +1,7 @@
 pub mod AddLemmas
 pub mod AnswerLemmas
+pub mod AskedLemmas
+pub mod BetweenLemmas
 pub mod BrokenLemmas
 pub mod CellLemmas
 pub mod CommandLemmas
@@ -39,6 +41,8 @@ pub mod StoredLemmas
 pub mod StoredRowLemmas
 pub mod TableLemmas
 pub mod Texts
+pub mod TogetherItems
+pub mod TogetherLemmas
 pub mod TypeLemmas
 pub mod WriteLemmas
 pub mod UnsoundLemmas

@@ -18,21 +18,22 @@ use Rattle.sqlite.specs.Effect.{Database}
 use Rattle.store_sql_create.specs.Schema.{column_of, place_table, place_tree}
 use Rattle.store_sql_rows.specs.Meanings.{given, passes}
 use Rattle.store_sql_rows.specs.Ours.{IsOurs}
-use Rattle.store_sql_rows.proofs.CellLemmas.{and_true, cast_int, cast_null, equal_count, equal_rowid, equal_text}
+use Rattle.store_sql_rows.proofs.BetweenLemmas.{keys_shown, passes_between, remakes, tied_between}
+use Rattle.store_sql_rows.proofs.CellLemmas.{and_true, cast_int, cast_null, equal_count, equal_rowid, equal_text, int_cell, text_cell}
 use Rattle.store_sql_rows.proofs.TypeLemmas.{IsFilled, first_filled, ruled, second_filled}
 use Rattle.sqlite_sql.specs.Term.{lit, col}
 use Rattle.sqlite.specs.declared.error.Error.{Error}
 use Rattle.sqlite.specs.State.{ExecutesInside, Shown, State}
-use Rattle.store_sql_rows.specs.Ours.{Adds, Changes, IsInside, Loses, Rewrites, RewritesAt}
+use Rattle.store_sql_rows.specs.Ours.{Adds, Changes, IsInside, Loses, Remakes, Rewrites, RewritesAt, is_between}
 use Rattle.store_sql_rows.specs.Slot.{On, place_slot}
-use Rattle.store_sql_rows.proofs.CellLemmas.{and_true, cast_int, cast_null, equal_count, equal_text}
-use Rattle.store_sql_rows.proofs.PlaceTexts.{add_runs, add_text, cells_set, clear_runs, clear_text, of_point_runs, of_point_text, set_at_runs, set_at_text, set_runs, set_text}
+use Rattle.store_sql_rows.proofs.PlaceTexts.{add_runs, add_text, cells_set, cells_set_between, clear_runs, clear_text, keys_between_runs, keys_between_text, of_point_runs, of_point_text, set_at_runs, set_at_text, set_between_runs, set_between_text, set_runs, set_text}
 use Rattle.store_sql_rows.proofs.AddLemmas.{adds_alone}
 use Rattle.store_sql_rows.proofs.KeyLemmas.{count_is, one_number, text_is}
 use Rattle.store_sql_rows.proofs.RewriteLemmas.{Aims, rewrites, rewrites_at}
 use Rattle.store_sql_rows.proofs.RestLemmas.{finds, finds_same}
-use Rattle.store_sql_rows.specs.Looking.{Finds}
+use Rattle.store_sql_rows.specs.Looking.{Finds, ShowsInside, Stays}
 use Rattle.store_sql_rows.proofs.SlotLemmas.{gains, is_place, loses}
+use Rattle.store_sql_rows.proofs.Texts.{between}
 use Rattle.store_sql_rows.specs.Cells.{is_count, is_text}
 use Rattle.store_sql_rows.specs.Rows.{of_place}
 
@@ -68,7 +69,7 @@ clears point priority old new result inside h =
     (λ row h. passes_place old.now inside.ours point priority row h) inside h
 
 -- no two rows have one place
-one_place : (db : Database) → IsOurs db → (point : List ℕ) (priority : ℕ) (a b : Row) → Has (db.trees place_tree) a
+pub one_place : (db : Database) → IsOurs db → (point : List ℕ) (priority : ℕ) (a b : Row) → Has (db.trees place_tree) a
     → Has (db.trees place_tree) b
     → of_place point priority a ≡ true → of_place point priority b ≡ true → rowid a ≡ rowid b
 unfolding first_key
@@ -145,7 +146,32 @@ sets_at point priority value number old new result inside h =
     (Text point ∷ Int (pos priority) ∷ Int value ∷ []) result (aims point priority value (Int number ∷ []) old inside) inside h number
     (λ row h. passes_at old.now inside.ours point priority value number row h)
 
+-- the rows between two numbers
+pub sets_between : (first last value : ℤ) (old new : State) (result : Result ℕ Error) → IsInside old
+    → ExecutesInside 0 set_between_text (Int first ∷ Int last ∷ Int value ∷ []) old new result
+    → OnOk result (Changes (On place_slot (Remakes (is_between first last)
+    (λ row. rowid row ∷ column row 1 ∷ column row 2 ∷ Int value ∷ []))) old new)
+sets_between first last value old new result inside h =
+    remakes place_slot is_place set_between_text set_between_runs.plain between cells_set_between set_between_runs.is (is_between first last)
+    (λ row. rowid row ∷ column row 1 ∷ column row 2 ∷ Int value ∷ []) (Int first ∷ Int last ∷ Int value ∷ []) old new inside
+    (λ row h. passes_between first last (Int value ∷ []) row (inside.ours.rows.place.numbered row h))
+    (λ a b ha hb tied. tied_between first last a b tied)
+    (λ row h.
+    let cells = place_cells old.now inside.ours row h in
+    let point = text_cell (column row 1) cells.0.of cells.0.filled in
+    let priority = int_cell (column row 2) cells.1.of cells.1.filled in
+    let number = int_is (rowid row) (inside.ours.rows.place.numbered row h) in
+    rw (point.1, priority.1, cast_int priority.0, cast_int value, number, cast_int (id_in (rowid row))) refl)
+    (λ row. refl) result h
+
 -- the queries
+
+pub keys_found : {V : Type 0} (first last : ℤ) (old new : State) (items : V → List Row) (r : Result V Error) → IsInside old
+    → IfOk r (λ v. ShowsInside keys_between_text (Int first ∷ Int last ∷ []) old new (items v))
+    → IfOk r (λ v. Changes (Stays (λ kept. Finds (is_between first last) (λ row. column row 1 ∷ column row 2 ∷ []) kept.place (items v))) old new)
+keys_found first last old new items r inside shown =
+    keys_shown place_slot is_place keys_between_text (col 1 1 ∷ col 1 2 ∷ []) (codes "point" ∷ codes "priority" ∷ []) keys_between_runs
+    first last old new items r inside shown
 
 passes_point : (db : Database) → IsOurs db → (point : List ℕ) (row : Row) → Has (db.trees place_tree) row
     → passes (given 1 0 ∷ []) (Text point ∷ []) row ≡ is_text point (column row 1)

@@ -28,7 +28,7 @@ pub filter_same : (p q : Row → Bool) (rows : List Row) → ((row : Row) → Ha
 filter_same p q [] same = refl
 filter_same p q (r ∷ rows) same = rw (same r (inl refl), filter_same p q rows (λ x h. same x (inr h)))
 
-filter_both : (p q : Row → Bool) (rows : List Row) → filter p (filter q rows) ≡ filter (λ r. q r && p r) rows
+pub filter_both : (p q : Row → Bool) (rows : List Row) → filter p (filter q rows) ≡ filter (λ r. q r && p r) rows
 filter_both p q [] = refl
 filter_both p q (r ∷ rows) =
     elim (cases_Bool (q r)) [ inl is ↦ rw (is, filter_both p q rows) | inr not_it ↦ rw (not_it, filter_both p q rows) ]
@@ -37,7 +37,7 @@ pub filter_all : (rows : List Row) → rows ≡ filter (λ r. true) rows
 filter_all [] = refl
 filter_all (r ∷ rows) = ap (λ l. r ∷ l) (filter_all rows)
 
-not_either : (a b : Bool) → (not a && not b) ≡ not (a || b)
+pub not_either : (a b : Bool) → (not a && not b) ≡ not (a || b)
 not_either true b = refl
 not_either false b = refl
 

@@ -15,10 +15,10 @@ use Rattle.sqlite_trees.specs.declared.error.StoreError.TheVariants.{Broken, Cor
 use Rattle.store_sql_rows.specs.Ours.{IsInside}
 use Rattle.store_sql_rows.specs.Steps.{MovesBy}
 
-unchanged_keeps : (old new : State) → IsUnchanged old new → KeepsCommit old new
+pub unchanged_keeps : (old new : State) → IsUnchanged old new → KeepsCommit old new
 unchanged_keeps old new same = record { was_open = λ _. same.0.was_open; committed = λ _. same.0.committed_is }
 
-rolled_keeps : (old new : State) → IsRolledBack old new → KeepsCommit old new
+pub rolled_keeps : (old new : State) → IsRolledBack old new → KeepsCommit old new
 rolled_keeps old new back = record { was_open = back.was_open; committed = λ stands. (back.undone stands).1 }
 
 pub inside_keeps : (sql : List ℕ) (params : Row) (old new : State) (result : Result ℕ Error) → ExecutesInside 0 sql params old new result

@@ -21,14 +21,16 @@ use Rattle.sqlite.specs.Effect.{Database}
 use Rattle.sqlite.specs.State.{ExecutesInside, Shown, State}
 use Rattle.store_sql_create.specs.Schema.{column_of, shown_table, shown_tree}
 use Rattle.store_sql_rows.specs.Meanings.{given, passes}
-use Rattle.store_sql_rows.specs.Ours.{Adds, Changes, IsInside, IsOurs, Loses, Rewrites, RewritesAt}
+use Rattle.store_sql_rows.specs.Ours.{Adds, Changes, IsInside, IsOurs, Loses, Remakes, Rewrites, RewritesAt, is_between}
 use Rattle.store_sql_rows.specs.Slot.{On, shown_slot}
-use Rattle.store_sql_rows.proofs.CellLemmas.{and_true, cast_cell, cast_int, cast_null, equal_rowid, equal_text}
+use Rattle.store_sql_rows.proofs.BetweenLemmas.{keys_shown, passes_between, remakes, tied_between}
+use Rattle.store_sql_rows.proofs.CellLemmas.{and_true, cast_cell, cast_int, cast_null, equal_rowid, equal_text, text_cell}
 use Rattle.store_sql_rows.proofs.RestLemmas.{finds, finds_same}
-use Rattle.store_sql_rows.specs.Looking.{Finds}
+use Rattle.store_sql_rows.specs.Looking.{Finds, ShowsInside, Stays}
 use Rattle.store_sql_rows.proofs.SlotLemmas.{gains, is_shown, loses}
 use Rattle.store_sql_rows.proofs.TypeLemmas.{IsFilled, first_filled, ruled}
-use Rattle.store_sql_rows.proofs.ShownTexts.{add_runs, add_text, cells_set, clear_runs, clear_text, find_runs, find_text, set_at_runs, set_at_text, set_runs, set_text}
+use Rattle.store_sql_rows.proofs.ShownTexts.{add_runs, add_text, cells_set, cells_set_between, clear_runs, clear_text, find_runs, find_text, keys_between_runs, keys_between_text, set_at_runs, set_at_text, set_between_runs, set_between_text, set_runs, set_text}
+use Rattle.store_sql_rows.proofs.Texts.{between}
 use Rattle.store_sql_rows.specs.Cells.{cell_of, is_text}
 use Rattle.store_sql_rows.specs.Rows.{of_schedule}
 
@@ -54,7 +56,7 @@ clears schedule old new result inside h =
     (λ row h. passes_shown old.now inside.ours schedule row h) inside h
 
 -- no two rows have one name
-one_shown : (db : Database) → IsOurs db → (schedule : List ℕ) (a b : Row) → Has (db.trees shown_tree) a → Has (db.trees shown_tree) b
+pub one_shown : (db : Database) → IsOurs db → (schedule : List ℕ) (a b : Row) → Has (db.trees shown_tree) a → Has (db.trees shown_tree) b
     → of_schedule schedule a ≡ true → of_schedule schedule b ≡ true → rowid a ≡ rowid b
 unfolding first_key
 one_shown db ours schedule a b ha hb is_a is_b =
@@ -114,7 +116,31 @@ sets_at schedule value number old new result inside h =
     (aims schedule value (Int number ∷ []) old inside) inside h number
     (λ row h. passes_at old.now inside.ours schedule value number row h)
 
+-- the rows between two numbers
+pub sets_between : (first last : ℤ) (value : Option ℤ) (old new : State) (result : Result ℕ Error) → IsInside old
+    → ExecutesInside 0 set_between_text (Int first ∷ Int last ∷ cell_of value ∷ []) old new result
+    → OnOk result (Changes (On shown_slot (Remakes (is_between first last)
+    (λ row. rowid row ∷ column row 1 ∷ cell_of value ∷ []))) old new)
+sets_between first last value old new result inside h =
+    remakes shown_slot is_shown set_between_text set_between_runs.plain between cells_set_between set_between_runs.is (is_between first last)
+    (λ row. rowid row ∷ column row 1 ∷ cell_of value ∷ []) (Int first ∷ Int last ∷ cell_of value ∷ []) old new inside
+    (λ row h. passes_between first last (cell_of value ∷ []) row (inside.ours.rows.shown.numbered row h))
+    (λ a b ha hb tied. tied_between first last a b tied)
+    (λ row h.
+    let cell = shown_cells old.now inside.ours row h in
+    let schedule = text_cell (column row 1) cell.of cell.filled in
+    let number = int_is (rowid row) (inside.ours.rows.shown.numbered row h) in
+    rw (schedule.1, cast_cell value, number, cast_int (id_in (rowid row))) refl)
+    (λ row. refl) result h
+
 -- the queries
+
+pub keys_found : {V : Type 0} (first last : ℤ) (old new : State) (items : V → List Row) (r : Result V Error) → IsInside old
+    → IfOk r (λ v. ShowsInside keys_between_text (Int first ∷ Int last ∷ []) old new (items v))
+    → IfOk r (λ v. Changes (Stays (λ kept. Finds (is_between first last) (λ row. column row 1 ∷ []) kept.shown (items v))) old new)
+keys_found first last old new items r inside shown =
+    keys_shown shown_slot is_shown keys_between_text (col 1 1 ∷ []) (codes "schedule" ∷ []) keys_between_runs
+    first last old new items r inside shown
 
 pub find_shown : {V : Type 0} (items : V → List Row) (schedule : List ℕ) (old new : State) (r : Result V Error) → IsOurs old.now
     → IfOk r (λ v. Shown find_text (Text schedule ∷ []) old new (items v))

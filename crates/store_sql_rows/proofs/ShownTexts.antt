@@ -9,7 +9,7 @@ use Rattle.sqlite.specs.Listing.{understood}
 use Rattle.sqlite_tied.specs.Compute.{everything}
 use Rattle.store_sql_create.specs.Schema.{shown_tree}
 use Rattle.store_sql_rows.specs.Meanings.{compared_with, deletion, given, least, plain_query, selection}
-use Rattle.store_sql_rows.proofs.Texts.{Runs}
+use Rattle.store_sql_rows.proofs.Texts.{Runs, between}
 
 abbrev pub clear_text : List ℕ
 clear_text = codes "DELETE FROM shown WHERE schedule = ?1"
@@ -47,7 +47,27 @@ pub set_at_runs : Runs set_at_text
 unfolding understood everything
 set_at_runs = record { is = refl; plain = (refl, refl); unlisted = refl }
 
+abbrev pub set_between_text : List ℕ
+set_between_text = codes "UPDATE shown SET value = ?3 WHERE rowid >= ?1 AND rowid <= ?2"
+
+-- the number of the row, and its cells after it
+abbrev pub cells_set_between : List Term
+cells_set_between = col 1 0 ∷ col 1 1 ∷ col 0 2 ∷ []
+
+pub set_between_runs : Runs set_between_text
+    (Update 4 (record { lets = []; body = plain_query shown_tree between (col 1 0 ∷ cells_set_between) }))
+unfolding understood everything
+set_between_runs = record { is = refl; plain = (refl, refl); unlisted = refl }
+
 -- the queries
+
+abbrev pub keys_between_text : List ℕ
+keys_between_text = codes "SELECT schedule FROM shown WHERE rowid >= ?1 AND rowid <= ?2"
+
+pub keys_between_runs : Runs keys_between_text
+    (selection shown_tree between (col 1 1 ∷ []) (codes "schedule" ∷ []))
+unfolding understood everything
+keys_between_runs = record { is = refl; plain = (refl, refl); unlisted = refl }
 
 abbrev pub find_text : List ℕ
 find_text = codes "SELECT value, rowid FROM shown WHERE schedule = ?1"

@@ -1,5 +1,6 @@
 -- Steps of a transaction, one after the other.
-use Rattle.std.proofs.Common.{◌≡◌, true, ℕ, suc, ◌+◌, ◌<◌, List, [], ◌∷◌, drop, length, get_or, Ok, Err, Result, OnOk, refl, sym, subst, ap, ◌∙◌, arith, add-one, drop-cons}
+use Rattle.std.proofs.Common.{◌≡◌, true, ℕ, zero, suc, ◌+◌, ◌<◌, ◌≤◌, List, [], ◌∷◌, drop, take, length, get_or, Ok, Err, Result, OnOk, true≢false, refl, sym, subst, ap, ◌∙◌, arith, add-one, drop-cons}
+use Rattle.std.proofs.lemmas.List.{take-append-drop}
 use Rattle.sqlite_trees.specs.Tree.{Trees}
 use Rattle.sqlite.specs.declared.error.Error.{Error}
 use Rattle.sqlite.specs.declared.error.Error.TheVariants.{SqliteFailure}
@@ -7,6 +8,7 @@ use Rattle.sqlite.specs.declared.error.ErrorCode.TheVariants.{ConstraintViolatio
 use Rattle.sqlite.specs.Effect.{Database}
 use Rattle.sqlite_schema.specs.declared.schema.Constraint.TheVariants.{Unique}
 use Rattle.std.specs.Borrow.{MutBor}
+use Rattle.std.specs.Result.{IsErr}
 use Rattle.sqlite_trees.specs.declared.store.Store.{Ghosts}
 use Rattle.sqlite.specs.Held.{Held, state}
 use Rattle.sqlite.specs.State.{HasCleanDisk, State, Survives}
@@ -15,9 +17,11 @@ use Rattle.sqlite.proofs.StateLemmas.{survives_then}
 use Rattle.store.specs.Change.{with_each}
 use Rattle.store.specs.Tables.{Tables}
 use Rattle.store_sql_rows.specs.Broken.{Keeps}
+use Rattle.store_sql_rows.specs.Looking.{Stays}
 use Rattle.store_sql_rows.specs.Stored.{Kept, is_sound_in, tables_in}
 use Rattle.store_sql_rows.specs.Ours.{Changes, IsInside, IsOurs, Makes, kept_in}
-use Rattle.store_sql_rows.specs.Steps.{Moves, MovesBy, StaysIfTaken, Steps, Turns}
+use Rattle.store_sql_rows.specs.Steps.{Moves, MovesBy, StaysIfTaken, Steps, StepsBy, Turns}
+use Rattle.store_sql_rows.proofs.FoldLemmas.{with_each-append}
 
 pub survives_on : (a b c : State) → Survives a b (λ _. ⊥) → Survives b c (λ _. ⊥) → Survives a c (λ _. ⊥)
 survives_on a b c one two = survives_then a b c (λ _. ⊥) (λ _. ⊥) (λ _. ⊥) (λ _ db none. none) (λ _ db none. none) one two
@@ -89,6 +93,54 @@ two_statements {g} {x} {y} {old} {mid} {new} P Q f z first second makes =
               inside = inside_after (Q y) b c two;
               makes = makes (kept_in a.now.trees) (kept_in b.now.trees) (kept_in c.now.trees) one.change two.change;
             };
+        kept =
+            λ clean. keeps_then a b c (first.steps.kept (clean_before b c _ second.steps.survives clean)) (second.steps.kept clean);
+        survives = survives_on a b c first.steps.survives second.steps.survives;
+      };
+    }
+
+-- a statement on rows that a query showed does
+pub seen_statements : {S A B C : Type 0} {g : Ghosts S} {x : A} {y : B} {old mid new : MutBor (Held S)} (Are : A → Kept → Type 0)
+    (Q : Kept → Kept → Type 0) (f : C → Tables → Tables) (z : C)
+    → MovesBy g (λ it. Changes (Stays (Are it))) old mid (Ok x) → Moves g (Changes Q) mid new (Ok y)
+    → ((a b : Database) → IsOurs a → IsOurs b → Are x (kept_in a.trees) → Q (kept_in a.trees) (kept_in b.trees)
+    → Makes (f z) (kept_in a.trees) (kept_in b.trees))
+    → MovesBy g (λ it. Turns (f it)) old new (Ok z)
+seen_statements {g} {x} {old} {mid} {new} Are Q f z first second makes =
+    let a = state g old.now in
+    let b = state g mid.now in
+    let c = state g new.now in
+    record {
+      same_reference = second.same_reference ∙ first.same_reference;
+      steps = record {
+        done = λ clean at.
+            let one = first.steps.done (clean_before b c _ second.steps.survives clean) at in
+            let two = second.steps.done clean (inside_after (Stays (Are x)) a b one) in
+            record {
+              inside = inside_after Q b c two;
+              makes =
+                  makes a.now c.now at.ours two.ours one.change.1
+                  (subst (λ k. Q k (kept_in c.now.trees)) one.change.0 two.change);
+            };
+        kept =
+            λ clean. keeps_then a b c (first.steps.kept (clean_before b c _ second.steps.survives clean)) (second.steps.kept clean);
+        survives = survives_on a b c first.steps.survives second.steps.survives;
+      };
+    }
+
+-- a step that failed after another one
+pub fails_after : {S A B C : Type 0} {g : Ghosts S} {x : A} {e : Error} {old mid new : MutBor (Held S)} {P : A → State → State → Type 0}
+    {Q : B → State → State → Type 0} {R : C → State → State → Type 0} (r : Result C Error) → IsErr r
+    → MovesBy g P old mid (Ok x) → MovesBy g Q mid new (Err e) → MovesBy g R old new r
+fails_after (Ok z) is first second = absurd (true≢false (sym is))
+fails_after {g} {old} {mid} {new} (Err f) is first second =
+    let a = state g old.now in
+    let b = state g mid.now in
+    let c = state g new.now in
+    record {
+      same_reference = second.same_reference ∙ first.same_reference;
+      steps = record {
+        done = λ clean at. tt;
         kept =
             λ clean. keeps_then a b c (first.steps.kept (clean_before b c _ second.steps.survives clean)) (second.steps.kept clean);
         survives = survives_on a b c first.steps.survives second.steps.survives;
@@ -171,4 +223,71 @@ module _ {Item A : Type 0} (put : Item → Tables → Tables) (items : List Item
       alone (Nears (with_each put (drop i items)) (with_each put items)) (Turns (with_each put items)) a b x y
       (λ all. let whole =
       rw none at all.tables in record { inside = all.inside; makes = record { tables = whole; is_sound = all.is_sound; stands = all.stands } })
+      one
+
+first_of : {Item : Type 0} (items : List Item) (item : Item) → 0 < length items → item ≡ get_or items 0 item → take 1 items ≡ item ∷ []
+first_of items item some is = ap (λ l. take 1 l) (drop-cons items 0 item some) ∙ ap (λ it. it ∷ []) (sym is)
+
+-- the first item of a list alone, and that behind a step that did nothing
+module _ {Item : Type 0} (put : Item → Tables → Tables) (items : List Item) where
+  pub first_put : {S A : Type 0} {g : Ghosts S} {x : A} {old new : MutBor (Held S)} (item : Item) → 0 < length items → item ≡ get_or items 0 item
+      → Moves g (Turns (put item)) old new (Ok x) → MovesBy g (λ count. Turns (with_each put (take count items))) old new (Ok 1)
+  first_put {g} {old} {new} item some is step = record {
+    same_reference = step.same_reference;
+    steps = record {
+      done =
+          λ clean at. subst (λ l. Turns (with_each put l) (state g old.now) (state g new.now)) (sym (first_of items item some is))
+          (step.steps.done clean at);
+      kept = step.steps.kept;
+      survives = step.steps.survives;
+    };
+  }
+
+  pub first_put_after : {S A : Type 0} {g : Ghosts S} {x : A} {old mid new : MutBor (Held S)} (count : ℕ) (item : Item) → 0 < length items
+      → item ≡ get_or items 0 item → count ≤ 0 → MovesBy g (λ n. Turns (with_each put (take n items))) old mid (Ok count)
+      → Moves g (Turns (put item)) mid new (Ok x) → MovesBy g (λ n. Turns (with_each put (take n items))) old new (Ok 1)
+  first_put_after (suc n) item some is none first second = absurd (omega arith)
+  first_put_after {g} {x} {old} {mid} {new} zero item some is none first second =
+      let nothing : Moves g (Turns (λ t. t)) old mid (Ok (tt {0})) = record {
+        same_reference = first.same_reference;
+        steps = record { done = λ clean at. first.steps.done clean at; kept = first.steps.kept; survives = first.steps.survives };
+      } in
+      first_put item some is (turns_then (λ t. t) (put item) (put item) (λ t. refl) nothing second)
+
+  -- the first items of what is left
+  pub nears_rest : {B : Type 0} (whole : List Item) (a b c : State) (x : B) (count : ℕ) → count ≤ length items
+      → Steps {A = B} (Nears (with_each put items) (with_each put whole)) a b (Ok x)
+      → StepsBy (λ n. Turns (with_each put (take n items))) b c (Ok count)
+      → Steps {A = B} (Nears (with_each put (drop count items)) (with_each put whole)) a c (Ok x)
+  nears_rest whole a b c x count within one two =
+      let first : Steps {A = ℕ} (Turns (with_each put (take count items))) b c (Ok count) =
+      record { done = λ clean at. two.done clean at; kept = two.kept; survives = two.survives } in
+      let both =
+      then (Nears (with_each put items) (with_each put whole)) (Turns (with_each put (take count items)))
+      (Nears (with_each put (drop count items)) (with_each put whole)) a b c x (Ok count) (λ near. near.inside)
+      (λ near turned. record {
+        inside = turned.inside;
+        tables =
+            ap (with_each put (drop count items)) turned.makes.tables
+            ∙ sym (with_each-append put (take count items) (drop count items) (tables_in (kept_in b.now.trees)))
+            ∙ ap (λ l. with_each put l (tables_in (kept_in b.now.trees))) (take-append-drop count items) ∙ near.tables;
+        is_sound = λ sound. turned.makes.is_sound (near.is_sound sound);
+        stands = λ asked stood. turned.makes.stands asked (near.stands asked stood);
+      })
+      one first in
+      record { done = λ clean at. both.done clean at; kept = both.kept; survives = both.survives }
+
+  -- where nothing is left
+  pub nears_none : {B : Type 0} (whole : List Item) (a b : State) (x : B) → items ≡ []
+      → Steps {A = B} (Nears (with_each put items) (with_each put whole)) a b (Ok x) → Steps {A = B} (Turns (with_each put whole)) a b (Ok x)
+  nears_none whole a b x none one =
+      alone (Nears (with_each put items) (with_each put whole)) (Turns (with_each put whole)) a b x x
+      (λ all. record {
+        inside = all.inside;
+        makes = record {
+          tables = ap (λ l. with_each put l (tables_in (kept_in b.now.trees))) (sym none) ∙ all.tables;
+          is_sound = all.is_sound;
+          stands = all.stands;
+        };
+      })
       one

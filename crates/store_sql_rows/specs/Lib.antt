@@ -7,3 +7,4 @@ pub mod Rows
 pub mod Slot
 pub mod Steps
 pub mod Stored
+pub mod Together

@@ -12,7 +12,9 @@ use Rattle.sqlite.specs.Effect.{Database, ReadsFirst, Reads as ReadsAll}
 use Rattle.sqlite_resolve.specs.declared.compiled.Compiled.{Compiled}
 use Rattle.sqlite_resolve.specs.declared.error.CompileError.{CompileError}
 use Rattle.sqlite_schema.specs.declared.command.Command.{Command}
-use Rattle.sqlite.specs.State.{HasCleanDisk, IsUnchanged, State, Survives}
+use Rattle.sqlite.specs.Listing.{understood}
+use Rattle.sqlite.specs.State.{HasCleanDisk, IsUnchanged, Shows, State, Survives}
+use Rattle.store_sql_create.specs.Schema.{desk_schema}
 use Rattle.store_sql_rows.specs.Cells.{is_count}
 use Rattle.store_sql_rows.specs.Ours.{IsOurs, kept_in}
 use Rattle.store_sql_rows.specs.Stored.{Kept}
@@ -37,6 +39,10 @@ pub record Reads {A : Type 0} (Found : Kept → A → Type 0) (old new : State) 
 -- the answer shows the rows that are picked, in some order
 pub record Finds (pick : Row → Bool) (show : Row → Row) (rows answer : List Row) : Type 0 where
   pub shown : IsPermutation (map show (filter pick rows)) answer
+
+-- nothing was changed, and the rows are such
+abbrev pub Stays : (Kept → Type 0) → Kept → Kept → Type 0
+Stays Are old now = (now ≡ old) × Are old
 
 -- the answer shows a column of the picked row where it is least, or there is none
 pub record FindsLeast (pick : Row → Bool) (at : ℕ) (rows answer : List Row) : Type 0 where
@@ -86,6 +92,11 @@ IsReadRun command db params from upto run = ReadsAll command db params run ⊎ S
 abbrev pub IsCommand : Result Compiled CompileError → Command → Type 0
 IsCommand (Ok compiled) command = compiled.command ≡ command
 IsCommand (Err fault) command = ⊥
+
+-- a query in a transaction changed nothing, and these rows are its answer
+pub record ShowsInside (sql : List ℕ) (params : Row) (old new : State) (rows : List Row) : Type 0 where
+  pub seen : Shows old new old.now old.committed true
+  pub reads : (command : Command) → IsCommand (understood desk_schema sql) command → ReadsAll command old.now params rows
 
 -- the cell has this text or one after it
 abbrev pub is_from_text : List ℕ → Value → Bool

@@ -1,11 +1,14 @@
 -- A database of the six tables.
 use Rattle.std.specs.Prelude.{◌≡◌, ℕ, zero, suc, ℤ, Bool, true, false, not, ◌&&◌, filter, IsTrue, List, [], ◌∷◌, ◌++◌, map}
+use Rattle.std.specs.List.Sorted.{IsPermutation}
+use Rattle.std.specs.Ordering.{is_ge, is_le}
 use Rattle.sqlite_value.specs.declared.value.Value.{Value}
+use Rattle.sqlite_value.specs.declared.value.Value.TheVariants.{Int}
 use Rattle.sqlite_rules.specs.Edit.{is_taken}
 use Rattle.sqlite_rules.specs.Lists.{Has}
 use Rattle.sqlite_trees.specs.Tree.{Trees, has_rowid, rowid}
 use Rattle.sqlite_trees.specs.View.{is_int}
-use Rattle.sqlite_value.specs.Order.{Row, column}
+use Rattle.sqlite_value.specs.Order.{Row, column, value_cmp}
 use Rattle.sqlite.specs.Effect.{Database, IsDatabase}
 use Rattle.sqlite.specs.State.{Shows, State}
 use Rattle.store_sql_create.specs.Schema.{command_tree, desk_schema, desk_tree, imported_tree, panel_tree, place_tree, shown_tree}
@@ -107,6 +110,21 @@ abbrev pub RewritesAt : ℤ → (Row → Bool) → Row → ℕ → List Row → 
 RewritesAt number gone cells zero old now = Rewrites (at_number number gone) cells zero old now
 RewritesAt number gone cells (suc more) old now =
     (row : Row) × Has old row × (at_number number gone row ≡ true) × Rewrites gone cells (suc more) old now
+
+-- the number of the row lies between two
+abbrev pub is_between : ℤ → ℤ → Row → Bool
+is_between first last row = is_ge (value_cmp (rowid row) (Int first)) && is_le (value_cmp (rowid row) (Int last))
+
+-- there are these rows more, each under a number that none had
+abbrev pub GainsAll : List Row → List Row → List Row → Type 0
+GainsAll [] old now = now ≡ old
+GainsAll (row ∷ rows) old now = (mid : List Row) × (is_taken old row ≡ false) × HasOneMore row old mid × GainsAll rows mid now
+
+-- the rows that pass are gone, and of each there is one that is made of it
+pub record Remakes (pick : Row → Bool) (make : Row → Row) (old now : List Row) : Type 0 where
+  pub made : List Row
+  pub are : IsPermutation (map make (filter pick old)) made
+  pub gained : GainsAll made (filter (λ row. not (pick row)) old) now
 
 -- so many rows passed: where none did, the rows are as they were; else those that passed are gone, and to those that are
 -- left, of which none is of the key, one row with these cells is added

@@ -4,7 +4,7 @@ ghost use Rattle.sqlite_value.specs.Order.{column};
 ghost use Rattle.sqlite_value.specs.Value.{owned};
 ghost use Rattle.store_sql_rows.specs.declared.read_fault.ReadFault.TheVariants.{BadRow};
 ghost use Rattle.dates.specs.Entry.{reading};
-ghost use Rattle.store_sql_rows.specs.Cells.{count_in, entry_in, entry_of, name_in, number_in, optional_in};
+ghost use Rattle.store_sql_rows.specs.Cells.{count_in, entry_in, entry_of, is_text, name_in, number_in, optional_in};
 
 use crate::read_fault::ReadFault;
 use dates::Entry;
@@ -18,6 +18,16 @@ pub(crate) fn cell_at(row: &Row, at: usize) -> ValueRef<'_>
     match row.get_ref(at) {
         Ok(value) => value,
         Err(_) => ValueRef::Null,
+    }
+}
+
+/// Whether a cell has this text.
+pub(crate) fn is_text(cell: ValueRef<'_>, text: &str) -> bool
+    ensures { result ≡ is_text text.now (owned cell.entry) }
+{
+    match cell {
+        ValueRef::Text(bytes) => text.as_bytes() == bytes,
+        _ => false,
     }
 }
 

@@ -2,14 +2,16 @@
 ghost use Rattle.std.specs.Prelude.{◌≡◌, false, IfOk, OnOk};
 ghost use Rattle.sqlite.specs.Given.{IsPlain};
 ghost use Rattle.sqlite.specs.Held.{state};
-ghost use Rattle.sqlite.specs.Listing.{understood};
-ghost use Rattle.sqlite.specs.State.{HasCleanDisk, IsUnchanged, Shown, Survives};
+ghost use Rattle.sqlite.specs.Listing.{reads_listing, understood};
+ghost use Rattle.sqlite.specs.State.{HasCleanDisk, IsUnchanged, KeepsCommit, Shown, Survives};
 ghost use Rattle.sqlite.specs.Values.{bound};
 ghost use Rattle.store_sql_create.specs.Schema.{desk_schema};
-ghost use Rattle.store_sql_rows.specs.Looking.{Leaves, Rests};
+ghost use Rattle.store_sql_rows.specs.Looking.{Leaves, Rests, ShowsInside};
+ghost use Rattle.store_sql_rows.specs.Ours.{IsInside};
 
+use crate::running::run;
 use sqlite::types::ValueRef;
-use sqlite::{Alter, Connection, Error, Row};
+use sqlite::{Alter, Connection, Error, Row, Transaction};
 
 /// The answer of a query, outside a transaction.
 pub fn look<S: Alter>(
@@ -47,4 +49,25 @@ pub(crate) fn ask<S: Alter>(
     ensures leaves { Leaves (state S.Store connection.old) (state S.Store connection.new) result }
 {
     look(connection, sql, params)
+}
+
+/// The answer of a query on the six tables, in a transaction; a transaction that a failure ended refuses it.
+pub(crate) fn ask_inside<S: Alter>(
+    transaction: &mut Transaction<'_, S>,
+    sql: &str,
+    params: &[ValueRef<'_>],
+) -> Result<Vec<Row>, Error>
+    requires plain { IsPlain (understood desk_schema sql.now) }
+    requires unlisted { reads_listing desk_schema sql.now ≡ false }
+    ensures same_reference { transaction.new.conn.ghost_name ≡ transaction.old.conn.ghost_name }
+    ensures shown { HasCleanDisk (state S.Store transaction.new.conn.now) → IsInside (state S.Store transaction.old.conn.now)
+        → IfOk result (λ rows. ShowsInside sql.now (bound params.now) (state S.Store transaction.old.conn.now)
+        (state S.Store transaction.new.conn.now) rows.items) }
+    ensures kept { HasCleanDisk (state S.Store transaction.new.conn.now)
+        → KeepsCommit (state S.Store transaction.old.conn.now) (state S.Store transaction.new.conn.now) }
+    ensures survives { Survives (state S.Store transaction.old.conn.now) (state S.Store transaction.new.conn.now) (λ _. ⊥) }
+{
+    // A query alone would be answered behind the end too.
+    run(transaction, "", &[])?;
+    transaction.query_all(sql, params)
 }

@@ -3,14 +3,15 @@ ghost use Rattle.std.specs.Prelude.{◌<◌, pos, [], ◌∷◌};
 ghost use Rattle.sqlite.specs.Held.{state};
 ghost use Rattle.sqlite_value.specs.declared.value.Value.TheVariants.{Int, Text};
 ghost use Rattle.sqlite_value.specs.Order.{column};
-ghost use Rattle.store_sql_rows.specs.Looking.{Finds, FindsLeast, Reads, is_from_text};
-ghost use Rattle.store_sql_rows.specs.Ours.{Adds, Changes, Loses, Rewrites, RewritesAt};
+ghost use Rattle.sqlite_trees.specs.Tree.{rowid};
+ghost use Rattle.store_sql_rows.specs.Looking.{Finds, FindsLeast, Reads, Stays, is_from_text};
+ghost use Rattle.store_sql_rows.specs.Ours.{Adds, Changes, Loses, Remakes, Rewrites, RewritesAt, is_between};
 ghost use Rattle.store_sql_rows.specs.Slot.{On, place_slot};
 ghost use Rattle.store_sql_rows.specs.Steps.{Moves, MovesBy, StaysIfTaken};
 ghost use Rattle.store_sql_rows.specs.Cells.{is_text};
 ghost use Rattle.store_sql_rows.specs.Rows.{of_place};
 
-use crate::looking::ask;
+use crate::looking::{ask, ask_inside};
 use crate::parameters::{count, text, whole, words};
 use crate::running::run;
 use points::Name;
@@ -92,7 +93,40 @@ pub fn set_at<S: Alter>(
     )
 }
 
+/// Sets the value in the places whose rows have numbers from one to another, and answers how many they are.
+pub fn set_between<S: Alter>(
+    transaction: &mut Transaction<'_, S>,
+    first: i64,
+    last: i64,
+    value: i64,
+) -> Result<usize, Error>
+    ensures moves { Moves S.Store (Changes (On place_slot (Remakes (is_between first last)
+        (λ row. rowid row ∷ column row 1 ∷ column row 2 ∷ Int value ∷ [])))) transaction.old.conn transaction.new.conn result }
+{
+    run(
+        transaction,
+        "UPDATE place SET value = ?3 WHERE rowid >= ?1 AND rowid <= ?2",
+        &[whole(first), whole(last), whole(value)],
+    )
+}
+
 // ---- what is read
+
+/// The cells `point` and `priority` of the places whose rows have numbers from one to another.
+pub fn keys_between<S: Alter>(
+    transaction: &mut Transaction<'_, S>,
+    first: i64,
+    last: i64,
+) -> Result<Vec<Row>, Error>
+    ensures moves { MovesBy S.Store (λ rows. Changes (Stays (λ kept. Finds (is_between first last)
+        (λ row. column row 1 ∷ column row 2 ∷ []) kept.place rows.items))) transaction.old.conn transaction.new.conn result }
+{
+    ask_inside(
+        transaction,
+        "SELECT point, priority FROM place WHERE rowid >= ?1 AND rowid <= ?2",
+        &[whole(first), whole(last)],
+    )
+}
 
 /// The least name of a point from a text on, if there is one.
 pub fn next_point<S: Alter>(connection: &mut Connection<S>, from: &str) -> Result<Vec<Row>, Error>

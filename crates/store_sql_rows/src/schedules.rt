@@ -3,14 +3,15 @@ ghost use Rattle.std.specs.Prelude.{◌<◌, [], ◌∷◌};
 ghost use Rattle.sqlite.specs.Held.{state};
 ghost use Rattle.sqlite_value.specs.declared.value.Value.TheVariants.{Text};
 ghost use Rattle.sqlite_value.specs.Order.{column};
-ghost use Rattle.store_sql_rows.specs.Looking.{Finds, FindsLeast, Reads, is_from_text};
-ghost use Rattle.store_sql_rows.specs.Ours.{Adds, Changes, Loses, Rewrites, RewritesAt};
+ghost use Rattle.sqlite_trees.specs.Tree.{rowid};
+ghost use Rattle.store_sql_rows.specs.Looking.{Finds, FindsLeast, Reads, Stays, is_from_text};
+ghost use Rattle.store_sql_rows.specs.Ours.{Adds, Changes, Loses, Remakes, Rewrites, RewritesAt, is_between};
 ghost use Rattle.store_sql_rows.specs.Slot.{On, shown_slot};
 ghost use Rattle.store_sql_rows.specs.Steps.{Moves, MovesBy, StaysIfTaken};
 ghost use Rattle.store_sql_rows.specs.Cells.{cell_of};
 ghost use Rattle.store_sql_rows.specs.Rows.{of_schedule};
 
-use crate::looking::ask;
+use crate::looking::{ask, ask_inside};
 use crate::parameters::{optional, text, whole, words};
 use crate::running::run;
 use points::Name;
@@ -83,7 +84,40 @@ pub fn set_at<S: Alter>(
     )
 }
 
+/// Sets what the schedules show whose rows have numbers from one to another, and answers how many they are.
+pub fn set_between<S: Alter>(
+    transaction: &mut Transaction<'_, S>,
+    first: i64,
+    last: i64,
+    value: Option<i64>,
+) -> Result<usize, Error>
+    ensures moves { Moves S.Store (Changes (On shown_slot (Remakes (is_between first last)
+        (λ row. rowid row ∷ column row 1 ∷ cell_of value ∷ [])))) transaction.old.conn transaction.new.conn result }
+{
+    run(
+        transaction,
+        "UPDATE shown SET value = ?3 WHERE rowid >= ?1 AND rowid <= ?2",
+        &[whole(first), whole(last), optional(value)],
+    )
+}
+
 // ---- what is read
+
+/// The cell `schedule` of the schedules whose rows have numbers from one to another.
+pub fn keys_between<S: Alter>(
+    transaction: &mut Transaction<'_, S>,
+    first: i64,
+    last: i64,
+) -> Result<Vec<Row>, Error>
+    ensures moves { MovesBy S.Store (λ rows. Changes (Stays (λ kept. Finds (is_between first last)
+        (λ row. column row 1 ∷ []) kept.shown rows.items))) transaction.old.conn transaction.new.conn result }
+{
+    ask_inside(
+        transaction,
+        "SELECT schedule FROM shown WHERE rowid >= ?1 AND rowid <= ?2",
+        &[whole(first), whole(last)],
+    )
+}
 
 /// The cell `value` of a schedule, and the number of its row.
 pub fn find<S: Alter>(connection: &mut Connection<S>, schedule: &Name) -> Result<Vec<Row>, Error>

@@ -1,28 +1,37 @@
-use Rattle.std.proofs.Common.{◌<◌, ◌∙◌, length, arith}
+use Rattle.std.proofs.Common.{◌≡◌, ◌≤◌, ◌∙◌, sym, subst, arith, length, List, Ok}
+use Rattle.std.proofs.lemmas.Bool.{eqb-true}
 use Rattle.std.proofs.lemmas.List.{drop_all}
+use Rattle.std.specs.List.{All}
+use Rattle.std.proofs.lemmas.List.Elements.{All-drop}
 use Rattle.sqlite.specs.Held.{state}
-use Rattle.store_sql_rows.specs.Steps.{place_put}
-use Rattle.store_sql_rows.proofs.StepLemmas.{nears_last, nears_next}
+use Rattle.store.specs.Change.{IsPlace, with_each}
+use Rattle.store_sql_rows.specs.Steps.{Steps, place_put}
+use Rattle.store_sql_rows.proofs.StepLemmas.{Nears, nears_none, nears_rest}
 use Rattle.store_sql.proofs.writing.put_places.Goals as goal
 
-pub loop-item-preserved : goal.loop-item-preserved
-loop-item-preserved g c =
-    let below : c.loop-item.item-index < length c.args.items.now = omega arith in
+pub loop-rest-preserved : goal.loop-rest-preserved
+loop-rest-preserved g c =
+    let old = state g.S.Store c.args.transaction.now.conn.now in
+    let mid = state g.S.Store c.loop-rest.transaction.conn.now in
+    let new = state g.S.Store c.put_leading_places.new.transaction.conn.now in
     record {
-      same = c.put_place.ensures.moves.same_reference ∙ c.loop-item.invariant.same;
+      same = c.put_leading_places.ensures.moves.same_reference ∙ c.loop-rest.invariant.same;
+      places = subst (All IsPlace) (sym c.behind-rest.ensures) (All-drop IsPlace c.in_ok-count.count c.loop-rest.rest.now c.loop-rest.invariant.places);
       steps =
-          nears_next place_put c.args.items.now c.loop-item.item-index c.item-item.result (state g.S.Store c.args.transaction.now.conn.now)
-          (state g.S.Store c.loop-item.transaction.conn.now) (state g.S.Store c.put_place.new.transaction.conn.now) _ _ below c.item-item.is
-          c.loop-item.invariant.steps c.in_ok-put_place.ensures.moves.steps;
+          subst (λ l. Steps {A = Unit {0}} (Nears (with_each place_put l) (with_each place_put c.args.items.now)) old new (Ok (tt {0})))
+          (sym c.behind-rest.ensures)
+          (nears_rest place_put c.loop-rest.rest.now c.args.items.now old mid new (tt {0}) c.in_ok-count.count c.in_ok-count.ensures.within
+          c.loop-rest.invariant.steps c.in_ok-count.ensures.moves.steps);
     }
 
 pub returns : goal.returns
 returns g c = record {
   moves = record {
-    same_reference = c.loop-item.invariant.same;
+    same_reference = c.loop-rest.invariant.same;
     steps =
-        nears_last place_put c.args.items.now c.loop-item.item-index (state g.S.Store c.args.transaction.now.conn.now)
-        (state g.S.Store c.loop-item.transaction.conn.now) _ _
-        (drop_all c.loop-item.item-index c.args.items.now (omega arith)) c.loop-item.invariant.steps;
+        nears_none place_put c.loop-rest.rest.now c.args.items.now (state g.S.Store c.args.transaction.now.conn.now)
+        (state g.S.Store c.loop-rest.transaction.conn.now) (tt {0})
+        (drop_all 0 c.loop-rest.rest.now (omega (arith, eqb-true (length c.loop-rest.rest.now) 0 (sym c.loop-rest-test.ensures))))
+        c.loop-rest.invariant.steps;
   };
 }
