@@ -1,4 +1,4 @@
-use Rattle.std.proofs.Common.{◌≡◌, ◌∙◌, [], ◌∷◌, refl, ap, rules, sym}
+use Rattle.std.proofs.Common.{◌≡◌, ◌∙◌, refl, ap, rules, sym}
 use Rattle.store.specs.Change.{with_each}
 use Rattle.store.specs.Tables.{Tables}
 use Rattle.store.specs.declared.change.KeptRow.{KeptRow}
