@@ -4,7 +4,6 @@ mod databases;
 mod disks;
 mod faulty_disk;
 mod rows_put_again;
-mod rows_together;
 mod scripts;
 mod stop_each;
 mod version_1;
