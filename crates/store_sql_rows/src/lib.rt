@@ -3,7 +3,8 @@
 //! Each function of the modules `calendars` to `schedules` runs one statement of SQL, and its contract says what that
 //! makes of the rows of the six tables. Those of `putting` and of `next_puts`, `place_puts` and `shown_puts` put one item
 //! of a change into them, in a transaction; of the last three a row that was read or added before is found by its
-//! number (`RowNumbers`). What a row says is read by `cells` and `command_cells`. `run_from` reads the rows of a panel's run,
+//! number (`RowNumbers`). `place_runs` and `shown_runs` put one value into rows that follow one another by their numbers,
+//! by one statement. What a row says is read by `cells` and `command_cells`. `run_from` reads the rows of a panel's run,
 //! one at a time. `look` asks a query, whatever it is.
 #![tactic(auto)]
 

@@ -93,7 +93,7 @@ pub fn set_at<S: Alter>(
     )
 }
 
-/// Sets the value in the places whose rows have numbers from one to another, and answers how many they are.
+/// Sets the value in the places whose rows have numbers from one to another.
 pub fn set_between<S: Alter>(
     transaction: &mut Transaction<'_, S>,
     first: i64,

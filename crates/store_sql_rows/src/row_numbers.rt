@@ -8,7 +8,8 @@ use std::hash::Hash;
 
 /// The numbers of rows that were read or added before, by their keys. A row is found faster by its number than by its
 /// key. Each is a guess, since what was read may have gone and what was added may have been undone: a statement that
-/// takes one takes the key too. Where memory is refused less is known.
+/// takes one takes the key too, and one that takes a range of them comes behind a look at the keys of its rows. Where
+/// memory is refused less is known.
 #[derive(Drop)]
 pub struct RowNumbers {
     pub(crate) nexts: HashMap<Name, i64>,

@@ -84,7 +84,7 @@ pub fn set_at<S: Alter>(
     )
 }
 
-/// Sets what the schedules show whose rows have numbers from one to another, and answers how many they are.
+/// Sets what the schedules show whose rows have numbers from one to another.
 pub fn set_between<S: Alter>(
     transaction: &mut Transaction<'_, S>,
     first: i64,
