@@ -35,15 +35,17 @@ import proved_apart
 ROOT = pathlib.Path(__file__).resolve().parent.parent
 FOLDER = ROOT / "build" / "bench"
 LARGEST, QUARTER, NEW_YEAR = bench.LARGEST, bench.QUARTER, bench.NEW_YEAR
-ROUNDS, RUNS = 5, 3
+ROUNDS, RUNS = 15, 3
 # The requests of a block, and the panels that its commands come from.
-TICKS, STILL, REPORTS, NUMBERS, POINTS, PANELS = 384, 300, 20, 100, 500, 4
+TICKS, STILL, REPORTS, NUMBERS, POINTS, PANELS = 384, 300, 20, 66, 500, 4
 # Those that are counted by valgrind.
 TICKS_COUNTED, COUNTED, REPORTS_COUNTED = 96, 100, 5
 # Each list that is replayed, its lines, and what its row wants.
 REPLAYED = {"ticks": (bench.QUARTERS, 2.0), "mixed": (200_000, 1.0), "in order": (200_000, 0.9), "lossy": (200_000, 0.9)}
 COMPARED = 20_000
 MOST_REQUESTS = 100_000
+# How many requests the one server takes before the other does: few, so that what else the machine does comes to both.
+IN_TURN = 100
 LIBC = ctypes.CDLL(None)
 
 
@@ -162,10 +164,10 @@ class Server:
             return b"".join(iter(lambda: connection.recv(65_536), b""))
 
     def take(self, requests):
-        """The processor's seconds for each of these requests, and what they were answered."""
+        """The processor's seconds for these requests, and what they were answered."""
         before = processor_seconds(self.ran.pid)
         answers = [self.ask(request) for request in requests]
-        return (processor_seconds(self.ran.pid) - before) / len(requests), answers
+        return processor_seconds(self.ran.pid) - before, answers
 
     def stop(self):
         self.ran.terminate()
@@ -181,9 +183,14 @@ def compare(requests, answers):
 
 def taken(servers, requests, turn=0):
     """What each of the two servers takes for a request of these, the one first and then the other by turns."""
-    reported = {place: servers[place].take(requests) for place in (turn % 2, 1 - turn % 2)}
-    compare(requests, [reported[place][1] for place in (0, 1)])
-    return [reported[place][0] for place in (0, 1)]
+    seconds, answers = [0.0, 0.0], [[], []]
+    for count, first in enumerate(range(0, len(requests), IN_TURN), turn):
+        for place in (count % 2, 1 - count % 2):
+            spent, told = servers[place].take(requests[first:first + IN_TURN])
+            seconds[place] += spent
+            answers[place] += told
+    compare(requests, answers)
+    return [spent / len(requests) for spent in seconds]
 
 
 def keep(programs, name, start, requests):
