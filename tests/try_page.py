@@ -171,8 +171,11 @@ def it_works_by_keyboard(program, folder, shown):
         shown.run("document.getElementById('by-panel').focus()")
         shown.keys("\ue004")
         shown.shows("return document.activeElement.textContent", "R101-SET")
+        shown.run("window.pressed = document.activeElement")
         shown.keys("\ue007")
         shown.shows(is_open, True)
+        # A look that comes while the dialog is open puts another button in the place of the one that opened it.
+        shown.shows("return window.pressed.isConnected", False)
         shown.keys("\ue00c")
         shown.shows(is_open, False)
         shown.shows("return document.activeElement.textContent", "R101-SET")

@@ -152,7 +152,11 @@ function showPoints() {
   at("points").replaceChildren(...shown.map(([point, now]) => pointRow(point, now, second)));
   const hands = all.filter(([, now]) => now.priority >= 1 && now.priority <= BY_HAND).length;
   at("counted").textContent = `${shown.length} of ${all.length} points; ${hands} overridden by hand`;
-  [...at("points").rows].find((row) => row.dataset.point === focused)?.querySelector("button").focus();
+  focusPoint(focused);
+}
+
+function focusPoint(name) {
+  [...at("points").rows].find((row) => row.dataset.point === name)?.querySelector("button").focus();
 }
 
 // ---- the places of a point
@@ -279,6 +283,8 @@ at("filters").addEventListener("submit", (event) => event.preventDefault());
 at("which-day").addEventListener("submit", (event) => event.preventDefault());
 at("date").addEventListener("change", (event) => showAnotherDay(event.target.value));
 at("today").addEventListener("click", () => showAnotherDay(state.day));
+// A look may have replaced the button that opened the dialog, to which the browser would go back.
+at("places").addEventListener("close", () => focusPoint(at("places-title").textContent));
 setInterval(showState, 1_000);
 setInterval(look, EVERY);
 look();
