@@ -14,6 +14,7 @@ use store::OpenFault;
 use store_row_memory::RowMemory;
 use store_sql::SqlStore;
 use store_sql_create::has_no_schema;
+use store_sql_rows::compile_first;
 
 /// How many rows of a database a server keeps in memory: some 4 MB.
 const ROWS: usize = 16_384;
@@ -56,7 +57,10 @@ fn served_over<D: Disk + Drop>(
     };
     let rows = NonZeroUsize::new(ROWS).unwrap();
     match remembering(alloc, connection, rows) {
-        Ok(connection) => store_over(alloc, connection),
+        Ok(mut connection) => {
+            compile_first(&mut connection);
+            store_over(alloc, connection)
+        }
         Err((fault, _store)) => Err(fault),
     }
 }

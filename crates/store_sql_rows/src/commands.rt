@@ -17,6 +17,12 @@ use crate::running::run;
 use points::{Content, Name};
 use sqlite::{Alter, Connection, Error, Row, Transaction};
 
+pub(crate) const ADD: &str =
+    "INSERT INTO command (panel, number, point, priority, value, state, a, b) VALUES (?1, ?2, ?3, ?4, ?5, ?6, ?7, ?8)";
+
+pub(crate) const EXCHANGE: &str =
+    "UPDATE command SET number = ?2, point = ?3, priority = ?4, value = ?5, state = ?6, a = ?7, b = ?8 WHERE panel = ?1 AND number < ?9";
+
 /// Removes the row under a number of a panel.
 pub fn clear<S: Alter>(
     transaction: &mut Transaction<'_, S>,
@@ -50,7 +56,7 @@ pub fn add<S: Alter>(
 {
     run(
         transaction,
-        "INSERT INTO command (panel, number, point, priority, value, state, a, b) VALUES (?1, ?2, ?3, ?4, ?5, ?6, ?7, ?8)",
+        ADD,
         &[
             text(panel),
             count(number),
@@ -84,7 +90,7 @@ pub fn exchange<S: Alter>(
 {
     run(
         transaction,
-        "UPDATE command SET number = ?2, point = ?3, priority = ?4, value = ?5, state = ?6, a = ?7, b = ?8 WHERE panel = ?1 AND number < ?9",
+        EXCHANGE,
         &[
             text(panel),
             count(number),
