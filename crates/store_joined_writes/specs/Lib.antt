@@ -1,0 +1,3 @@
+pub mod HeldBytes
+pub mod Stops
+pub mod Stays
