@@ -2,7 +2,9 @@
 
 use desk::Desk;
 use desk_record::Recorder;
-use panel_http::{Counted, Gathered, Routes, Served, StatusCode, gather, serve_come};
+use panel_http::{
+    Counted, Gathered, Request, Routes, Served, StatusCode, gather, serve_come, serve_request,
+};
 use std::alloc::Global;
 use std::io::{ErrorKind, Read, Write};
 use std::mem;
@@ -102,9 +104,10 @@ impl Connection {
         recorder: &mut R,
     ) -> Turn {
         if let Stage::Request = self.stage {
-            match gather(
+            let request = match gather(
                 alloc,
                 routes,
+                desk.building(),
                 &mut self.stream,
                 &mut self.come,
                 &mut self.lacks,
@@ -112,9 +115,10 @@ impl Connection {
                 Gathered::Waits => return Turn::WaitsToRead,
                 Gathered::HasMore => return Turn::HasMore,
                 Gathered::Lost => return Turn::Over,
-                Gathered::Whole | Gathered::Ended => {}
-            }
-            match self.answer(alloc, routes, desk, recorder) {
+                Gathered::Asks(request) => Some(request),
+                Gathered::Whole | Gathered::Ended => None,
+            };
+            match self.answer(alloc, routes, request, desk, recorder) {
                 Answer::Success => self.stage = Stage::Response,
                 Answer::Refusal => self.stage = Stage::Refusal,
                 Answer::StoreFailed => return Turn::Failed,
@@ -128,17 +132,21 @@ impl Connection {
         }
     }
 
-    /// Serves the request that has come.
+    /// Serves the request that has come: as it was read, or else by its bytes.
     fn answer<S: Store + Drop, R: Recorder>(
         &mut self,
         alloc: Global,
         routes: &Routes,
+        request: Option<Request>,
         desk: &mut Desk<S>,
         recorder: &mut R,
     ) -> Answer {
         let come = mem::replace(&mut self.come, Vec::new(alloc));
         let mut writer = Counted::new(Vec::new(alloc));
-        let served = serve_come(alloc, routes, &come, &mut writer, desk, recorder);
+        let served = match request {
+            Some(request) => serve_request(alloc, &request, &mut writer, desk, recorder),
+            None => serve_come(alloc, routes, &come, &mut writer, desk, recorder),
+        };
         let Served::Answered(status) = served else {
             return Answer::None;
         };

@@ -5,9 +5,12 @@ ghost use Rattle.std.specs.Io.KnownBytes.{IsAtEnd, Keeps};
 ghost use Rattle.building.specs.Building.{Building as a_building};
 ghost use Rattle.panel_http.specs.Gathering.{Takes};
 ghost use Rattle.panel_http.specs.declared.gathering.Gathered.{Gathered};
+ghost use Rattle.panel_http_requests.specs.Requests.{IsRequest};
 ghost use Rattle.panel_http_requests.specs.Whole.{IsWhole};
+ghost use Rattle.panel_http_requests.specs.declared.request.Request.{Request as a_request};
 
-use panel_http_requests::{Routes, lacking};
+use building::Building;
+use panel_http_requests::{Come, Request, Routes, request_come};
 use std::alloc::Global;
 use std::io::{self, ErrorKind, Read};
 
@@ -21,9 +24,11 @@ const FIRST_READ: usize = 1_024;
 const READS: u32 = 8;
 
 /// What has come of an input.
-#[derive(Clone, Copy, PartialEq, Eq)]
+#[derive(Drop)]
 pub enum Gathered {
-    /// A whole request: no byte that follows can change what is asked.
+    /// A whole request, which asks this: no byte that follows can change it.
+    Asks(Request),
+    /// A whole request, of which memory was refused to tell what it asks: no byte that follows can change that.
     Whole,
     /// All that there is.
     Ended,
@@ -40,12 +45,15 @@ pub enum Gathered {
 pub fn gather<R: Read>(
     alloc: Global,
     routes: &Routes,
+    building: &Building,
     reader: &mut R,
     come: &mut Vec<u8>,
     lacks: &mut usize,
 ) -> Gathered
     ensures taken { Takes (R.remaining reader.old) (R.remaining reader.new) come.old.items come.new.items }
     ensures whole { (building : a_building) → result ≡ Gathered.Whole → IsWhole building come.new.items }
+    ensures asks { (request : a_request) → result ≡ Gathered.Asks request
+        → IsWhole building.now come.new.items × IsRequest building.now come.new.items request }
     ensures ended { result ≡ Gathered.Ended → IsAtEnd (R.remaining reader.new) }
 {
     for _ in 0..READS {
@@ -54,9 +62,10 @@ pub fn gather<R: Read>(
             Ok(count) => {
                 *lacks = lacks.saturating_sub(count);
                 if *lacks == 0 {
-                    *lacks = lacking(alloc, routes, come);
-                    if *lacks == 0 {
-                        return Gathered::Whole;
+                    match request_come(alloc, routes, building, come) {
+                        Come::Asks(request) => return Gathered::Asks(request),
+                        Come::Lacks(0) => return Gathered::Whole,
+                        Come::Lacks(count) => *lacks = count,
                     }
                 }
             }

@@ -6,14 +6,15 @@
 //! get, whatever fails, `specs/Serving.antt`.
 //!
 //! Where an input gives its bytes now and then, `gather` puts them behind what has come until that is a whole request,
-//! and `serve_come` serves it, by the same clause, where it lies.
+//! and hands on what it asks. `serve_request` serves that, by the same clause, and `serve_come` the bytes themselves,
+//! where they lie.
 #![tactic(auto)]
 
 pub use gathering::{Gathered, gather, take_some};
 pub use http::StatusCode;
-pub use panel_http_requests::{Counted, Routes};
+pub use panel_http_requests::{Counted, Request, Routes};
 pub use served::Served;
-pub use serving::{serve_come, serve_one};
+pub use serving::{serve_come, serve_one, serve_request};
 
 mod answering;
 mod gathering;

@@ -1,10 +1,11 @@
 //! A request, served.
 
-ghost use Rattle.std.specs.Prelude.{◌≡◌, ◌⊎◌, ◌++◌, ℕ, List, [], Some};
+ghost use Rattle.std.specs.Prelude.{◌≡◌, ◌<◌, ◌⊎◌, ◌++◌, ℕ, List, [], length, Some};
 ghost use Rattle.deliveries.specs.declared.delivery.Delivery.{Delivery as a_delivery};
 ghost use Rattle.deliveries.specs.Delivered.{Holds};
 ghost use Rattle.panel_http.specs.Keeping.{KeepsStep};
 ghost use Rattle.panel_http.specs.Serving.{Serves};
+ghost use Rattle.panel_http_requests.specs.Requests.{IsRequest};
 ghost use Rattle.panel_http_requests.specs.Whole.{IsWhole};
 
 use crate::Served;
@@ -13,7 +14,7 @@ use crate::unanswered::Unanswered;
 use crate::writing::write_answer;
 use desk::Desk;
 use desk_record::Recorder;
-use panel_http_requests::{Counted, Routes, Unread, read_request, request_in};
+use panel_http_requests::{Counted, Request, Routes, Unread, read_request, request_in};
 use std::alloc::{AllocError, Global};
 use std::io::{Read, Write};
 use store::Store;
@@ -37,10 +38,7 @@ pub fn serve_one<R: Read, W: Write, S: Store + Drop, K: Recorder>(
     ensures building { desk.new.building ≡ desk.old.building }
 {
     match read_request(alloc, routes, desk.building(), reader) {
-        Ok(request) => {
-            let response = answer(alloc, desk, recorder, &request);
-            write_answer(writer, response)
-        }
+        Ok(request) => serve_request(alloc, &request, writer, desk, recorder),
         Err(Unread::NoMemory) => write_answer(writer, Err(Unanswered::NoMemory)),
         Err(Unread::NoInput | Unread::Lost) => Served::NoRequest,
     }
@@ -68,10 +66,30 @@ pub fn serve_come<W: Write, S: Store + Drop, K: Recorder>(
         return Served::NoRequest;
     }
     match request_in(alloc, routes, desk.building(), come) {
-        Ok(request) => {
-            let response = answer(alloc, desk, recorder, &request);
-            write_answer(writer, response)
-        }
+        Ok(request) => serve_request(alloc, &request, writer, desk, recorder),
         Err(AllocError) => write_answer(writer, Err(Unanswered::NoMemory)),
     }
+}
+
+/// Serves a request that was read before. Whatever bytes ask it get what `serve_one` gives to them, whatever its reader
+/// counts.
+pub fn serve_request<W: Write, S: Store + Drop, K: Recorder>(
+    alloc: Global,
+    request: &Request,
+    writer: &mut Counted<W>,
+    desk: &mut Desk<S>,
+    recorder: &mut K,
+) -> Served
+    ensures serves { (bytes : List ℕ) (earlier : List a_delivery) (read_before read_after : ℕ)
+        → 0 < length bytes → IsRequest desk.old.building bytes request.now
+        → (S.standing desk.new.store).is_honest → Holds desk.old.building earlier (S.standing desk.old.store)
+        → Serves desk.old.building earlier bytes read_before read_after
+        (W.contents writer.old.inner) (W.contents writer.new.inner) writer.old.failures writer.new.failures
+        (S.standing desk.old.store) (S.standing desk.new.store) result }
+    ensures recorded { KeepsStep desk.old.building (K.standing recorder.old) (K.standing recorder.new)
+        (S.standing desk.old.store) (S.standing desk.new.store) }
+    ensures building { desk.new.building ≡ desk.old.building }
+{
+    let response = answer(alloc, desk, recorder, request);
+    write_answer(writer, response)
 }

@@ -6,6 +6,7 @@ pub mod NumberLemmas
 pub mod ValueLemmas
 pub mod PartLemmas
 mod BodyLemmas
+mod ComeLemmas
 pub mod MethodLemmas
 pub mod RequestLemmas
 mod WholeInputLemmas

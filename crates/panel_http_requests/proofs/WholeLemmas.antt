@@ -110,7 +110,7 @@ of-head : (b : Building) (bytes rest : List ℕ) (request : Request) (head : Req
 of-head b bytes rest request head is asks = inl (record { head = head; after = rest; is_head = is; asks = asks })
 
 -- the head has come, and all that it asks for
-head-steady : (b : Building) (bytes rest : List ℕ) (head : RequestHead) → 0 < length bytes → IsHead bytes head rest
+pub head-steady : (b : Building) (bytes rest : List ℕ) (head : RequestHead) → 0 < length bytes → IsHead bytes head rest
     → lacks_of (route_asked head) (length rest) ≡ 0 → IsWhole b bytes
 head-steady b bytes rest head some is none = record {
   some = some;

@@ -9,3 +9,4 @@ pub mod AskedRoute
 pub mod RequestBody
 pub mod Requests
 pub mod Whole
+pub mod Come

@@ -8,10 +8,12 @@
 //!
 //! What the bytes of an input ask is `specs/Requests.antt`: the first case that holds. `lacking` answers, for the bytes
 //! that have come of an input, how many are waited for yet, and none where they are a whole request
-//! (`specs/Whole.antt`); `request_in` says what bytes ask that have come whole, and copies none of them. `Counted` hands
-//! on what a reader or a writer does, and counts what failed (`specs/Counting.antt`).
+//! (`specs/Whole.antt`); `request_in` says what bytes ask that have come whole, and copies none of them; `request_come`
+//! does both at once (`specs/Come.antt`), and parses the head of a whole request once. `Counted` hands on what a reader
+//! or a writer does, and counts what failed (`specs/Counting.antt`).
 #![tactic(auto)]
 
+pub use come::{Come, request_come};
 pub use counted_end::Counted;
 pub use laws::each_route_is_found;
 pub use reading::read_request;
@@ -27,6 +29,7 @@ mod asked_route;
 mod beginning;
 mod bodies;
 mod body_bytes;
+mod come;
 mod content_length;
 mod counted_end;
 mod field_values;

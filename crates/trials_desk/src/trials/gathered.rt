@@ -2,9 +2,12 @@
 use crate::trials::asking::{Got, assert_got, command, done};
 use crate::trials::desks::desk_over;
 use crate::trials::ends::Halting;
+use building::Building;
 use desk::Desk;
 use desk_record::NoRecord;
-use panel_http::{Counted, Gathered, Routes, Served, StatusCode, gather, serve_come};
+use panel_http::{
+    Counted, Gathered, Request, Routes, Served, StatusCode, gather, serve_come, serve_request,
+};
 use std::alloc::Global;
 use std::process::Abort;
 use std::test::Fail;
@@ -23,7 +26,7 @@ struct Come {
 }
 
 /// Gathers an input as long as it may have more.
-fn gathered(alloc: Global, routes: &Routes, text: &[u8], size: usize) -> Come {
+fn gathered(alloc: Global, routes: &Routes, building: &Building, text: &[u8], size: usize) -> Come {
     let mut input = Halting {
         text,
         size,
@@ -33,7 +36,7 @@ fn gathered(alloc: Global, routes: &Routes, text: &[u8], size: usize) -> Come {
     let mut lacks = 1;
     let mut how = Gathered::HasMore;
     for _ in 0..2_000 {
-        how = gather(alloc, routes, &mut input, &mut bytes, &mut lacks);
+        how = gather(alloc, routes, building, &mut input, &mut bytes, &mut lacks);
         if !matches!(how, Gathered::Waits | Gathered::HasMore) {
             break;
         }
@@ -41,8 +44,25 @@ fn gathered(alloc: Global, routes: &Routes, text: &[u8], size: usize) -> Come {
     Come { how, bytes }
 }
 
+/// What a request gets that was handed on, without what is promised of it.
+fn request_served<S: Store + Drop>(alloc: Global, desk: &mut Desk<S>, request: &Request) -> Got {
+    let mut writer = Counted::new(Vec::new(alloc));
+    let served = serve_request(alloc, request, &mut writer, desk, &mut NoRecord);
+    let has_failed = writer.failures() > 0;
+    Got {
+        served,
+        text: writer.into_inner(),
+        has_failed,
+    }
+}
+
 /// What the bytes that have come get, without what is promised of it.
-fn served<S: Store + Drop>(alloc: Global, routes: &Routes, desk: &mut Desk<S>, come: &[u8]) -> Got {
+fn bytes_served<S: Store + Drop>(
+    alloc: Global,
+    routes: &Routes,
+    desk: &mut Desk<S>,
+    come: &[u8],
+) -> Got {
     let mut writer = Counted::new(Vec::new(alloc));
     let served = serve_come(alloc, routes, come, &mut writer, desk, &mut NoRecord);
     let has_failed = writer.failures() > 0;
@@ -53,13 +73,31 @@ fn served<S: Store + Drop>(alloc: Global, routes: &Routes, desk: &mut Desk<S>, c
     }
 }
 
-/// The command in pieces of a size, with more behind it: a whole request, of which no more is read than there is.
+/// The command in pieces of a size: a whole request, of which no more is read than there is. What was handed on gets
+/// what is wanted, and so do its bytes, of another desk.
 fn try_whole(rt: &impl Abort, alloc: Global, size: usize) -> Result<(), Fail> {
     let routes = Routes::new(alloc)?;
-    let come = gathered(alloc, &routes, command().as_bytes(), size);
-    assert!(rt; come.how == Gathered::Whole, "in pieces of {size}");
     let mut desk = desk_over(alloc, MemStore::new(alloc))?;
-    let got = served(alloc, &routes, &mut desk, &come.bytes);
+    let come = gathered(alloc, &routes, desk.building(), command().as_bytes(), size);
+    let Gathered::Asks(request) = &come.how else {
+        panic!(rt; "in pieces of {size}");
+    };
+    let got = request_served(alloc, &mut desk, request);
+    let _store = desk.into_store();
+    assert_got(rt, &got, Served::Answered(StatusCode::OK), done(), size);
+    try_bytes(rt, alloc, &routes, &come.bytes, size)
+}
+
+/// The bytes of the command, gathered in pieces of a size.
+fn try_bytes(
+    rt: &impl Abort,
+    alloc: Global,
+    routes: &Routes,
+    come: &[u8],
+    size: usize,
+) -> Result<(), Fail> {
+    let mut desk = desk_over(alloc, MemStore::new(alloc))?;
+    let got = bytes_served(alloc, routes, &mut desk, come);
     let _store = desk.into_store();
     assert_got(rt, &got, Served::Answered(StatusCode::OK), done(), size);
     Ok(())
@@ -68,16 +106,17 @@ fn try_whole(rt: &impl Abort, alloc: Global, size: usize) -> Result<(), Fail> {
 /// The command without its last byte, which is all that there is.
 fn try_cut(rt: &impl Abort, alloc: Global) -> Result<(), Fail> {
     let routes = Routes::new(alloc)?;
+    let mut desk = desk_over(alloc, MemStore::new(alloc))?;
     let end = command().len().saturating_sub(1);
     let come = gathered(
         alloc,
         &routes,
+        desk.building(),
         command().as_bytes().get(..end).unwrap_or(&[]),
         50,
     );
-    assert!(rt; come.how == Gathered::Ended, "cut at {end}");
-    let mut desk = desk_over(alloc, MemStore::new(alloc))?;
-    let got = served(alloc, &routes, &mut desk, &come.bytes);
+    assert!(rt; matches!(come.how, Gathered::Ended), "cut at {end}");
+    let got = bytes_served(alloc, &routes, &mut desk, &come.bytes);
     let _store = desk.into_store();
     assert_got(
         rt,
