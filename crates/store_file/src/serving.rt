@@ -1,4 +1,4 @@
-//! The store of a server, which answers rows from memory, and whose writes that follow one another reach a file as one.
+//! The store of a server, which answers rows from memory.
 ghost use Rattle.std.specs.Prelude.{◌≡◌, IfOk, IsTrue};
 ghost use Rattle.sqlite.specs.Held.{state};
 ghost use Rattle.sqlite.specs.State.{HasCleanDisk};
@@ -11,7 +11,6 @@ use sqlite_disk::Disk;
 use std::alloc::Global;
 use std::num::NonZeroUsize;
 use store::OpenFault;
-use store_joined_writes::{JoinedWrites, joined};
 use store_row_memory::RowMemory;
 use store_sql::SqlStore;
 use store_sql_create::has_no_schema;
@@ -66,16 +65,16 @@ fn served_over<D: Disk + Drop>(
     }
 }
 
-/// The same in the database of two files, which is begun where there is none; the writes to each are joined.
+/// The same in the database of two files, which is begun where there is none.
 pub(crate) fn served_in<D: Disk + Drop>(
     alloc: Global,
     files: Files<D>,
     options: Options,
-) -> Result<SqlStore<RowMemory<FileStore<JoinedWrites<D>>>>, OpenFault>
+) -> Result<SqlStore<RowMemory<FileStore<D>>>, OpenFault>
     requires log { IsTrue (D.Disk.is_usable files.log) }
     requires db { IsTrue (D.Disk.is_usable files.db) }
 {
-    match connected(alloc, joined(alloc, files), options) {
+    match connected(alloc, files, options) {
         Ok(connection) => served_over(alloc, connection, options),
         Err((error, _files)) => Err(fault_of(&error)),
     }
