@@ -35,7 +35,7 @@ import proved_apart
 ROOT = pathlib.Path(__file__).resolve().parent.parent
 FOLDER = ROOT / "build" / "bench"
 LARGEST, QUARTER, NEW_YEAR = bench.LARGEST, bench.QUARTER, bench.NEW_YEAR
-ROUNDS, RUNS = 15, 3
+ROUNDS = 15
 # The requests of a block, and the panels that its commands come from.
 TICKS, STILL, REPORTS, NUMBERS, POINTS, PANELS = 384, 300, 20, 66, 500, 4
 # Those that are counted by valgrind.
@@ -320,7 +320,7 @@ def show_replays(programs):
     """What each takes without its run of an empty list, which reads the building."""
     reading = [min(column) for column in zip(*(replayed(programs, 0, "in order", turn) for turn in range(ROUNDS)))]
     for load, (size, wanted) in REPLAYED.items():
-        pairs = [replayed(programs, size, load, turn) for turn in range(RUNS)]
+        pairs = [replayed(programs, size, load, turn) for turn in range(ROUNDS)]
         own = [[(seconds - start) / size for seconds, start in zip(pair, reading)] for pair in pairs]
         show(f"a line of {size:,} {load}, replayed", own, wanted)
 
