@@ -1,11 +1,11 @@
 //! The text of a reply.
 
 ghost use Rattle.std.specs.Prelude.{◌++◌};
-ghost use Rattle.std.specs.Fmt.{WritesOnOk, signed_decimal};
+ghost use Rattle.std.specs.Fmt.{WritesOnOk};
 
 use building_holidays::{ImportCause, ImportFault};
 use deliveries::Reply;
-use itoa::Buffer;
+use itoa::{Buffer, Integer};
 use points::Answer;
 use std::fmt;
 
@@ -24,27 +24,28 @@ impl fmt::Display for ReplyText {
             Reply::NoPanel => f.write_str("{\"answer\":\"no_panel\"}"),
             Reply::BadNumber => f.write_str("{\"answer\":\"bad_number\"}"),
             Reply::Differs { number } => {
-                write!(f, "{{\"answer\":\"differs\",\"number\":{number}}}")
+                write_integer(f, "{\"answer\":\"differs\",\"number\":", number)?;
+                f.write_str("}")
             }
             Reply::Answered { number, answer } => AnswerText { number, answer }.fmt(f),
             Reply::Parked { next, number } => {
-                write!(
-                    f,
-                    "{{\"answer\":\"parked\",\"next\":{next},\"number\":{number}}}"
-                )
+                write_integer(f, "{\"answer\":\"parked\",\"next\":", next)?;
+                write_integer(f, ",\"number\":", number)?;
+                f.write_str("}")
             }
             Reply::Skipped { number } => {
-                write!(f, "{{\"answer\":\"skipped\",\"number\":{number}}}")
+                write_integer(f, "{\"answer\":\"skipped\",\"number\":", number)?;
+                f.write_str("}")
             }
             Reply::TooFar { next, number } => {
-                write!(
-                    f,
-                    "{{\"answer\":\"too_far\",\"next\":{next},\"number\":{number}}}"
-                )
+                write_integer(f, "{\"answer\":\"too_far\",\"next\":", next)?;
+                write_integer(f, ",\"number\":", number)?;
+                f.write_str("}")
             }
             Reply::SkipDone { next } => write!(f, "{{\"answer\":\"skip\",\"next\":{next}}}"),
             Reply::Forgotten { number } => {
-                write!(f, "{{\"answer\":\"forgotten\",\"number\":{number}}}")
+                write_integer(f, "{\"answer\":\"forgotten\",\"number\":", number)?;
+                f.write_str("}")
             }
             Reply::Ticked { writes } => write!(f, "{{\"answer\":\"tick\",\"writes\":{writes}}}"),
             Reply::Old => f.write_str("{\"answer\":\"old\",\"writes\":0}"),
@@ -66,9 +67,13 @@ impl fmt::Display for ReplyText {
     }
 }
 
-/// Writes a text and a number after it. Nearly every reply has three, which `itoa` writes for half of what `write!` takes.
-fn write_integer<W: fmt::Write>(f: &mut fmt::Formatter<W>, text: &str, number: i64) -> fmt::Result
-    ensures { WritesOnOk W.write_str_gives f.old result (text.now ++ signed_decimal number) f.new }
+/// Writes a text and a number after it. Nearly every reply has some, which `itoa` writes for half of what `write!` takes.
+fn write_integer<W: fmt::Write, I: Integer>(
+    f: &mut fmt::Formatter<W>,
+    text: &str,
+    number: I,
+) -> fmt::Result
+    ensures { WritesOnOk W.write_str_gives f.old result (text.now ++ I.text number) f.new }
 {
     f.write_str(text)?;
     f.write_str(Buffer::new().format(number))
@@ -93,7 +98,7 @@ impl fmt::Display for AnswerText {
             Answer::Done { present, priority } => {
                 write_integer(f, "{\"answer\":\"done\",\"number\":", number)?;
                 write_integer(f, ",\"present\":", present)?;
-                write_integer(f, ",\"priority\":", i64::from(priority))?;
+                write_integer(f, ",\"priority\":", priority)?;
                 f.write_str("}")
             }
             Answer::Refused(rule) => {
