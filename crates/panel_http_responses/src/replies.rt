@@ -11,12 +11,17 @@ use delivery_json::{RefusedImportText, ReplyText};
 use http::StatusCode;
 use points::Answer;
 use std::alloc::{AllocError, Global};
+use std::fmt::Write;
+
+/// Room for nearly every body, in bytes.
+const BODY_ROOM: usize = 96;
 
 /// The response to a delivery that was answered.
 pub fn reply_response(alloc: Global, reply: Reply) -> Result<Response, AllocError>
     ensures { IfOk result (Says (reply_said reply)) }
 {
-    let body = format!(in alloc; "{}", ReplyText(reply))?;
+    let mut body = String::with_capacity(alloc, BODY_ROOM)?;
+    write!(body, "{}", ReplyText(reply))?;
     respond(alloc, reply_status(reply), ContentType::Json, body.as_str())
 }
 
