@@ -20,7 +20,6 @@ use std::fs;
 use std::hash::{BuildHasher, RandomState};
 use std::io::{self, ErrorKind};
 use store::{OpenFault, StoreFault};
-use store_joined_writes::{JoinedFile, joined_files};
 use store_row_memory::RowMemory;
 use store_sql::SqlStore;
 
@@ -171,14 +170,14 @@ pub fn open_store(rt: &HostRuntime, path: &str) -> Result<DeskStore, OpenFault> 
     begun_or_opened(rt.alloc(), files, options_at(rt, path)?)
 }
 
-/// The same for a server, with rows answered from memory, and writes that follow one another made as one.
-pub type ServedStore = SqlStore<RowMemory<FileStore<JoinedFile>>>;
+/// The same for a server, with rows answered from memory.
+pub type ServedStore = SqlStore<RowMemory<FileStore<File>>>;
 
-/// The store of a server in the database of a path (`open_store`), which answers rows from memory, and makes writes that
-/// follow one another as one. It takes as long again to open, since the tables are read once more.
+/// The store of a server in the database of a path (`open_store`), which answers rows from memory. It takes as long
+/// again to open, since the tables are read once more.
 pub fn open_served_store(rt: &HostRuntime, path: &str) -> Result<ServedStore, OpenFault> {
     refuse_lost(rt, path)?;
-    let files = joined_files(rt.alloc(), files_at(rt, path, Unknown)?);
+    let files = files_at(rt, path, Unknown)?;
     served_in(rt.alloc(), files, options_at(rt, path)?)
 }
 

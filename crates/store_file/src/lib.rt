@@ -6,9 +6,9 @@
 //! lost a part of a database are refused by their lengths (`specs/Lost.antt`), since one would be begun anew in them.
 //! `closed` copies the log into the database file, which has the tables alone then (`specs/Closed.antt`): at the end of
 //! each run, and once the tables of a new database are made. `find_store` has the store of a database that is there,
-//! and makes none (`finding`). A server's store answers rows from memory (`serving`) over files whose writes are joined
-//! (`store_joined_writes`), and is opened and closed by calls of its own. `open_record` has the file of a record. All that
-//! knows the types of a real file stands in these calls, so that what they cost to prove is paid once.
+//! and makes none (`finding`). A server's store answers rows from memory (`serving`), and is opened and closed by calls
+//! of its own. `open_record` has the file of a record. All that knows the types of a real file stands
+//! in these calls, so that what they cost to prove is paid once.
 #![tactic(auto)]
 
 pub use closing::{closed, closed_served};

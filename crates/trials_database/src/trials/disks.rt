@@ -10,7 +10,6 @@ use std::io;
 use std::num::NonZeroUsize;
 use std::test::Fail;
 use store::{OpenFault, Store, StoreFault};
-use store_joined_writes::joined;
 use store_remembered::Remembered;
 use store_sql::SqlStore;
 
@@ -360,21 +359,16 @@ fn work_in_files<D: Disk + Drop>(
     }
 }
 
-// Works over the database in files that meet trouble at a place, and whose writes are joined, as a server's are.
+// Works over the database in files that meet trouble at a place.
 fn work_on_disk(
     alloc: Global,
     image: Image<'_>,
     place: Place,
     work: Work<'_>,
 ) -> Result<Left, Fail> {
-    let (done, files) = work_in_files(alloc, joined(alloc, files_of(alloc, image, place)?), work);
+    let (done, files) = work_in_files(alloc, files_of(alloc, image, place)?, work);
     done?;
-    let Files { log, db } = files;
-    let below = Files {
-        log: log.into_below(),
-        db: db.into_below(),
-    };
-    Ok(left_of(alloc, below)?)
+    Ok(left_of(alloc, files)?)
 }
 
 /// Runs a script over the store in files that meet trouble at a place. The store is made where there is none; where

@@ -1,3 +1,0 @@
-pub mod HeldBytes
-pub mod Stops
-pub mod Stays
