@@ -8,11 +8,12 @@ use crate::{commands, desk_row, panels, places, schedules};
 use sqlite::{Alter, Connection};
 
 // The statements by which a server puts commands, and then those by which it puts ticks.
-const SERVED: [&str; 11] = [
-    commands::ADD,
+const SERVED: [&str; 12] = [
+    commands::ADD_AT,
     panels::SET_AT,
     places::SET_AT,
     places::ADD,
+    commands::ADD,
     commands::EXCHANGE,
     places::KEYS_BETWEEN,
     places::SET_BETWEEN,
