@@ -6,7 +6,9 @@ Usage: bench_clock.py [PROGRAM]: the desk is build/desk where no other one is na
 The large building of bench.py has 4,000 entries imported and has had its first tick. `desk serve` and the server of
 `scripts/plain_schedules.cpp`, each over a database of its own, take the same requests in turns, block by block, and so do
 whole runs of `replay` and `import`. Each reply of the one is compared with that of the other, first over requests of all
-kinds and then in each block: where they differ the run ends with a line that says where.
+kinds and then in each block: where they differ the run ends with a line that says where. Which server is started first,
+and what their databases are called, is drawn anew for each of some runs: one program over files of other names comes to
+figures that lie some hundredths apart.
 
 What is reported is the processor's time of the program that is meant, user and system, as the kernel counts it for the process:
 the middle of some blocks, and the middle, the least and the greatest ratio of a pair of them, the speed of the desk over
@@ -18,6 +20,7 @@ import filecmp
 import json
 import os
 import pathlib
+import random
 import re
 import shutil
 import socket
@@ -36,6 +39,8 @@ ROOT = pathlib.Path(__file__).resolve().parent.parent
 FOLDER = ROOT / "build" / "bench"
 LARGEST, QUARTER, NEW_YEAR = bench.LARGEST, bench.QUARTER, bench.NEW_YEAR
 ROUNDS = 15
+# The runs of a row that is served, each with servers of its own.
+RUNS = 8
 # The requests of a block, and the panels that its commands come from.
 TICKS, STILL, REPORTS, NUMBERS, POINTS, PANELS = 384, 300, 20, 66, 500, 4
 # Those that are counted by valgrind.
@@ -65,10 +70,10 @@ class Program:
     def database(self, name):
         return FOLDER / f"clock-{self.name}-{name}.db"
 
-    def copied(self, name):
+    def copied(self, name, run="run"):
         """A copy of a database that is kept under this name."""
-        bench_database.fresh(self.database("run"))
-        return shutil.copy(self.database(name), self.database("run"))
+        bench_database.fresh(self.database(run))
+        return shutil.copy(self.database(name), self.database(run))
 
 
 # ---- what is asked
@@ -249,16 +254,32 @@ def blocks():
     yield "a GET of a point", 1.0, parted(points(ROUNDS * POINTS))
 
 
-def show_served(programs):
-    servers = serving(programs)
+def served(programs):
+    """The pairs of each row, of servers that are started in an order drawn anew, over databases of names drawn anew."""
+    run = "run" + "-" * random.randrange(40)
+    started = {program: Server(program, program.copied("ready", run)) for program in random.sample(programs, len(programs))}
+    servers = [started[program] for program in programs]
     try:
         taken(servers, [tick(NEW_YEAR + 1), *reports(0, 1)])
         for name, wanted, requests in blocks():
-            pairs = [taken(servers, block, turn) for turn, block in enumerate(requests)]
+            first = random.randrange(2)
+            pairs = [taken(servers, block, first + turn) for turn, block in enumerate(requests)]
             if name:
-                show(name, pairs, wanted)
+                yield name, wanted, pairs
     finally:
         stop(servers)
+        for program in programs:
+            bench_database.fresh(program.database(run))
+
+
+def show_served(programs):
+    rows = {}
+    for run in range(RUNS):
+        print(f"run {run + 1} of {RUNS} of the rows that are served", file=sys.stderr, flush=True)
+        for name, wanted, pairs in served(programs):
+            rows.setdefault((name, wanted), []).extend(pairs)
+    for (name, wanted), pairs in rows.items():
+        show(name, pairs, wanted)
 
 
 def show_served_imports(programs):
