@@ -7,6 +7,7 @@ import subprocess
 import sys
 import tempfile
 
+import link_order
 import progress
 
 ROOT = pathlib.Path(__file__).resolve().parent.parent
@@ -45,6 +46,7 @@ def sources_sum():
             for path in sorted((ROOT / "crates" / name / part).rglob("*")):
                 if path.is_file():
                     found.update(repr((str(path.relative_to(ROOT)), path.read_bytes())).encode())
+    found.update(link_order.ORDER.read_bytes())
     lines = [line for line in (ROOT / "crates.txt").read_text().splitlines() if line.partition(":")[0] in below()]
     found.update("\n".join(sorted(lines)).encode())
     return found.hexdigest()
@@ -56,12 +58,14 @@ def is_current():
 
 
 def keep(made, sum):
-    """Puts a program that was proved and built from the sources of that sum where the others find it."""
+    """Puts a program that was proved and built from the sources of that sum where the others find it, the desk's functions in order."""
     BUILT.parent.mkdir(exist_ok=True)
     SUM.unlink(missing_ok=True)
-    room = BUILT.with_name(BUILT.name + ".new")
-    shutil.copy2(made, room)
-    os.replace(room, BUILT)
+    new = BUILT.with_name(BUILT.name + ".new")
+    with tempfile.TemporaryDirectory(prefix="desk-link-") as room:
+        linked = link_order.linked(made, pathlib.Path(room)) if NAME == PROGRAMS["desk"] else made
+        shutil.copy2(linked, new)
+    os.replace(new, BUILT)
     SUM.write_text(sum + "\n")
 
 

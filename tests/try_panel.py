@@ -46,7 +46,7 @@ name = "P2"
 points = ["SET"]
 priorities = [9]
 """
-BUILT = pathlib.Path(__file__).resolve().parent.parent / "crates" / "panel_program" / "out" / "panel_program"
+BUILT = pathlib.Path(__file__).resolve().parent.parent / "build" / "panel"
 PRIORITIES = {"P1": 8, "P2": 9}
 PAGE = b"HTTP/1.1 502 Bad Gateway\r\nContent-Length: 20\r\n\r\n<html>no desk</html>"
 PATIENCE = 60
