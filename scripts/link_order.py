@@ -9,6 +9,7 @@ call one another: `link_order.txt`, which `order_functions` writes. No function 
 The object lies beside a program that was compiled in the same run. Of one that the kit kept from an earlier run there is
 none beside it: so the object is kept too, by the sum of the kit's program.
 """
+import contextlib
 import hashlib
 import os
 import pathlib
@@ -72,10 +73,10 @@ def link(compiled, to, order=()):
 
 
 def keep(compiled, to):
-    """Keeps the object of a program, and few others beside it."""
+    """Keeps the object of a program, as the newest, and few others beside it."""
     KEPT.mkdir(parents=True, exist_ok=True)
     room = KEPT / f"{to.name}.{os.getpid()}.new"
-    shutil.copy2(compiled, room)
+    shutil.copyfile(compiled, room)
     os.replace(room, to)
     for old in sorted(KEPT.iterdir(), key=lambda path: path.stat().st_mtime)[:-MOST_KEPT]:
         old.unlink(missing_ok=True)
@@ -85,10 +86,11 @@ def object_of(made, room):
     """The object of a program that the kit made: one that links to the same bytes. None where none is to be had."""
     kept = KEPT / hashlib.sha256(made.read_bytes()).hexdigest()
     for compiled in (made.with_name(made.name + ".o"), kept):
-        if compiled.is_file():
+        if os.path.isfile(compiled):
             link(compiled, room / "plain")
             if (room / "plain").read_bytes() == made.read_bytes():
-                if compiled != kept:
+                # where it can't be kept, later runs are without it
+                with contextlib.suppress(OSError):
                     keep(compiled, kept)
                 return compiled
     return None
