@@ -14,6 +14,7 @@ import hashlib
 import os
 import pathlib
 import re
+import shlex
 import shutil
 import subprocess
 import sys
@@ -63,7 +64,8 @@ def link(compiled, to, order=()):
                 (room / "bin" / tool.name).symlink_to(tool)
         (room / "order").write_text("".join(name + "\n" for name in order))
         linker = room / "bin" / "ld.lld"
-        linker.write_text(f"#!/bin/sh\nexec {kit()}/toolchain/bin/ld.lld \"$@\" --symbol-ordering-file={room}/order --no-warn-symbol-ordering\n")
+        real, order_option = shlex.quote(f"{kit()}/toolchain/bin/ld.lld"), shlex.quote(f"--symbol-ordering-file={room}/order")
+        linker.write_text(f'#!/bin/sh\nexec {real} "$@" {order_option} --no-warn-symbol-ordering\n')
         linker.chmod(0o755)
         words = [kit() / "bin" / "rattle-link", "--target", TARGET, "--toolchain", room, "-o", to, compiled]
         words += [kit() / "c" / "libos_c.a", kit() / "c" / "liblibc_c.a"]
