@@ -2,7 +2,7 @@
 
 PREFIX ?= /usr/local
 
-.PHONY: run desk panel test sweep wrong-bodies bench link-order page install clean python
+.PHONY: run desk panel test sweep wrong-bodies bench page install clean python
 
 run: python
 	@python3 scripts/run_desk
@@ -29,9 +29,6 @@ bench: desk
 	@python3 scripts/bench_server.py
 	@python3 scripts/bench_schedules.py
 	@python3 scripts/bench_clock.py
-
-link-order: desk
-	@python3 scripts/order_functions
 
 page: desk
 	@python3 scripts/show_page

@@ -1,84 +1,115 @@
-"""A program in `build`: whether it is that of these sources, what it takes to make it, and how it is put there."""
+"""The programs in `build`: whether each is that of these sources, what it takes to make them, and how they are put there."""
+import dataclasses
 import hashlib
 import os
 import pathlib
+import re
 import shutil
 import subprocess
 import sys
 import tempfile
-
-import link_order
-import progress
+import time
 
 ROOT = pathlib.Path(__file__).resolve().parent.parent
-# Each program by its word, and the crate that it is.
-PROGRAMS = {"desk": "desk_program", "panel": "panel_program"}
-# The crate of the program that is meant, the program, and beside it the sum of the sources that it was made of.
-NAME = PROGRAMS["desk"]
-BUILT = ROOT / "build" / "desk"
-SUM = ROOT / "build" / "desk.sources"
 PARTS = ("src", "specs", "proofs")
 # The prover walks a gigabyte or two of memory. Told so, its allocator asks for large pages, which saves a tenth of its time.
 ENVIRONMENT = {**os.environ, "MIMALLOC_ALLOW_LARGE_OS_PAGES": "1"}
 # The kits with the logic that the proofs rest on, and whether each keeps what a run has proved for the next one.
 TOOLCHAINS = {"rattle-kit-13b logic dac8208d650f15bf": False, "rattle-kit-13f logic dac8208d650f15bf": True}
 LEAST_PYTHON = (3, 11)
+# What `rt ci` says of a crate that ends.
+ENDED = re.compile(r"rt: (\w+) (proved|is kept|NOT PROVED)\b")
 
 
-def choose(word):
-    """Has all that follows mean the program of that word."""
-    global NAME, BUILT, SUM
-    NAME, BUILT, SUM = PROGRAMS[word], ROOT / "build" / word, ROOT / "build" / f"{word}.sources"
+def crates():
+    """The crates of the repository, each with those of them that it stands on."""
+    lines = [line.partition(":") for line in (ROOT / "crates.txt").read_text().splitlines() if line and not line.startswith("#")]
+    names = {head.split()[0] for head, _, _ in lines}
+    return {head.split()[0]: [it for it in below.split() if it in names] for head, _, below in lines}
 
 
-def below(top=None):
-    """A crate and all that it stands on, the program's without another one, each with those that it stands on."""
-    crates = progress.crates_of((ROOT / "crates.txt").read_text())
-    wanted = progress.closure(crates, top or NAME)
-    return {name: crates[name] for name in crates if name in wanted}
+@dataclasses.dataclass(frozen=True)
+class Program:
+    """A program by its word, and the crate that it is."""
+    word: str
+    crate: str
+
+    @property
+    def built(self):
+        return ROOT / "build" / self.word
+
+    @property
+    def sum(self):
+        """The sum of the sources that the program was made of."""
+        return ROOT / "build" / f"{self.word}.sources"
+
+    def below(self):
+        """The crate and all that it stands on."""
+        every, found, left = crates(), set(), [self.crate]
+        while left:
+            name = left.pop()
+            if name not in found:
+                found.add(name)
+                left += every[name]
+        return found
+
+    def lines(self):
+        """The lines of crates.txt of these crates."""
+        wanted = self.below()
+        return [line for line in (ROOT / "crates.txt").read_text().splitlines() if line.partition(":")[0] in wanted]
+
+    def sources_sum(self):
+        """A sum of all that the program is proved and built from, but for the toolchain."""
+        found = hashlib.sha256()
+        for name in sorted(self.below()):
+            for part in PARTS:
+                for path in sorted((ROOT / "crates" / name / part).rglob("*")):
+                    if path.is_file():
+                        found.update(repr((str(path.relative_to(ROOT)), path.read_bytes())).encode())
+        found.update("\n".join(sorted(self.lines())).encode())
+        return found.hexdigest()
+
+    def is_current(self):
+        """Whether the program was proved and built from these sources."""
+        return os.access(self.built, os.X_OK) and self.sum.is_file() and self.sum.read_text().strip() == self.sources_sum()
+
+    def keep(self, folder, sum):
+        """Puts the program that the kit built in a copy of the sources of that sum where the others find it."""
+        self.built.parent.mkdir(exist_ok=True)
+        self.sum.unlink(missing_ok=True)
+        new = self.built.with_name(self.word + ".new")
+        shutil.copy2(folder / "crates" / self.crate / "out" / self.crate, new)
+        os.replace(new, self.built)
+        self.sum.write_text(sum + "\n")
+
+    def cut_copy(self, to):
+        """Copies what the program is proved from: no trials, tests of them or wrong bodies."""
+        (to / ".git").mkdir(parents=True)
+        for name in self.below():
+            shutil.copytree(ROOT / "crates" / name, to / "crates" / name,
+                            ignore=shutil.ignore_patterns("out", "must-fail", "wrong-bodies"))
+        (to / "crates.txt").write_text("\n".join(self.lines()) + "\n")
+        shutil.copy2(ROOT / "HANDLES", to / "HANDLES")
 
 
-def sources_sum():
-    """A sum of all that the program is proved and built from, but for the toolchain."""
-    found = hashlib.sha256()
-    for name in sorted(below()):
-        for part in PARTS:
-            for path in sorted((ROOT / "crates" / name / part).rglob("*")):
-                if path.is_file():
-                    found.update(repr((str(path.relative_to(ROOT)), path.read_bytes())).encode())
-    found.update(link_order.ORDER.read_bytes())
-    lines = [line for line in (ROOT / "crates.txt").read_text().splitlines() if line.partition(":")[0] in below()]
-    found.update("\n".join(sorted(lines)).encode())
-    return found.hexdigest()
+DESK, PANEL = Program("desk", "desk_program"), Program("panel", "panel_program")
 
 
-def is_current():
-    """Whether the program was proved and built from these sources."""
-    return os.access(BUILT, os.X_OK) and SUM.is_file() and SUM.read_text().strip() == sources_sum()
+def run_ci(folder, count, log):
+    """Runs `rt ci` in a folder of so many crates, tells each as it ends, and returns what it printed last, if it ended well.
 
-
-def keep(made, sum):
-    """Puts a program that was proved and built from the sources of that sum where the others find it, the desk's functions in order."""
-    BUILT.parent.mkdir(exist_ok=True)
-    SUM.unlink(missing_ok=True)
-    new = BUILT.with_name(BUILT.name + ".new")
-    with tempfile.TemporaryDirectory(prefix="desk-link-") as room:
-        linked = link_order.linked(made, pathlib.Path(room)) if NAME == PROGRAMS["desk"] else made
-        shutil.copy2(linked, new)
-    os.replace(new, BUILT)
-    SUM.write_text(sum + "\n")
-
-
-def cut_copy(to, top=None):
-    """Copies what a crate is proved from: no trials, tests of them or wrong bodies."""
-    wanted = below(top)
-    (to / ".git").mkdir(parents=True)
-    for name in wanted:
-        shutil.copytree(ROOT / "crates" / name, to / "crates" / name,
-                        ignore=shutil.ignore_patterns("out", "must-fail", "wrong-bodies"))
-    lines = (ROOT / "crates.txt").read_text().splitlines(keepends=True)
-    (to / "crates.txt").write_text("".join(line for line in lines if line.partition(":")[0] in wanted))
-    shutil.copy2(ROOT / "HANDLES", to / "HANDLES")
+    What the kit says goes to the log."""
+    began, ended, last = time.monotonic(), set(), ""
+    how = {"cwd": folder, "env": ENVIRONMENT, "stdout": subprocess.PIPE, "stderr": subprocess.STDOUT, "text": True, "errors": "replace"}
+    with subprocess.Popen(["rt", "ci"], **how) as ran:
+        for line in ran.stdout:
+            print(line, end="", file=log, flush=True)
+            last = line if line.strip() else last
+            found = ENDED.match(line)
+            if found and found[1] not in ended:
+                ended.add(found[1])
+                print(f"[{len(ended)}/{count}] {found[1]} {found[2]}, {(time.monotonic() - began) / 60:.0f} min", flush=True)
+    return last, ran.returncode == 0
 
 
 # ---- what a run needs

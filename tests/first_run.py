@@ -17,7 +17,6 @@ import time
 
 ROOT = pathlib.Path(__file__).resolve().parent.parent
 sys.path.insert(0, str(ROOT / "scripts"))
-import link_order  # noqa: E402
 import program as toolchain  # noqa: E402
 
 SECONDS = 600
@@ -96,7 +95,6 @@ def small_repository(to):
     mark = os.urandom(8).hex()
     (to / "crates").mkdir(parents=True)
     shutil.copytree(ROOT / "scripts", to / "scripts", ignore=shutil.ignore_patterns("__pycache__"))
-    (to / "scripts" / "link_order.txt").write_text("")
     for name in ("Makefile", "HANDLES"):
         shutil.copy2(ROOT / name, to / name)
     subprocess.run(["git", "init", "-q", str(to)], check=True)
@@ -127,29 +125,15 @@ def an_interrupted_build_goes_on(program, room):
     began.wait()
     if (small / "build" / "desk").exists():
         raise AssertionError("the build was not interrupted")
-    cache = str(room / "cache")
-    ran = make("desk", small, XDG_CACHE_HOME=cache)
+    ran = make("desk", small)
     lines = [re.sub(r"\d+(\.\d+)?", "N", line) for line in ran.stdout.splitlines()]
-    how_lowest = "was proved before" if toolchain.keeps_proofs() else "proved"
-    wanted = ["proving N crates on N processors; from nothing some N minutes", f"[N/N] lowest {how_lowest}, N min, some N to go",
-              "[N/N] desk_program proved, N min, some N to go", "build/desk is proved and up to date, after N minutes"]
+    how_lowest = "is kept" if toolchain.keeps_proofs() else "proved"
+    wanted = ["proving N crates on N processors; from nothing some half an hour to an hour", f"[N/N] lowest {how_lowest}, N min",
+              "[N/N] desk_program proved, N min", "build/desk is proved and up to date, after N minutes"]
     expect((lines[:2], sorted(lines[2:])), (wanted[:2], wanted[2:]), "the second build")
     expect(ran.returncode, 0, "the second build")
     if not os.access(small / "build" / "desk", os.X_OK):
         raise AssertionError("the second build left no program")
-    another_order_is_kept_to(small, cache)
-
-
-def another_order_is_kept_to(small, cache):
-    """A program whose functions are wanted in another order is linked in it, with the functions that it had, and not proved again."""
-    before = link_order.functions(small / "build" / "desk")
-    last = [name for name, _ in before if "::" in name][-1]
-    (small / "scripts" / "link_order.txt").write_text(last + "\n")
-    ran = make("desk", small, XDG_CACHE_HOME=cache)
-    expect(ran.returncode, 0, "the build in another order")
-    after = link_order.functions(small / "build" / "desk")
-    expect([name for name, _ in after if "::" in name][0], last, "the first function of a program in another order")
-    expect(sorted(after), sorted(before), "the functions of a program in another order")
 
 
 CASES = (
