@@ -1,7 +1,13 @@
 pub mod AgreeLemmas
+pub mod BesideLemmas
 pub mod ComparesLemmas
 pub mod CutLemmas
+pub mod MatchLemmas
 pub mod NothingLemmas
+pub mod ReplayLemmas
 pub mod RunLemmas
 pub mod SameLemmas
+pub mod SentLemmas
+pub mod UnlikeLemmas
 pub mod WalkLemmas
+pub mod WholeLemmas

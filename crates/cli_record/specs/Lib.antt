@@ -1,8 +1,12 @@
 pub mod Agreeing
+pub mod Belonging
+pub mod Beside
 pub mod Compared
 pub mod DifferenceLine
 pub mod Differences
 pub mod RecordRun
 pub mod RecordText
+pub mod Replayed
+pub mod SentRuns
 pub mod Unless
 pub mod WholeLines

@@ -59,7 +59,7 @@ impl<T: Drop> From<AllocFailed<T>> for CompareFault {
 }
 
 /// The last tick in the tables, and in those of the record.
-fn last_ticks<S: Store, T: Store>(
+pub(crate) fn last_ticks<S: Store, T: Store>(
     store: &mut S,
     other: &mut T,
 ) -> Result<(Option<i64>, Option<i64>), CompareFault>

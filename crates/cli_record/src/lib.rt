@@ -6,25 +6,37 @@
 //! are, and in which order, is `specs/Differences.antt`; that there is none just where the tables agree in what is
 //! compared is a law (`laws`).
 //!
+//! `open_beside` opens a desk over a store once the store is seen to be the record's own. The whole lines of the record
+//! are delivered, one by one, to a desk in memory (`record_lines`, `replayed`), and what no rule of the building decides is
+//! compared (`belonging`, `sent_runs`), since the building's file may have been edited meanwhile.
+//!
 //! `check_record` reads the building of a file and the whole lines of a record (`whole_list`), delivers them to a desk
 //! in memory, and prints whether its tables are those of the database (`record_run`, `record_text`).
 #![tactic(auto)]
 
+pub use beside::{Database, Unopened, open_beside};
+pub use beside_fault::BesideFault;
 pub use comparing::{CompareFault, compare_tables};
 pub use difference::Difference;
 pub use laws::no_difference_where_tables_agree;
 pub use record_run::{RecordChecked, check_record};
 
 mod adding;
+mod belonging;
+mod beside;
+mod beside_fault;
 mod calendars;
 mod comparing;
 mod difference;
 mod laws;
 mod panels;
 mod places;
+mod record_lines;
 mod record_run;
 mod record_run_fault;
 mod record_text;
+mod replayed;
 mod same_row;
 mod schedules;
+mod sent_runs;
 mod whole_list;

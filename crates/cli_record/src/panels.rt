@@ -14,7 +14,7 @@ use store::Store;
 use window::{LAST_NUMBER, REMEMBERED, WINDOW};
 
 /// The next numbers of a panel.
-fn nexts<S: Store, T: Store>(
+pub fn nexts<S: Store, T: Store>(
     store: &mut S,
     other: &mut T,
     panel: &Name,
@@ -91,14 +91,14 @@ fn compare_rows<S: Store, T: Store>(
 }
 
 /// The first number that a panel with this next number may still repeat.
-fn first_number(next: u64) -> u64
+pub fn first_number(next: u64) -> u64
     ensures { result ≡ first_number next }
 {
     next.saturating_sub(REMEMBERED)
 }
 
 /// The number after those that a panel with this next number may use.
-fn end_number(next: u64) -> u64
+pub fn end_number(next: u64) -> u64
     ensures { result ≡ end_number next }
 {
     next.saturating_add(WINDOW).min(LAST_NUMBER + 1)

@@ -99,6 +99,14 @@ impl<S: Store + Drop> Desk<S> {
         self.store
     }
 
+    /// The building and the store, as they stand.
+    pub fn into_parts(self) -> (Building, S)
+        ensures building { result.0 ≡ self.building }
+        ensures store { result.1 ≡ self.store }
+    {
+        (self.building, self.store)
+    }
+
     /// How often a schedule was evaluated since the desk was opened; the count stays at its greatest value. A schedule
     /// whose value stands over the time of a tick is not evaluated again.
     pub fn evaluations(&self) -> u64

@@ -46,6 +46,7 @@ module _ (text old new line : List ℕ) (may_leave may_leave_now : List ℕ → 
           ap (λ n. take n new) at ∙ torn-front old new (length text) (subst (λ n. Torn n (length text) old new) at torn) in
           inr (opened, subst (λ file. IsBetween file (file ++ text) bytes) front left.1);
     };
+    shuts = λ not_put. refl;
     shut = λ honest shut. absurd (false≢true (sym opened ∙ shut));
   }
 
@@ -65,6 +66,7 @@ module _ (text old new line : List ℕ) (may_leave may_leave_now : List ℕ → 
           on_disk = λ bytes left. only bytes left.0;
         };
     failed = λ honest done. absurd (false≢true (sym done));
+    shuts = λ done. absurd (false≢true (sym done));
     shut = λ honest shut. absurd (false≢true (sym opened ∙ shut));
   }
 
@@ -84,6 +86,7 @@ module _ (old new line : List ℕ) (may_leave may_leave_now : List ℕ → Type 
           subst (λ file. IsBetween file (file ++ line) bytes) front left.1 in
           inr (opened, subst (λ file. IsBetween (take start old) file bytes) (sym whole.ends) between);
     };
+    shuts = λ not_taken. refl;
     shut = λ honest shut. absurd (false≢true (sym opened ∙ shut));
   }
 
@@ -103,5 +106,6 @@ module _ (old new line : List ℕ) (may_leave may_leave_now : List ℕ → Type 
           on_disk = λ bytes left. only bytes left.0;
         };
     failed = λ honest done. absurd (false≢true (sym done));
+    shuts = λ done. absurd (false≢true (sym done));
     shut = λ honest shut. absurd (false≢true (sym opened ∙ shut));
   }

@@ -12,6 +12,7 @@ pub record Puts (text : List ℕ) (is_done : Bool) (old new : RecordStanding) : 
   pub honest : new.is_honest → old.is_honest
   pub done : new.is_honest → is_done ≡ true → PutsLast text old new
   pub failed : new.is_honest → is_done ≡ false → FailsToPut text old new
+  pub shuts : is_done ≡ false → IsTrue new.is_shut
   pub shut : new.is_honest → LeavesShut is_done old new
 
 -- the last line is taken off, or the record is shut
@@ -19,4 +20,12 @@ pub record Takes (is_done : Bool) (old new : RecordStanding) : Type 0 where
   pub honest : new.is_honest → old.is_honest
   pub done : new.is_honest → is_done ≡ true → TakesLast old new
   pub failed : new.is_honest → is_done ≡ false → FailsToTake old new
+  pub shuts : is_done ≡ false → IsTrue new.is_shut
   pub shut : new.is_honest → LeavesShut is_done old new
+
+-- the file is shut, and a stop leaves nothing that it could not leave before
+pub record Closes (old new : RecordStanding) : Type 0 where
+  pub honest : new.is_honest → old.is_honest
+  pub shut : IsTrue new.is_shut
+  pub bytes : new.is_honest → new.bytes ≡ old.bytes
+  pub leaves : new.is_honest → (bytes : List ℕ) → new.may_leave bytes → old.may_leave bytes

@@ -20,18 +20,22 @@ pub record FailsToWrite (building : Building) (delivery : Delivery) (old new : R
       ⊎ ((line : List ℕ) × IsLineOf building delivery line × (old.is_shut ≡ false)
       × IsBetween old.bytes (old.bytes ++ (line ++ 10 ∷ [])) bytes)
 
--- a delivery is written down; without memory nothing changes; a record that is shut fails, and stays as it is
+-- A delivery is written down; without memory nothing changes; a record that is shut fails, and stays as it is. A record that
+-- fails is shut, whatever its device did.
 pub record WritesDown (building : Building) (delivery : Delivery) (fault : Option RecordFault) (old new : RecordStanding) : Type 0 where
   pub honest : new.is_honest → old.is_honest
   pub written : new.is_honest → fault ≡ None → HasWritten building delivery old new
   pub unchanged : new.is_honest → fault ≡ Some NoMemory → IsUntouched old new
   pub failed : new.is_honest → fault ≡ Some Failed → FailsToWrite building delivery old new
+  pub shuts : fault ≡ Some Failed → IsTrue new.is_shut
   pub shut : new.is_honest → IsTrue old.is_shut → (fault ≡ Some Failed) × IsUntouched old new
 
--- the last line is taken back, which takes no memory; a record that is shut fails, and stays as it is
+-- The last line is taken back, which takes no memory; a record that is shut fails, and stays as it is. A record that fails is
+-- shut, whatever its device did.
 pub record TakesBack (fault : Option RecordFault) (old new : RecordStanding) : Type 0 where
   pub honest : new.is_honest → old.is_honest
   pub taken : new.is_honest → fault ≡ None → TakesLast old new
   pub failed : new.is_honest → fault ≡ Some Failed → FailsToTake old new
+  pub shuts : fault ≡ Some Failed → IsTrue new.is_shut
   pub never_memory : new.is_honest → fault ≡ Some NoMemory → ⊥
   pub shut : new.is_honest → IsTrue old.is_shut → (fault ≡ Some Failed) × IsUntouched old new

@@ -1,5 +1,6 @@
 //! A delivery that is written down before it is made.
 ghost use Rattle.std.specs.Prelude.{◌≡◌, List, None, Err, OnOk};
+ghost use Rattle.std.specs.Bool.{IsTrue};
 ghost use Rattle.deliveries.specs.Delivered.{Holds};
 ghost use Rattle.deliveries.specs.declared.delivery.Delivery.{Delivery as a_delivery};
 ghost use Rattle.desk_record.specs.Delivering.{DeliversOrNot};
@@ -59,6 +60,7 @@ pub fn deliver<S: Store + Drop, R: Recorder>(
     ensures recorded { (S.standing desk.new.store).is_honest → (R.standing recorder.new).is_honest
         → InStep desk.old.building (R.standing recorder.old) (S.standing desk.old.store)
         → InStep desk.old.building (R.standing recorder.new) (S.standing desk.new.store) }
+    ensures not_recorded { result ≡ Err Undelivered.NotRecorded → IsTrue (R.standing recorder.new).is_shut }
     ensures honest { (S.standing desk.new.store).is_honest → (S.standing desk.old.store).is_honest }
     ensures honest_record { (R.standing recorder.new).is_honest → (R.standing recorder.old).is_honest }
     ensures building { desk.new.building ≡ desk.old.building }

@@ -1,7 +1,7 @@
 //! What is asked of a file of lines.
 ghost use Rattle.std.specs.Prelude.{◌<◌, length, is_ok};
-ghost use Rattle.desk_record.specs.LineFile.{Puts, Takes};
-ghost use Rattle.desk_record.specs.RecordStanding.{RecordStanding, Shuts};
+ghost use Rattle.desk_record.specs.LineFile.{Closes, Puts, Takes};
+ghost use Rattle.desk_record.specs.RecordStanding.{RecordStanding};
 
 use std::io;
 
@@ -20,5 +20,5 @@ pub trait LineFile {
 
     /// Writes nothing more.
     fn shut(&mut self)
-        ensures { Shuts (standing self.old) (standing self.new) };
+        ensures { Closes (standing self.old) (standing self.new) };
 }

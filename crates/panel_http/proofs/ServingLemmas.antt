@@ -1,5 +1,6 @@
 -- What is written of an answer tells what the desk answers.
-use Rattle.std.proofs.Common.{◌≡◌, ◌∙◌, ◌<◌, inl, inr, sym, ap, ℕ, List, length, Option, Some, None, Result, Ok, Err}
+use Rattle.std.proofs.Common.{◌≡◌, ◌∙◌, ◌<◌, inl, inr, refl, sym, ap, ℕ, Bool, List, length, Option, Some, None, Result, Ok, Err}
+use Rattle.std.specs.Bool.{IsTrue}
 use Rattle.building.specs.Building.{Building}
 use Rattle.deliveries.specs.declared.delivery.Delivery.{Delivery}
 use Rattle.deliveries.specs.Delivered.{Holds}
@@ -26,10 +27,10 @@ text_or default (Some given) = given.1
 
 -- what an answer that is written tells
 tells : (b : Building) (earlier : List Delivery) (bytes : Text) (request : Request) (answer : Result Response Unanswered)
-    (old now : Standing) (status : Status) (text : Text)
-    → IsRequest b bytes request → Answers b earlier request answer old now → written answer ≡ Some (status, text)
-    → Tells b earlier bytes status text old now
-tells b earlier bytes request (Ok response) old now status text is answers given =
+    (old now : Standing) (shut : Bool) (status : Status) (text : Text)
+    → IsRequest b bytes request → Answers b earlier request answer old now → (answer ≡ Err unanswered.NotRecorded → IsTrue shut)
+    → written answer ≡ Some (status, text) → Tells b earlier bytes status text old now shut
+tells b earlier bytes request (Ok response) old now shut status text is answers lost given =
     let (said, says, is_said, holds) = answers in
     inl (record {
       request = request;
@@ -39,18 +40,22 @@ tells b earlier bytes request (Ok response) old now status text is answers given
       is_given = (sym (ap (status_or status) given) ∙ says.status, sym (ap (text_or text) given) ∙ says.text);
       holds = holds;
     })
-tells b earlier bytes request (Err unanswered.NoMemory) old now status text is answers given =
+tells b earlier bytes request (Err unanswered.NoMemory) old now shut status text is answers lost given =
     inr (inl (record { is_given = (sym (ap (status_or status) given), sym (ap (text_or text) given)); holds = answers }))
-tells b earlier bytes request (Err unanswered.NotRecorded) old now status text is answers given =
-    inr (inr (inl (record { is_given = (sym (ap (status_or status) given), sym (ap (text_or text) given)); holds = answers })))
-tells b earlier bytes request (Err unanswered.Store) old now status text is answers given =
+tells b earlier bytes request (Err unanswered.NotRecorded) old now shut status text is answers lost given =
+    inr (inr (inl (record {
+      is_given = (sym (ap (status_or status) given), sym (ap (text_or text) given));
+      is_shut = lost refl;
+      holds = answers;
+    })))
+tells b earlier bytes request (Err unanswered.Store) old now shut status text is answers lost given =
     inr (inr (inr (record {
       request = request;
       is_request = is;
       is_given = (sym (ap (status_or status) given), sym (ap (text_or text) given));
       ends = answers;
     })))
-tells b earlier bytes request (Err unanswered.NoReply) old now status text is answers given = absurd (cc given)
+tells b earlier bytes request (Err unanswered.NoReply) old now shut status text is answers lost given = absurd (cc given)
 
 silent : (b : Building) (earlier : List Delivery) (bytes : Text) (request : Request) (answer : Result Response Unanswered)
     (old now : Standing)
@@ -64,35 +69,35 @@ silent b earlier bytes request (Err unanswered.NoReply) old now is answers given
 
 -- an answer to a request, written
 pub serves-answer : (b : Building) (earlier : List Delivery) (bytes : Text) (request : Request) (answer : Result Response Unanswered)
-    (read_before read_after : ℕ) (held holds : Option Text) (before after : ℕ) (old now : Standing) (served : Served)
+    (read_before read_after : ℕ) (held holds : Option Text) (before after : ℕ) (old now : Standing) (shut : Bool) (served : Served)
     → 0 < length bytes → IsRequest b bytes request → Answers b earlier request answer old now
-    → Writes (written answer) held holds before after served
-    → Serves b earlier bytes read_before read_after held holds before after old now served
-serves-answer b earlier bytes request answer rb ra held holds before after old now (Answered status) some is answers (text, given, appends) =
-    (some, text, appends, tells b earlier bytes request answer old now status text is answers given)
-serves-answer b earlier bytes request answer rb ra held holds before after old now ReplyLost some is answers (status, text, given, lost) =
-    (some, status, text, lost, tells b earlier bytes request answer old now status text is answers given)
-serves-answer b earlier bytes request answer rb ra held holds before after old now NoRequest some is answers writes = absurd writes
-serves-answer b earlier bytes request answer rb ra held holds before after old now NoReply some is answers (given, keeps) =
+    → (answer ≡ Err unanswered.NotRecorded → IsTrue shut) → Writes (written answer) held holds before after served
+    → Serves b earlier bytes read_before read_after held holds before after old now shut served
+serves-answer b earlier bytes request answer rb ra held holds before after old now shut (Answered status) some is answers lost (text, given, appends) =
+    (some, text, appends, tells b earlier bytes request answer old now shut status text is answers lost given)
+serves-answer b earlier bytes request answer rb ra held holds before after old now shut ReplyLost some is answers of (status, text, given, lost) =
+    (some, status, text, lost, tells b earlier bytes request answer old now shut status text is answers of given)
+serves-answer b earlier bytes request answer rb ra held holds before after old now shut NoRequest some is answers lost writes = absurd writes
+serves-answer b earlier bytes request answer rb ra held holds before after old now shut NoReply some is answers lost (given, keeps) =
     (some, keeps, silent b earlier bytes request answer old now is answers given)
 
 -- the answer that memory was refused, written: no request was read
 pub serves-no-memory : (b : Building) (earlier : List Delivery) (bytes : Text) (read_before read_after : ℕ) (held holds : Option Text)
-    (before after : ℕ) (old now : Standing) (served : Served) → 0 < length bytes → Holds b earlier now
+    (before after : ℕ) (old now : Standing) (shut : Bool) (served : Served) → 0 < length bytes → Holds b earlier now
     → Writes (written (Err unanswered.NoMemory)) held holds before after served
-    → Serves b earlier bytes read_before read_after held holds before after old now served
-serves-no-memory b earlier bytes rb ra held holds before after old now (Answered status) some stands (text, given, appends) = (
+    → Serves b earlier bytes read_before read_after held holds before after old now shut served
+serves-no-memory b earlier bytes rb ra held holds before after old now shut (Answered status) some stands (text, given, appends) = (
   some,
   text,
   appends,
   inr (inl (record { is_given = (sym (ap (status_or status) given), sym (ap (text_or text) given)); holds = stands })),
 )
-serves-no-memory b earlier bytes rb ra held holds before after old now ReplyLost some stands (status, text, given, lost) = (
+serves-no-memory b earlier bytes rb ra held holds before after old now shut ReplyLost some stands (status, text, given, lost) = (
   some,
   status,
   text,
   lost,
   inr (inl (record { is_given = (sym (ap (status_or status) given), sym (ap (text_or text) given)); holds = stands })),
 )
-serves-no-memory b earlier bytes rb ra held holds before after old now NoRequest some stands writes = absurd writes
-serves-no-memory b earlier bytes rb ra held holds before after old now NoReply some stands (given, keeps) = absurd (cc given)
+serves-no-memory b earlier bytes rb ra held holds before after old now shut NoRequest some stands writes = absurd writes
+serves-no-memory b earlier bytes rb ra held holds before after old now shut NoReply some stands (given, keeps) = absurd (cc given)

@@ -1,5 +1,6 @@
 -- What the bytes of an input get of the desk, and which tables are left, after a list of deliveries.
-use Rattle.std.specs.Prelude.{◌≡◌, ◌<◌, ◌⊎◌, ℕ, List, [], length, string_bytes, Option, Some, None, Result, Ok, Err}
+use Rattle.std.specs.Prelude.{◌≡◌, ◌<◌, ◌⊎◌, ℕ, Bool, List, [], length, string_bytes, Option, Some, None, Result, Ok, Err}
+use Rattle.std.specs.Bool.{IsTrue}
 use Rattle.std.specs.Io.KnownBytes.{Appends, Keeps}
 use Rattle.building.specs.Building.{Building}
 use Rattle.panel_http_requests.specs.Counting.{Lost}
@@ -40,10 +41,11 @@ pub record LacksMemory (building : Building) (earlier : List Delivery) (code : S
   pub is_given : IsOf no_memory_said code text
   pub holds : Holds building earlier now
 
--- the record can't be written, and nothing is delivered
+-- the record can't be written, and is shut; nothing is delivered
 pub record LacksRecord (building : Building) (earlier : List Delivery) (code : Status) (text : Text)
-    (now : Standing) : Type 0 where
+    (now : Standing) (record_is_shut : Bool) : Type 0 where
   pub is_given : IsOf store_said code text
+  pub is_shut : IsTrue record_is_shut
   pub holds : Holds building earlier now
 
 -- the store failed in this call, or was shut
@@ -54,11 +56,11 @@ pub record LacksStore (building : Building) (earlier : List Delivery) (bytes : T
   pub is_given : IsOf store_said code text
   pub ends : StoreEnds building earlier (after earlier request) old now
 
-abbrev pub Tells : Building → List Delivery → Text → Status → Text → Standing → Standing → Type 0
-Tells building earlier bytes code text old now =
+abbrev pub Tells : Building → List Delivery → Text → Status → Text → Standing → Standing → Bool → Type 0
+Tells building earlier bytes code text old now record_is_shut =
     Responds building earlier bytes code text now
     ⊎ (LacksMemory building earlier code text now
-    ⊎ (LacksRecord building earlier code text now ⊎ LacksStore building earlier bytes code text old now))
+    ⊎ (LacksRecord building earlier code text now record_is_shut ⊎ LacksStore building earlier bytes code text old now))
 
 -- nothing is given, and the tables are those with what the bytes deliver
 pub record IsSilent (building : Building) (earlier : List Delivery) (bytes : Text) (now : Standing) : Type 0 where
@@ -70,17 +72,17 @@ pub record IsSilent (building : Building) (earlier : List Delivery) (bytes : Tex
 
 -- One request: a response was written whole; or a write failed, and a beginning of one was; or a read failed, or
 -- there was no byte; or memory for the response was refused. Of the reader the counts of failures before and after,
--- of the writer what it holds and its counts, and how the store stands.
-abbrev pub Serves : Building → List Delivery → Text → ℕ → ℕ → Option Text → Option Text → ℕ → ℕ → Standing → Standing
+-- of the writer what it holds and its counts, how the store stands, and whether the record is shut then.
+abbrev pub Serves : Building → List Delivery → Text → ℕ → ℕ → Option Text → Option Text → ℕ → ℕ → Standing → Standing → Bool
     → Served → Type 0
-Serves building earlier bytes read_before read_after held holds before now old new (Answered code) =
-    (0 < length bytes) × (text : Text) × Appends held holds text × Tells building earlier bytes code text old new
-Serves building earlier bytes read_before read_after held holds before now old new ReplyLost =
+Serves building earlier bytes read_before read_after held holds before now old new shut (Answered code) =
+    (0 < length bytes) × (text : Text) × Appends held holds text × Tells building earlier bytes code text old new shut
+Serves building earlier bytes read_before read_after held holds before now old new shut ReplyLost =
     (0 < length bytes) × (code : Status) × (text : Text) × Lost held holds text before now
-    × Tells building earlier bytes code text old new
-Serves building earlier bytes read_before read_after held holds before now old new NoRequest =
+    × Tells building earlier bytes code text old new shut
+Serves building earlier bytes read_before read_after held holds before now old new shut NoRequest =
     (HasRisen read_before read_after ⊎ (bytes ≡ [])) × Keeps held holds × Holds building earlier new
-Serves building earlier bytes read_before read_after held holds before now old new NoReply =
+Serves building earlier bytes read_before read_after held holds before now old new shut NoReply =
     (0 < length bytes) × Keeps held holds × IsSilent building earlier bytes new
 
 -- ---- how an answer is written

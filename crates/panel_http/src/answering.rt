@@ -1,6 +1,7 @@
 //! The answer to a request.
 
-ghost use Rattle.std.specs.Prelude.{◌≡◌, List};
+ghost use Rattle.std.specs.Prelude.{◌≡◌, List, Err};
+ghost use Rattle.std.specs.Bool.{IsTrue};
 ghost use Rattle.deliveries.specs.declared.delivery.Delivery.{Delivery as a_delivery};
 ghost use Rattle.deliveries.specs.Delivered.{Holds};
 ghost use Rattle.panel_http.specs.Answers.{Answers};
@@ -27,6 +28,7 @@ pub(crate) fn answer<S: Store + Drop, K: Recorder>(
     ensures answers { (earlier : List a_delivery) → (S.standing desk.new.store).is_honest
         → Holds desk.old.building earlier (S.standing desk.old.store)
         → Answers desk.old.building earlier request.now result (S.standing desk.old.store) (S.standing desk.new.store) }
+    ensures not_recorded { result ≡ Err Unanswered.NotRecorded → IsTrue (K.standing recorder.new).is_shut }
     ensures recorded { KeepsStep desk.old.building (K.standing recorder.old) (K.standing recorder.new)
         (S.standing desk.old.store) (S.standing desk.new.store) }
     ensures building { desk.new.building ≡ desk.old.building }
@@ -55,6 +57,7 @@ fn delivery_answer<S: Store + Drop, K: Recorder>(
     ensures answers { (earlier : List a_delivery) → (S.standing desk.new.store).is_honest
         → Holds desk.old.building earlier (S.standing desk.old.store)
         → Answers desk.old.building earlier (asked.Delivery delivery.now) result (S.standing desk.old.store) (S.standing desk.new.store) }
+    ensures not_recorded { result ≡ Err Unanswered.NotRecorded → IsTrue (K.standing recorder.new).is_shut }
     ensures recorded { KeepsStep desk.old.building (K.standing recorder.old) (K.standing recorder.new)
         (S.standing desk.old.store) (S.standing desk.new.store) }
     ensures building { desk.new.building ≡ desk.old.building }

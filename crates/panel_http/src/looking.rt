@@ -1,6 +1,6 @@
 //! The answers to who looks at a point or a day.
 
-ghost use Rattle.std.specs.Prelude.{◌≡◌, List, IfOk, Some};
+ghost use Rattle.std.specs.Prelude.{◌≡◌, List, IfOk, Some, Err};
 ghost use Rattle.deliveries.specs.declared.delivery.Delivery.{Delivery as a_delivery};
 ghost use Rattle.deliveries.specs.Delivered.{Holds};
 ghost use Rattle.panel_http.specs.Answers.{Answers, state_said};
@@ -27,6 +27,7 @@ pub(crate) fn point_answer<S: Store + Drop>(
     ensures answers { (earlier : List a_delivery) → (S.standing desk.new.store).is_honest
         → Holds desk.old.building earlier (S.standing desk.old.store)
         → Answers desk.old.building earlier (asked.Point name) result (S.standing desk.old.store) (S.standing desk.new.store) }
+    ensures recorded { result ≡ Err Unanswered.NotRecorded → ⊥ }
     ensures reads { (S.standing desk.new.store).is_honest → OnlyReads (S.standing desk.old.store) (S.standing desk.new.store) }
     ensures honest { (S.standing desk.new.store).is_honest → (S.standing desk.old.store).is_honest }
     ensures building { desk.new.building ≡ desk.old.building }
@@ -46,6 +47,7 @@ fn named_point_answer<S: Store + Drop>(
     ensures answers { (earlier : List a_delivery) → (S.standing desk.new.store).is_honest
         → Holds desk.old.building earlier (S.standing desk.old.store)
         → Answers desk.old.building earlier (asked.Point (Some name.now)) result (S.standing desk.old.store) (S.standing desk.new.store) }
+    ensures recorded { result ≡ Err Unanswered.NotRecorded → ⊥ }
     ensures reads { (S.standing desk.new.store).is_honest → OnlyReads (S.standing desk.old.store) (S.standing desk.new.store) }
     ensures honest { (S.standing desk.new.store).is_honest → (S.standing desk.old.store).is_honest }
     ensures building { desk.new.building ≡ desk.old.building }
@@ -77,6 +79,7 @@ pub(crate) fn report_answer<S: Store + Drop>(
     ensures answers { (earlier : List a_delivery) → (S.standing desk.new.store).is_honest
         → Holds desk.old.building earlier (S.standing desk.old.store)
         → Answers desk.old.building earlier (asked.Report day) result (S.standing desk.old.store) (S.standing desk.new.store) }
+    ensures recorded { result ≡ Err Unanswered.NotRecorded → ⊥ }
     ensures reads { (S.standing desk.new.store).is_honest → OnlyReads (S.standing desk.old.store) (S.standing desk.new.store) }
     ensures honest { (S.standing desk.new.store).is_honest → (S.standing desk.old.store).is_honest }
     ensures building { desk.new.building ≡ desk.old.building }
@@ -96,6 +99,7 @@ fn day_answer<S: Store + Drop>(
     ensures answers { (earlier : List a_delivery) → (S.standing desk.new.store).is_honest
         → Holds desk.old.building earlier (S.standing desk.old.store)
         → Answers desk.old.building earlier (asked.Report (Some day)) result (S.standing desk.old.store) (S.standing desk.new.store) }
+    ensures recorded { result ≡ Err Unanswered.NotRecorded → ⊥ }
     ensures reads { (S.standing desk.new.store).is_honest → OnlyReads (S.standing desk.old.store) (S.standing desk.new.store) }
     ensures honest { (S.standing desk.new.store).is_honest → (S.standing desk.old.store).is_honest }
     ensures building { desk.new.building ≡ desk.old.building }

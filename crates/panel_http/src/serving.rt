@@ -32,7 +32,7 @@ pub fn serve_one<R: Read, W: Write, S: Store + Drop, K: Recorder>(
         → (S.standing desk.new.store).is_honest → Holds desk.old.building earlier (S.standing desk.old.store)
         → Serves desk.old.building earlier bytes reader.old.failures reader.new.failures
         (W.contents writer.old.inner) (W.contents writer.new.inner) writer.old.failures writer.new.failures
-        (S.standing desk.old.store) (S.standing desk.new.store) result }
+        (S.standing desk.old.store) (S.standing desk.new.store) (K.standing recorder.new).is_shut result }
     ensures recorded { KeepsStep desk.old.building (K.standing recorder.old) (K.standing recorder.new)
         (S.standing desk.old.store) (S.standing desk.new.store) }
     ensures building { desk.new.building ≡ desk.old.building }
@@ -55,9 +55,9 @@ pub fn serve_come<W: Write, S: Store + Drop, K: Recorder>(
 ) -> Served
     ensures serves { (more : List ℕ) (earlier : List a_delivery) → IsWhole desk.old.building come.now ⊎ (more ≡ [])
         → (S.standing desk.new.store).is_honest → Holds desk.old.building earlier (S.standing desk.old.store)
-        → (failures : ℕ) × Serves desk.old.building earlier (come.now ++ more) 0 failures
+        → Serves desk.old.building earlier (come.now ++ more) 0 0
         (W.contents writer.old.inner) (W.contents writer.new.inner) writer.old.failures writer.new.failures
-        (S.standing desk.old.store) (S.standing desk.new.store) result }
+        (S.standing desk.old.store) (S.standing desk.new.store) (K.standing recorder.new).is_shut result }
     ensures recorded { KeepsStep desk.old.building (K.standing recorder.old) (K.standing recorder.new)
         (S.standing desk.old.store) (S.standing desk.new.store) }
     ensures building { desk.new.building ≡ desk.old.building }
@@ -85,7 +85,7 @@ pub fn serve_request<W: Write, S: Store + Drop, K: Recorder>(
         → (S.standing desk.new.store).is_honest → Holds desk.old.building earlier (S.standing desk.old.store)
         → Serves desk.old.building earlier bytes read_before read_after
         (W.contents writer.old.inner) (W.contents writer.new.inner) writer.old.failures writer.new.failures
-        (S.standing desk.old.store) (S.standing desk.new.store) result }
+        (S.standing desk.old.store) (S.standing desk.new.store) (K.standing recorder.new).is_shut result }
     ensures recorded { KeepsStep desk.old.building (K.standing recorder.old) (K.standing recorder.new)
         (S.standing desk.old.store) (S.standing desk.new.store) }
     ensures building { desk.new.building ≡ desk.old.building }

@@ -1,0 +1,7 @@
+use Rattle.cli_record.proofs.ReplayLemmas.{replayed-none}
+use Rattle.std.proofs.Common.{refl}
+use Rattle.cli_record.proofs.replayed.replay_found.Goals as goal
+
+pub returns-in-None-clause-replayed : goal.returns-in-None-clause-replayed
+returns-in-None-clause-replayed g c = λ bytes found honest holds.
+    replayed-none c.args.desk.now.building bytes _ _ (rw c.in-None.is at found) refl holds

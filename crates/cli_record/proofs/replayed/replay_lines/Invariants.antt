@@ -1,0 +1,12 @@
+use Rattle.std.proofs.Common.{◌≡◌, ℕ, List, [], Some}
+use Rattle.std.specs.Io.Buffered.{reader_remaining}
+use Rattle.deliveries.specs.Delivered.{Holds}
+use Rattle.cli_record.proofs.ReplayLemmas.{Replaying}
+use Rattle.cli_record.proofs.replayed.replay_lines.Given as goal
+
+-- the lines so far were replayed, over the same building
+abbrev pub invariant-loop-number : goal.invariant-loop-number
+invariant-loop-number g l = (l.desk.building ≡ l.initial.desk.building)
+    × ((bytes : List ℕ) → reader_remaining g.D.Read.remaining l.initial.reader ≡ Some bytes → (g.S.Store.standing l.desk.store).is_honest
+    → Holds l.initial.desk.building [] (g.S.Store.standing l.initial.desk.store)
+    → Replaying l.initial.desk.building bytes (reader_remaining g.D.Read.remaining l.reader) l.last (g.S.Store.standing l.desk.store))

@@ -1,0 +1,11 @@
+use Rattle.std.proofs.Common.{Ok, subst, sym}
+use Rattle.cli_record.specs.Replayed.{IsReplayed}
+use Rattle.cli_record.proofs.replayed.replay_record.Goals as goal
+
+pub returns-in-Ok-clause-replayed : goal.returns-in-Ok-clause-replayed
+returns-in-Ok-clause-replayed g c = λ bytes has honest.
+    let same = c.into_parts-building.ensures.store in
+    let honest_then = subst (λ s. (g.T.Store.standing s).is_honest) same honest in
+    subst (λ s. IsReplayed c.args.building bytes c.in_ok-last-in-Ok.last (g.T.Store.standing s)) (sym same)
+    ((rw c.new-desk.ensures.building at c.in_ok-last-in-Ok.ensures.replayed bytes (has (Ok c.in-Ok.found) c.in-Ok.ensures) honest_then)
+    c.new-desk.ensures.begins)

@@ -1,0 +1,63 @@
+-- A store that is opened beside a record.
+use Rattle.std.specs.Prelude.{◌≡◌, ℕ, false, List, Option, Some, None, Result, Ok}
+use Rattle.building.specs.Building.{Building}
+use Rattle.deliveries.specs.declared.delivery.Delivery.{Delivery}
+use Rattle.store.specs.declared.open_fault.OpenFault.{OpenFault}
+use Rattle.store.specs.Standing.{Content, Standing}
+use Rattle.cli_record.specs.declared.difference.Difference.{Difference}
+use Rattle.cli_record.specs.declared.beside_fault.BesideFault.{BesideFault}
+use Rattle.cli_record.specs.declared.beside_fault.BesideFault.TheVariants.{NoDatabase, NotDelivery, OtherRecord, Run}
+use Rattle.cli_record.specs.Belonging.{IsMatched, IsOfRecord}
+use Rattle.cli_record.specs.Replayed.{IsReplayed}
+
+-- a store was only read: it holds what it held, while it is open and as a stop leaves it
+pub record HoldsStill (old new : Standing) : Type 0 where
+  pub honest : new.is_honest → old.is_honest
+  pub kept : new.is_honest → new.is_shut ≡ false → new.content ≡ old.content
+  pub left : new.is_honest → old.is_shut ≡ false → (content : Content) → new.may_leave content → content ≡ old.content
+
+-- the difference that a fault tells between a store and a record, if it tells one
+abbrev pub told_by : BesideFault → Option Difference
+told_by (Run fault) = None
+told_by (NotDelivery path line) = None
+told_by (NoDatabase path database) = None
+told_by (OtherRecord path database difference) = Some difference
+
+-- the store is open, and was only read; its tables are those of a record that was replayed so
+pub record OpensOver (building : Building) (last : Option Delivery) (replayed old new : Standing) : Type 0 where
+  pub was_open : old.is_shut ≡ false
+  pub is_open : new.is_shut ≡ false
+  pub still : HoldsStill old new
+  pub own : new.is_honest → (bytes : List ℕ) → IsReplayed building bytes last replayed → IsOfRecord building bytes old.content.tables
+
+-- the store was only read; where a difference is told, its tables are not those of a record that was replayed so, and differ there
+pub record RefusesOver (building : Building) (last : Option Delivery) (replayed old new : Standing) (fault : BesideFault) : Type 0 where
+  pub still : HoldsStill old new
+  pub told : new.is_honest → (bytes : List ℕ) → IsReplayed building bytes last replayed → (difference : Difference)
+      → told_by fault ≡ Some difference → IsMatched building bytes old.content.tables (Some difference)
+
+-- the store is one that was opened, and was only read since; its tables are those of the record whose bytes may be these
+pub record OpensBeside {S : Type 0} (standing : S → Standing) (may_open : Result S OpenFault → Type 0) (building : Building)
+    (may_have : List ℕ → Type 0) (now : Standing) : Type 0 where
+  pub opened : S
+  pub is_opened : may_open (Ok opened)
+  pub was_open : (standing opened).is_shut ≡ false
+  pub is_open : now.is_shut ≡ false
+  pub still : HoldsStill (standing opened) now
+  pub own : now.is_honest → (bytes : List ℕ) → may_have bytes → IsOfRecord building bytes (standing opened).content.tables
+
+-- The store is one that was opened, and was only read since. Where a difference is told, its tables are not those of the record
+-- whose bytes may be these, and differ there.
+pub record RefusesBeside {S : Type 0} (standing : S → Standing) (may_open : Result S OpenFault → Type 0) (building : Building)
+    (may_have : List ℕ → Type 0) (fault : BesideFault) (left : S) : Type 0 where
+  pub opened : S
+  pub is_opened : may_open (Ok opened)
+  pub still : HoldsStill (standing opened) (standing left)
+  pub told : (standing left).is_honest → (bytes : List ℕ) → may_have bytes → (difference : Difference)
+      → told_by fault ≡ Some difference → IsMatched building bytes (standing opened).content.tables (Some difference)
+
+-- the store is one that was opened, and was only read since
+pub record ReadsBeside {S : Type 0} (standing : S → Standing) (may_open : Result S OpenFault → Type 0) (left : S) : Type 0 where
+  pub opened : S
+  pub is_opened : may_open (Ok opened)
+  pub still : HoldsStill (standing opened) (standing left)

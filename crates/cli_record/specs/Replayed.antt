@@ -1,0 +1,54 @@
+-- What is made of the lines of a record, whose last delivery is held back.
+use Rattle.std.specs.Prelude.{◌≡◌, ◌++◌, ◌∷◌, ℕ, Bool, true, false, List, [], Option, Some, None, Result, Ok, Err, IfOk, IfSome}
+use Rattle.building.specs.Building.{Building}
+use Rattle.deliveries.specs.declared.delivery.Delivery.{Delivery}
+use Rattle.deliveries.specs.Delivered.{Holds}
+use Rattle.delivery_json.specs.LineEnds.{IsLine}
+use Rattle.desk_cli.specs.ListLines.{Collects}
+use Rattle.store.specs.Standing.{Standing}
+use Rattle.cli_record.specs.RecordRun.{Lists}
+
+-- the bytes of a file that a call may find: of a reader what it has left, and none where there is no file
+abbrev pub IsFound : {R : Type 0} → (R → Option (List ℕ)) → Option R → List ℕ → Type 0
+IsFound left None bytes = bytes ≡ []
+IsFound left (Some reader) bytes = left reader ≡ Some bytes
+
+-- whatever a call may find, it has these bytes
+abbrev pub MayHave : {R E : Type 0} → (Result (Option R) E → Type 0) → (R → Option (List ℕ)) → List ℕ → Type 0
+MayHave {R} {E} may_find left bytes = (found : Result (Option R) E) → may_find found → IfOk found (λ reader. IsFound left reader bytes)
+
+-- the first whole line of the bytes was read, and the bytes after its end are left; or no line of them is whole
+abbrev pub TakesWhole : List ℕ → Bool → List ℕ → Option (List ℕ) → Type 0
+TakesWhole bytes true line left = (rest : List ℕ) × (left ≡ Some rest) × (bytes ≡ line ++ 10 ∷ rest) × IsLine line
+TakesWhole bytes false line left = IsLine bytes
+
+-- bytes whose last is a line end lose it; else none is whole
+abbrev pub CutsEnd : List ℕ → Bool → List ℕ → Type 0
+CutsEnd bytes true line = bytes ≡ line ++ 10 ∷ []
+CutsEnd bytes false line = (before : List ℕ) → bytes ≡ before ++ 10 ∷ [] → ⊥
+
+-- the delivery that is held back, if there is one
+abbrev pub held_back : Option Delivery → List Delivery
+held_back None = []
+held_back (Some delivery) = delivery ∷ []
+
+-- what a line tells adds a delivery, or none
+abbrev pub tells : Building → List ℕ → Option Delivery → Type 0
+tells building line delivery = Collects building (line ∷ []) [] (held_back delivery)
+
+-- the store has the tables of what was made; what is held back comes after it, and is there if anything was made
+pub record HoldsBack (building : Building) (made : List Delivery) (last : Option Delivery) (store : Standing) : Type 0 where
+  pub holds : Holds building made store
+  pub none : last ≡ None → made ≡ []
+
+-- what the lines tell was made, but for the last of it, which is held back
+pub record Makes (building : Building) (lines : List (List ℕ)) (last : Option Delivery) (store : Standing) : Type 0 where
+  pub made : List Delivery
+  pub collects : Collects building lines [] (made ++ held_back last)
+  pub back : HoldsBack building made last store
+
+-- the same of the whole lines of a record of these bytes
+pub record IsReplayed (building : Building) (bytes : List ℕ) (last : Option Delivery) (store : Standing) : Type 0 where
+  pub made : List Delivery
+  pub lists : Lists building bytes (made ++ held_back last)
+  pub back : HoldsBack building made last store

@@ -1,0 +1,131 @@
+//! Why a desk is not opened beside a record, or a run over one stopped.
+ghost use Rattle.std.specs.Prelude.{◌≡◌, None};
+ghost use Rattle.cli_record.specs.Beside.{told_by};
+
+use crate::comparing::CompareFault;
+use crate::difference::Difference;
+use cli_common::{RunFault, Status, print_fault};
+use std::alloc::Global;
+use std::fmt;
+use std::io::Write;
+use store::{OpenFault, StoreFault};
+
+/// Why a run over a database, and the record that is kept beside it, stopped. Its text is the line of the fault end,
+/// without the line end.
+#[derive(Clone, Copy)]
+pub enum BesideFault<'a> {
+    /// As any run stops.
+    Run(RunFault<'a>),
+    /// The line of this number, counted from 1, of the record of this path is no delivery.
+    NotDelivery {
+        path: &'a str,
+        line: u64,
+    },
+    /// There is no database for the record of this path, which has deliveries.
+    NoDatabase {
+        path: &'a str,
+        database: &'a str,
+    },
+    /// The record of this path is not that of the database: where they differ first.
+    OtherRecord {
+        path: &'a str,
+        database: &'a str,
+        difference: Difference,
+    },
+}
+
+impl<'a> BesideFault<'a> {
+    /// What ends a run whose store is not opened.
+    pub(crate) fn of_opening(fault: OpenFault) -> BesideFault<'a>
+        ensures { told_by result ≡ None }
+    {
+        BesideFault::Run(match fault {
+            OpenFault::NoMemory => RunFault::NoMemory,
+            OpenFault::Failed => RunFault::Store(StoreFault::Failed),
+            OpenFault::UnknownTables => RunFault::UnknownTables,
+            OpenFault::BadRow => RunFault::Store(StoreFault::BadRow),
+        })
+    }
+
+    /// What ends a run whose tables are not compared.
+    pub(crate) fn of_comparing(fault: CompareFault) -> BesideFault<'a>
+        ensures { told_by result ≡ None }
+    {
+        BesideFault::Run(match fault {
+            CompareFault::Held(fault) | CompareFault::Recorded(fault) => RunFault::from(fault),
+            CompareFault::NoMemory => RunFault::NoMemory,
+        })
+    }
+
+    /// What ends a run whose record, of this path, is not replayed.
+    pub(crate) fn of_replay(fault: RunFault<'a>, path: &'a str) -> BesideFault<'a>
+        ensures { told_by result ≡ None }
+    {
+        match fault {
+            RunFault::NotDelivery { line } => BesideFault::NotDelivery { path, line },
+            fault => BesideFault::Run(fault),
+        }
+    }
+
+    /// What the program ends with.
+    pub fn status(&self) -> Status
+        ensures { (result ≡ Status.Done) → ⊥ }
+    {
+        match self {
+            BesideFault::Run(fault) => fault.status(),
+            _ => Status::Fault,
+        }
+    }
+
+    /// Prints the fault as one line.
+    pub fn print<F: Write>(&self, alloc: Global, out: &mut F) {
+        print_fault(alloc, self, out);
+    }
+}
+
+impl fmt::Display for BesideFault<'_> {
+    fn fmt<W: fmt::Write>(&self, f: &mut fmt::Formatter<W>) -> fmt::Result {
+        match self {
+            BesideFault::Run(fault) => write!(f, "{fault}"),
+            BesideFault::NotDelivery { path, line } => {
+                write!(f, "desk: line {line} of {path} is not a delivery")
+            }
+            BesideFault::NoDatabase { path, database } => {
+                write!(
+                    f,
+                    "desk: {path} is not the record of {database}: no database is there"
+                )
+            }
+            BesideFault::OtherRecord {
+                path,
+                database,
+                difference,
+            } => write!(
+                f,
+                "desk: {path} is not the record of {database}: {difference}"
+            ),
+        }
+    }
+}
+
+impl<'a> From<RunFault<'a>> for BesideFault<'a> {
+    ghost use Rattle.std.specs.Prelude.{◌≡◌, None};
+    ghost use Rattle.cli_record.specs.Beside.{told_by};
+
+    ghost from_gives = { λ _ given. told_by given ≡ None };
+
+    fn from(fault: RunFault<'a>) -> Self {
+        BesideFault::Run(fault)
+    }
+}
+
+impl From<StoreFault> for BesideFault<'_> {
+    ghost use Rattle.std.specs.Prelude.{◌≡◌, None};
+    ghost use Rattle.cli_record.specs.Beside.{told_by};
+
+    ghost from_gives = { λ _ given. told_by given ≡ None };
+
+    fn from(fault: StoreFault) -> Self {
+        BesideFault::Run(RunFault::from(fault))
+    }
+}

@@ -1,0 +1,265 @@
+//! What the whole lines of a record leave in memory.
+ghost use Rattle.std.specs.Prelude.{◌≡◌, ◌∷◌, ◌++◌, List, [], ℕ, IfOk, None, OnOk, Some, is_none};
+ghost use Rattle.std.specs.Io.Buffered.{reader_remaining};
+ghost use Rattle.deliveries.specs.Delivered.{Holds};
+ghost use Rattle.deliveries.specs.Tables.{tables};
+ghost use Rattle.deliveries.specs.declared.delivery.Delivery.{Delivery as a_delivery};
+ghost use Rattle.store.specs.Standing.{IsOpen, Reads, sound};
+ghost use Rattle.store.specs.Tables.{no_tables};
+ghost use Rattle.cli_record.specs.Belonging.{Alike, AlikeOrTold, IsMatched};
+ghost use Rattle.cli_record.specs.Compared.{held_fault};
+ghost use Rattle.cli_record.specs.Replayed.{IsFound, IsReplayed, Makes, MayHave, held_back, tells};
+
+use crate::belonging::first_difference;
+use crate::comparing::CompareFault;
+use crate::difference::Difference;
+use crate::record_lines::{delivery_in, read_whole_line};
+use building::Building;
+use cli_common::{ListInput, RunFault};
+use deliveries::Delivery;
+use desk::Desk;
+use json::Scratch;
+use std::alloc::Global;
+use std::io::{self, BufReader, Read};
+use store::{Store, StoreFault};
+
+/// The building and the store of a desk that a record was replayed to, but for the record's last delivery, which is held
+/// back: a stop may have come before it was made.
+#[derive(Drop)]
+pub(crate) struct Replayed<T> {
+    pub building: Building,
+    pub store: T,
+    pub last: Option<Delivery>,
+}
+
+/// The building of a record, and the first difference between a store and the record, if the store is not its own.
+#[derive(Drop)]
+pub(crate) struct Matched {
+    pub building: Building,
+    pub difference: Option<Difference>,
+}
+
+/// Makes a delivery, if there is one.
+fn make<S: Store + Drop>(desk: &mut Desk<S>, delivery: &Option<Delivery>) -> Result<(), StoreFault>
+    ensures made { OnOk result ((earlier : List a_delivery) → (S.standing desk.new.store).is_honest
+        → Holds desk.old.building earlier (S.standing desk.old.store)
+        → Holds desk.old.building (earlier ++ held_back delivery.now) (S.standing desk.new.store)) }
+    ensures honest { (S.standing desk.new.store).is_honest → (S.standing desk.old.store).is_honest }
+    ensures building { desk.new.building ≡ desk.old.building }
+{
+    match delivery {
+        None => Ok(()),
+        Some(delivery) => {
+            let _reply = desk.deliver(delivery)?;
+            Ok(())
+        }
+    }
+}
+
+/// Makes the delivery that was held back, and holds back the next one, if there is one.
+fn hold_back<S: Store + Drop>(
+    desk: &mut Desk<S>,
+    last: &mut Option<Delivery>,
+    next: Option<Delivery>,
+) -> Result<(), StoreFault>
+    ensures makes { OnOk result ((lines : List (List ℕ)) (line : List ℕ) → (S.standing desk.new.store).is_honest
+        → tells desk.old.building line next → Makes desk.old.building lines last.old (S.standing desk.old.store)
+        → Makes desk.old.building (lines ++ line ∷ []) last.new (S.standing desk.new.store)) }
+    ensures honest { (S.standing desk.new.store).is_honest → (S.standing desk.old.store).is_honest }
+    ensures building { desk.new.building ≡ desk.old.building }
+{
+    if next.is_none() {
+        return Ok(());
+    }
+    make(desk, last)?;
+    *last = next;
+    Ok(())
+}
+
+/// Replays the whole lines that the reader of the record of this path has left, and gives their last delivery, which is
+/// not made.
+fn replay_lines<'a, D: Read + Drop, S: Store + Drop>(
+    alloc: Global,
+    path: &'a str,
+    mut reader: BufReader<D>,
+    desk: &mut Desk<S>,
+) -> Result<Option<Delivery>, RunFault<'a>>
+    ensures replayed { IfOk result (λ last. (bytes : List ℕ) → reader_remaining D.remaining reader ≡ Some bytes
+        → (S.standing desk.new.store).is_honest → Holds desk.old.building [] (S.standing desk.old.store)
+        → IsReplayed desk.old.building bytes last (S.standing desk.new.store)) }
+    ensures building { desk.new.building ≡ desk.old.building }
+{
+    let mut scratch = Scratch::new(alloc);
+    let mut line = Vec::new(alloc);
+    let mut last = None;
+    for number in 1..u64::MAX {
+        let is_whole = read_whole_line(path, &mut reader, &mut line)?;
+        if !is_whole {
+            return Ok(last);
+        }
+        let next = delivery_in(
+            alloc,
+            &mut scratch,
+            desk.building(),
+            number,
+            line.as_slice(),
+        )?;
+        hold_back(desk, &mut last, next)?;
+    }
+    Err(RunFault::CannotRead { path })
+}
+
+/// Replays the record that was found at this path, if there is one.
+fn replay_found<'a, D: Read + Drop, S: Store + Drop>(
+    alloc: Global,
+    path: &'a str,
+    found: Option<BufReader<D>>,
+    desk: &mut Desk<S>,
+) -> Result<Option<Delivery>, RunFault<'a>>
+    ensures replayed { IfOk result (λ last. (bytes : List ℕ) → IsFound (reader_remaining D.remaining) found bytes
+        → (S.standing desk.new.store).is_honest → Holds desk.old.building [] (S.standing desk.old.store)
+        → IsReplayed desk.old.building bytes last (S.standing desk.new.store)) }
+    ensures building { desk.new.building ≡ desk.old.building }
+{
+    match found {
+        Some(reader) => replay_lines(alloc, path, reader, desk),
+        None => Ok(None),
+    }
+}
+
+/// Replays a record over an empty store: the deliveries of its whole lines, but for the last one. Empty lines are passed
+/// over, and so is an import whose holiday list is at fault; what stands after the last line end was never delivered. A
+/// file that is not there is an empty record. One that can't be read, a line that is no delivery, and lack of memory are
+/// the faults.
+pub(crate) fn replay_record<'a, D: Read + Drop, P, T: Store + Drop>(
+    alloc: Global,
+    building: Building,
+    list: ListInput<'a, P>,
+    empty: T,
+) -> Result<Replayed<T>, RunFault<'a>>
+where
+    P: FnOnce() -> io::Result<Option<BufReader<D>>>,
+    requires open { P.IsAlwaysCallable list.open }
+    requires empty { (T.standing empty).content ≡ sound no_tables }
+    ensures replayed { IfOk result (λ replayed. (bytes : List ℕ)
+        → MayHave (P.post list.entry.open) (reader_remaining D.remaining) bytes
+        → (T.standing replayed.store).is_honest → IsReplayed building bytes replayed.last (T.standing replayed.store)) }
+    ensures building { IfOk result (λ replayed. replayed.building ≡ building) }
+{
+    let ListInput { path, open } = list;
+    let mut desk = Desk::new(alloc, building, empty);
+    match open() {
+        Ok(found) => {
+            let last = replay_found(alloc, path, found, &mut desk)?;
+            let (building, store) = desk.into_parts();
+            Ok(Replayed {
+                building,
+                store,
+                last,
+            })
+        }
+        Err(error) => Err(RunFault::of_read(&error, path)),
+    }
+}
+
+/// The building and the store, once a delivery more is made.
+fn with_last<T: Store + Drop>(
+    alloc: Global,
+    building: Building,
+    store: T,
+    last: &Delivery,
+) -> Result<(Building, T), CompareFault>
+    ensures building { IfOk result (λ parts. parts.0 ≡ building) }
+    ensures made { (earlier : List a_delivery) → Holds building earlier (T.standing store)
+        → IfOk result (λ parts. (T.standing parts.1).is_honest → Holds building (earlier ++ last.now ∷ []) (T.standing parts.1)) }
+    ensures recorded { held_fault result ≡ None }
+{
+    match Desk::open(alloc, building, store) {
+        Ok(desk) => {
+            let mut desk = desk;
+            match desk.deliver(last) {
+                Ok(_reply) => Ok(desk.into_parts()),
+                Err(fault) => Err(CompareFault::Recorded(fault)),
+            }
+        }
+        Err((fault, _store)) => Err(CompareFault::Recorded(fault)),
+    }
+}
+
+/// The first difference between a store and that of a record, once the record's last delivery is made.
+fn matched_with_last<S: Store, T: Store + Drop>(
+    alloc: Global,
+    building: Building,
+    other: T,
+    last: &Delivery,
+    store: &mut S,
+) -> Result<Matched, CompareFault>
+    requires open { IsOpen (S.standing store.old) }
+    requires honest { (t : T) → (T.standing t).is_honest }
+    ensures building { IfOk result (λ matched. matched.building ≡ building) }
+    ensures reads { Reads (held_fault result) (S.standing store.old) (S.standing store.new) }
+    ensures told { (earlier : List a_delivery) → Holds building earlier (T.standing other) → (S.standing store.new).is_honest
+        → IfOk result (λ matched. AlikeOrTold
+        (Alike building (S.standing store.old).content.tables (tables building (earlier ++ last.now ∷ [])))
+        (S.standing store.old).content.tables (tables building (earlier ++ last.now ∷ [])) matched.difference) }
+{
+    match with_last(alloc, building, other, last) {
+        Ok((building, other)) => {
+            let mut other = other;
+            match first_difference(&building, store, &mut other) {
+                Ok(difference) => Ok(Matched {
+                    building,
+                    difference,
+                }),
+                Err(fault) => Err(fault),
+            }
+        }
+        Err(fault) => Err(fault),
+    }
+}
+
+impl<T: Store + Drop> Replayed<T> {
+    /// Whether the record has no delivery.
+    pub fn is_empty(&self) -> bool
+        ensures { result ≡ is_none self.now.last }
+    {
+        self.last.is_none()
+    }
+
+    /// Looks whether a store is the record's own. It is, where what no rule of the building decides is what the
+    /// record's deliveries leave, or all but the last of them, which is still to be made: each panel's next number, what
+    /// it sent under the numbers that it may still repeat or use, and the last tick. Else the first difference from all
+    /// of them is told. The store is only read.
+    pub fn matched<S: Store>(self, alloc: Global, store: &mut S) -> Result<Matched, CompareFault>
+        requires honest { (t : T) → (T.standing t).is_honest }
+        ensures building { IfOk result (λ matched. matched.building ≡ self.building) }
+        ensures reads { Reads (held_fault result) (S.standing store.old) (S.standing store.new) }
+        ensures matched { (bytes : List ℕ) → IsReplayed self.building bytes self.last (T.standing self.store)
+            → (S.standing store.new).is_honest
+            → IfOk result (λ matched. IsMatched self.building bytes (S.standing store.old).content.tables matched.difference) }
+    {
+        let Replayed {
+            building,
+            store: other,
+            last,
+        } = self;
+        let mut other = other;
+        let difference = match first_difference(&building, store, &mut other) {
+            Ok(difference) => difference,
+            Err(fault) => return Err(fault),
+        };
+        if difference.is_none() {
+            return Ok(Matched {
+                building,
+                difference,
+            });
+        }
+        match &last {
+            Some(last) => matched_with_last(alloc, building, other, last, store),
+            None => Ok(Matched {
+                building,
+                difference,
+            }),
+        }
+    }
+}
