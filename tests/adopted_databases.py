@@ -88,12 +88,29 @@ def names_in(held):
     }
 
 
+def counting(building, held, renamings, section):
+    """Those of the renamings that count in a section: of what stands there in the tables, to what the building has there."""
+    has, stand = {each["name"] for each in building.get(section, [])}, names_in(held)[section]
+    return [(old, new) for old, new in renamings if old in stand and new in has]
+
+
+def joined(building, held, renamings):
+    """The first renaming by which two things that stand in a section of the tables would be one, or nothing."""
+    for section in SECTIONS:
+        counted = counting(building, held, renamings, section)
+        for old, new in counted:
+            if new in names_in(held)[section] and new not in [other for other, _ in counted]:
+                return old, new
+    return None
+
+
 def notes_of(building, held, renamings):
-    """The lines of what has another name, then of what stays behind, then of renamings of what isn't there."""
+    """The lines of what has another name, then of what stays behind, then of renamings that count nowhere."""
     names, left, unused = names_in(held), [], []
     for section in SECTIONS:
+        counted = counting(building, held, renamings, section)
         for old in names[section]:
-            item = next((each for each in building.get(section, []) if former(renamings, each["name"]) == old), None)
+            item = next((each for each in building.get(section, []) if former(counted, each["name"]) == old), None)
             if item is None:
                 left.append(f"left: {section} {old} is not in the building")
                 continue
@@ -103,14 +120,28 @@ def notes_of(building, held, renamings):
                 places = [(priority, value) for name, priority, value in held["place"] if name == old]
                 left += [f"left: {fault}" for priority, value in places for fault in faults_of(building, item, priority, value)]
     for old, new in renamings:
-        if not any(old in names[section] for section in SECTIONS):
-            unused.append(f"unused: {old}={new}: {old} is not in the tables")
+        if not any((old, new) in counting(building, held, renamings, section) for section in SECTIONS):
+            stands = any(old in names[section] for section in SECTIONS)
+            why = f"{new} is in another section" if stands else f"{old} is not in the tables"
+            unused.append(f"unused: {old}={new}: {why}")
     yield from [*left, *unused]
+
+
+def refusal(building, held, renamings):
+    """The line of a run that makes nothing, if it is one."""
+    # the clock of UTC shows years to 2154
+    if held["last"] is not None and held["last"] >= 583_804_800_000:
+        return f"desk: last tick {held['last']}: the building's clock shows no time then"
+    merged = joined(building, held, renamings)
+    return f"desk: --rename {'='.join(merged)}: both are in the tables" if merged else None
 
 
 def adopted(building, held, renamings):
     """The tables that are made."""
-    moved = lambda section: [(former(renamings, each["name"]), each) for each in building.get(section, [])]
+    def moved(section):
+        counted = counting(building, held, renamings, section)
+        return [(former(counted, each["name"]), each) for each in building.get(section, [])]
+
     made = {"next": {}, "command": [], "place": [], "shown": [], "imported": [], "last": held["last"]}
     for old, panel in moved("panel"):
         next = held["next"].get(old, 1)
@@ -155,10 +186,12 @@ def difference(program, rng, folder):
         return f"a dry run leaves {sorted(path.name for path in folder.iterdir())}"
     done = ran(program, folder, *words)
     how = f"{words} of\n{text}{held}"
-    # the clock of UTC shows years to 2154
-    if held["last"] is not None and held["last"] >= 583_804_800_000:
-        reported = (1, "", f"desk: last tick {held['last']}: the building's clock shows no time then\n")
-        wrong = differs("refused", (done.returncode, done.stdout, done.stderr), reported) or differs("files", content_of(folder), before)
+    refused = refusal(building, held, renamings)
+    if refused:
+        reported = (1, "", refused + "\n")
+        wrong = differs("a dry run", (tried.returncode, tried.stdout, tried.stderr), reported)
+        wrong = wrong or differs("a run", (done.returncode, done.stdout, done.stderr), reported)
+        wrong = wrong or differs("files", content_of(folder), before)
         return wrong and f"{wrong} by {how}"
     made = adopted(building, held, renamings)
     printed = "".join(line + "\n" for line in [*notes_of(building, held, renamings), holdings_of(made)])

@@ -38,6 +38,7 @@ from worked import BUILDING, EACH_KIND, HOLIDAY, OTHER, REFUSED, command, light
 
 DOCUMENT = pathlib.Path(__file__).resolve().parent.parent / "docs" / "OPERATING.md"
 LISTS = 60
+RECORDS = 40
 LINE = b'{"number":1,"panel":"P1","point":"R101-SET","priority":8,"value":2150}\n'
 REFUSED_IMPORTS = [b"calendar,entry\nNOSUCH,2025-06-09\n", b"calendar\n", b"", b"calendar,entry\nHOLIDAYS,2025-13-01\n"]
 UNKNOWN = [post("/panels/P9/commands", COMMAND), post("/panels/skip/skip", SKIP)]
@@ -223,18 +224,23 @@ def put_down(folder, deliveries=EACH_KIND):
     databases.make(folder, databases.tables_after(BUILDING, deliveries))
 
 
+def asks_over(database):
+    """Each run that delivers, over a database of this name."""
+    return (["tick", "building.toml", database, "174890160000"], ["import", "building.toml", database, "holidays.csv"],
+            ["serve", "building.toml", database, "127.0.0.1:0", "--requests", "1"])
+
+
 def a_record_that_can_not_be_opened_ends_the_run(program, folder):
+    """One that is no plain file is not read, and one in a folder that is missing can't be written."""
     put_down(folder)
     (folder / "folder").mkdir()
     (folder / "holidays.csv").write_text("calendar,entry\nHOLIDAYS,2025-06-09\n")
     before = databases.held(folder)
-    asks = (["tick", "building.toml", "desk.db", "174890160000"], ["import", "building.toml", "desk.db", "holidays.csv"],
-            ["serve", "building.toml", "desk.db", "127.0.0.1:0", "--requests", "1"])
-    for path in ("/dev/full", "missing/record.jsonl", "folder"):
-        for words in asks:
+    for path, database, status, reported in (("/dev/full", "desk.db", 1, "cannot read"), ("folder", "desk.db", 1, "cannot read"),
+                                             ("missing/record.jsonl", "new.db", 3, "cannot write")):
+        for words in asks_over(database):
             ran = subprocess.run([program, *words, "--record", path], cwd=folder, capture_output=True, timeout=SECONDS)
-            reported = f"desk: cannot write {path}\n".encode()
-            expect((words, ran.returncode, ran.stdout, ran.stderr), (words, 3, b"", reported))
+            expect((words, ran.returncode, ran.stdout, ran.stderr), (words, status, b"", f"desk: {reported} {path}\n".encode()))
             expect(databases.held(folder), before)
 
 
@@ -251,19 +257,73 @@ def a_record_that_another_desk_keeps_is_not_taken(program, folder):
 # ---- a file that is no record
 
 def a_file_that_ends_as_no_line_is_left_as_it_is(program, folder):
-    """Whether or not whole lines stand before. Nothing is delivered."""
+    """Whether or not whole lines stand before, which are then those of the database. Nothing is delivered."""
     put_down(folder)
     (folder / "holidays.csv").write_text("calendar,entry\nHOLIDAYS,2025-06-09\n")
     before = databases.held(folder)
-    asks = (["tick", "building.toml", "desk.db", "174890160000"], ["import", "building.toml", "desk.db", "holidays.csv"],
-            ["serve", "building.toml", "desk.db", "127.0.0.1:0", "--requests", "1"])
-    for text in (lines + end for lines in (b"", recorded.lines_of(EACH_KIND)) for end in NO_LINES):
-        for words in asks:
+    for lines, database in ((b"", "new.db"), (recorded.lines_of(EACH_KIND), "desk.db")):
+        for text, words in ((lines + end, words) for end in NO_LINES for words in asks_over(database)):
             (folder / recorded.NAME).write_bytes(text)
             ran = subprocess.run([program, *words, *recorded.KEPT], cwd=folder, capture_output=True, timeout=SECONDS)
             reported = f"desk: the last line of {recorded.NAME} is not a delivery\n".encode()
             expect((text, words, ran.returncode, ran.stdout, ran.stderr), (text, words, 1, b"", reported))
             expect((recorded.bytes_of(folder), databases.held(folder)), (text, before))
+
+
+def edited(building):
+    """The building with other rules: a panel without its priorities, and a schedule with another list."""
+    text = compare.toml_of(building)
+    return re.sub(r"^priorities = .*$", "priorities = [16]", text, flags=re.M)
+
+
+def only_its_own_record_is_taken(program, folder):
+    """Of a database with the tables of a list the list is the record, and the list with one delivery more, which is still
+    to be made; any other list is refused, at the first difference in a panel's numbers, what it sent, or the last tick. A
+    building whose rules were edited changes none of that."""
+    rng = random.Random(72)
+    for number in range(RECORDS):
+        room = folder / str(number)
+        room.mkdir()
+        building = compare.some_building(rng)
+        deliveries = [each for each in deliveries_at(number % 7 + 1)(rng, building) if recorded.reaches_the_desk(building, each)]
+        (room / "building.toml").write_text(edited(building) if number % 2 else compare.toml_of(building))
+        databases.make(room, databases.tables_after(building, deliveries))
+        databases.keep(room, room / "kept")
+        before = databases.held(room)
+        for listed in other_lists(rng, deliveries):
+            databases.put_back(room / "kept", room)
+            (room / recorded.NAME).write_bytes(recorded.lines_of(listed))
+            words = [program, "tick", "building.toml", databases.NAME, str(TICK.at), *recorded.KEPT]
+            ran = subprocess.run(words, cwd=room, capture_output=True, timeout=SECONDS)
+            if is_own(building, deliveries, listed):
+                expect((listed, ran.returncode, ran.stderr), (listed, 0, b""))
+                continue
+            expect((listed, ran.returncode, ran.stdout), (listed, 1, b""))
+            expect(ran.stderr.startswith(f"desk: {recorded.NAME} is not the record of {databases.NAME}: ".encode()), True)
+            expect((recorded.bytes_of(room), databases.held(room)), (recorded.lines_of(listed), before))
+        shutil.rmtree(room)
+
+
+def other_lists(rng, deliveries):
+    """The list itself, without its last delivery or another one, with one more, and with one said otherwise."""
+    yield deliveries
+    yield deliveries[:-1]
+    yield [*deliveries, Tick(174890160000 + rng.randrange(10**6))]
+    if deliveries:
+        at = rng.randrange(len(deliveries))
+        yield deliveries[:at] + deliveries[at + 1:]
+        yield deliveries[at:] + deliveries[:at]
+
+
+def numbers_of(tables):
+    """What no rule of a building decides of some tables: next numbers, what was sent, and the last tick."""
+    return tables["panel"], [row[:5] for row in tables["command"]], tables["desk"]
+
+
+def is_own(building, deliveries, listed):
+    held = numbers_of(databases.tables_after(building, deliveries))
+    lists = [listed] + ([listed[:-1]] if listed else [])
+    return held in [numbers_of(databases.tables_after(building, each)) for each in lists]
 
 
 def what_a_stop_left_of_a_line_is_taken_off(program, folder):
@@ -444,6 +504,7 @@ TESTS = (
     a_record_that_another_desk_keeps_is_not_taken,
     a_record_that_can_not_be_opened_ends_the_run,
     a_file_that_ends_as_no_line_is_left_as_it_is,
+    only_its_own_record_is_taken,
     what_a_stop_left_of_a_line_is_taken_off,
     a_served_record_meets_trouble,
     a_recorded_tick_meets_trouble,

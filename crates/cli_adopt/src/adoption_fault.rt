@@ -2,12 +2,21 @@
 ghost use Rattle.std.specs.Prelude.{◌≡◌};
 
 use cli_common::{RunFault, Status, print_fault};
-use desk_adoption::AdoptFault;
+use desk_adoption::{AdoptFault, Renaming};
 use points::Name;
 use std::alloc::{AllocError, AllocFailed, Global};
 use std::fmt;
 use std::io::Write;
 use store::{OpenFault, StoreFault};
+
+/// Why no database is found.
+#[derive(Clone, Copy)]
+pub enum FindFault {
+    /// Its tables are of version 1: to open them is to change them.
+    FirstVersion,
+    /// It could not be opened.
+    NotOpened(OpenFault),
+}
 
 /// Why no database is made.
 #[derive(Clone, Copy)]
@@ -16,6 +25,8 @@ pub enum MakeFault {
     Taken,
     /// Something is where it is made before it is put in its place.
     PartTaken,
+    /// Something is where the log of that would be.
+    PartLogTaken,
     /// It could not be opened.
     NotOpened(OpenFault),
 }
@@ -51,10 +62,14 @@ pub(crate) enum AdoptionFault<'a> {
     Run(RunFault<'a>),
     /// There is no database at this path.
     NoDatabase { path: &'a str },
+    /// The database of this path has tables of version 1, which would be changed.
+    FirstVersion { path: &'a str },
     /// Something is at this path, where the new database is to be.
     Taken { path: &'a str },
     /// Something is where the database of this path is made before it is put in its place.
     PartTaken { path: &'a str },
+    /// Something is where the log of that would be.
+    PartLogTaken { path: &'a str },
     /// The new database could not be put in its place, this path.
     NotPlaced { path: &'a str },
     /// The new database of this path could not be opened.
@@ -63,19 +78,24 @@ pub(crate) enum AdoptionFault<'a> {
     NotWritten { path: &'a str, fault: StoreFault },
     /// This text among the words is no renaming.
     NotARenaming { text: String, fault: RenamingFault },
+    /// By this renaming two things of the tables would be one.
+    Joined(Renaming),
     /// At the moment of the last tick, in hundredths of a second since 1970, the building's clock shows no time.
     NoTime { moment: i64 },
 }
 
 impl<'a> AdoptionFault<'a> {
-    /// What ends an adoption whose database is not opened.
-    pub fn of_opening(fault: OpenFault) -> AdoptionFault<'a> {
-        AdoptionFault::Run(match fault {
-            OpenFault::NoMemory => RunFault::NoMemory,
-            OpenFault::Failed => RunFault::Store(StoreFault::Failed),
-            OpenFault::UnknownTables => RunFault::UnknownTables,
-            OpenFault::BadRow => RunFault::Store(StoreFault::BadRow),
-        })
+    /// What ends an adoption whose database, of this path, is not found.
+    pub fn of_finding(fault: FindFault, path: &'a str) -> AdoptionFault<'a> {
+        match fault {
+            FindFault::FirstVersion => AdoptionFault::FirstVersion { path },
+            FindFault::NotOpened(fault) => AdoptionFault::Run(match fault {
+                OpenFault::NoMemory => RunFault::NoMemory,
+                OpenFault::Failed => RunFault::Store(StoreFault::Failed),
+                OpenFault::UnknownTables => RunFault::UnknownTables,
+                OpenFault::BadRow => RunFault::Store(StoreFault::BadRow),
+            }),
+        }
     }
 
     /// What ends an adoption whose new database, of this path, is not made.
@@ -83,6 +103,7 @@ impl<'a> AdoptionFault<'a> {
         match fault {
             MakeFault::Taken => AdoptionFault::Taken { path },
             MakeFault::PartTaken => AdoptionFault::PartTaken { path },
+            MakeFault::PartLogTaken => AdoptionFault::PartLogTaken { path },
             MakeFault::NotOpened(OpenFault::NoMemory) => AdoptionFault::Run(RunFault::NoMemory),
             MakeFault::NotOpened(fault) => AdoptionFault::NotOpened { path, fault },
         }
@@ -100,6 +121,7 @@ impl<'a> AdoptionFault<'a> {
     pub fn of_adopting(fault: AdoptFault, path: &'a str) -> AdoptionFault<'a> {
         match fault {
             AdoptFault::Old(fault) => AdoptionFault::Run(RunFault::from(fault)),
+            AdoptFault::Joined(renaming) => AdoptionFault::Joined(renaming),
             AdoptFault::OutOfRange => AdoptionFault::Run(RunFault::Store(StoreFault::BadRow)),
             AdoptFault::New(fault) => AdoptionFault::of_writing(fault, path),
         }
@@ -112,8 +134,11 @@ impl<'a> AdoptionFault<'a> {
         match self {
             AdoptionFault::Run(fault) => fault.status(),
             AdoptionFault::NoDatabase { .. }
+            | AdoptionFault::FirstVersion { .. }
             | AdoptionFault::Taken { .. }
             | AdoptionFault::PartTaken { .. }
+            | AdoptionFault::PartLogTaken { .. }
+            | AdoptionFault::Joined(_)
             | AdoptionFault::NoTime { .. }
             | AdoptionFault::NotARenaming {
                 fault: RenamingFault::NotInBuilding(_),
@@ -137,8 +162,15 @@ impl fmt::Display for AdoptionFault<'_> {
         match self {
             AdoptionFault::Run(fault) => write!(f, "{fault}"),
             AdoptionFault::NoDatabase { path } => write!(f, "desk: no database at {path}"),
+            AdoptionFault::FirstVersion { path } => write!(
+                f,
+                "desk: {path} has tables of version 1: run desk report over it first, which makes them of version 2"
+            ),
             AdoptionFault::Taken { path } => write!(f, "desk: {path} is there already"),
             AdoptionFault::PartTaken { path } => write!(f, "desk: {path}.part is there already"),
+            AdoptionFault::PartLogTaken { path } => {
+                write!(f, "desk: {path}.part-wal is there already")
+            }
             AdoptionFault::NotPlaced { path } => write!(f, "desk: cannot write {path}"),
             AdoptionFault::NotOpened { path, fault } => {
                 write!(f, "desk: store fault {fault} at {path}")
@@ -148,6 +180,9 @@ impl fmt::Display for AdoptionFault<'_> {
             }
             AdoptionFault::NotARenaming { text, fault } => {
                 write!(f, "desk: --rename {text}: {fault}")
+            }
+            AdoptionFault::Joined(Renaming { old, new }) => {
+                write!(f, "desk: --rename {old}={new}: both are in the tables")
             }
             AdoptionFault::NoTime { moment } => write!(
                 f,

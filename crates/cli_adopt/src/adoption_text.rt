@@ -3,7 +3,7 @@ ghost use Rattle.std.specs.Prelude.{◌≡◌, ◌++◌, IfOk, OnOk, string_byte
 ghost use Rattle.std.specs.List.{flat_map};
 ghost use Rattle.cli_adopt.specs.AdoptionRun.{adoption_text, left_line, renamed_line, unused_line};
 
-use desk_adoption::{Notes, RenamedName, Renaming};
+use desk_adoption::{Notes, RenamedName, UnusedRenaming};
 use desk_suiting::{Finding, Holdings};
 use std::alloc::{AllocError, Global};
 
@@ -23,11 +23,10 @@ fn push_left(alloc: Global, text: &mut String, finding: &Finding) -> Result<(), 
     Ok(())
 }
 
-fn push_unused(alloc: Global, text: &mut String, renaming: &Renaming) -> Result<(), AllocError>
-    ensures { OnOk result (string_bytes text.new ≡ string_bytes text.old ++ unused_line renaming.now) }
+fn push_unused(alloc: Global, text: &mut String, unused: &UnusedRenaming) -> Result<(), AllocError>
+    ensures { OnOk result (string_bytes text.new ≡ string_bytes text.old ++ unused_line unused.now) }
 {
-    let Renaming { old, new } = renaming;
-    let line = format!(in alloc; "unused: {old}={new}: {old} is not in the tables\n")?;
+    let line = format!(in alloc; "unused: {unused}\n")?;
     text.push_str(line.as_str())?;
     Ok(())
 }
@@ -50,11 +49,15 @@ fn push_all_left(alloc: Global, text: &mut String, all: &[Finding]) -> Result<()
     Ok(())
 }
 
-fn push_all_unused(alloc: Global, text: &mut String, all: &[Renaming]) -> Result<(), AllocError>
+fn push_all_unused(
+    alloc: Global,
+    text: &mut String,
+    all: &[UnusedRenaming],
+) -> Result<(), AllocError>
     ensures { OnOk result (string_bytes text.new ≡ string_bytes text.old ++ flat_map unused_line all.now) }
 {
-    for renaming in all {
-        push_unused(alloc, text, renaming)?;
+    for unused in all {
+        push_unused(alloc, text, unused)?;
     }
     Ok(())
 }

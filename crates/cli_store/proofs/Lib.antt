@@ -1,2 +1,3 @@
 pub mod AnsweredLemmas
+pub mod GuardedLemmas
 pub mod RecordedLemmas

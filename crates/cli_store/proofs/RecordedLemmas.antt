@@ -1,5 +1,5 @@
 -- What is recorded, and what follows from it.
-use Rattle.std.proofs.Common.{◌≡◌, ◌∙◌, ℕ, List, [], ◌∷◌, ◌++◌, Option, None, Ok, ap, sym, subst}
+use Rattle.std.proofs.Common.{◌≡◌, ◌∙◌, ℕ, false, List, [], ◌∷◌, ◌++◌, Option, None, Ok, ap, sym, subst}
 use Rattle.std.specs.Io.KnownBytes.{Appends}
 use Rattle.building.specs.Building.{Building}
 use Rattle.deliveries.specs.declared.delivery.Delivery.{Delivery}
@@ -16,6 +16,7 @@ use Rattle.desk_record.proofs.InStepLemmas.{listed-written}
 use Rattle.sqlite_disk.specs.Disk.{Only}
 use Rattle.store.specs.Standing.{Content, Goes, Standing, sound}
 use Rattle.store.proofs.ReadLemmas.{was_open}
+use Rattle.cli_record.specs.Beside.{HoldsStill}
 use Rattle.cli_store.specs.Answered.{Answers}
 use Rattle.cli_store.specs.Recorded.{Adds, Records}
 
@@ -28,6 +29,16 @@ behind-opened b building list old new opened honest behind =
     record {
       holds = λ going. subst (λ (it : Content). Follows b list it) (sym (opened.kept honest (λ e. cc))) held;
       leaves = λ content left. subst (λ (it : Content). Follows b list it) (sym (opened.left honest was content left)) held;
+    }
+
+-- one that was only read is behind it as before
+pub behind-still : (b : Building) (list : List Delivery) (old new : Standing) → HoldsStill old new → old.is_shut ≡ false → new.is_honest
+    → IsBehind b list old → IsBehind b list new
+behind-still b list old new still was honest behind =
+    let held : Follows b list old.content = behind.holds was in
+    record {
+      holds = λ going. subst (λ (it : Content). Follows b list it) (sym (still.kept honest going)) held;
+      leaves = λ content left. subst (λ (it : Content). Follows b list it) (sym (still.left honest was content left)) held;
     }
 
 -- a delivery that was written down and answered

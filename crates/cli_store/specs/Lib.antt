@@ -1,5 +1,6 @@
 pub mod Answered
 pub mod Listening
 pub mod Reported
+pub mod Guarded
 pub mod Keeper
 pub mod Recorded

@@ -1,6 +1,7 @@
 //! One delivery to a store, answered.
-ghost use Rattle.std.specs.Prelude.{◌≡◌, ℕ, List, None, Some, IfOk, IsSome, OnOk, string_bytes};
+ghost use Rattle.std.specs.Prelude.{◌≡◌, ℕ, List, None, Some, IfErr, IfOk, IsSome, OnOk, string_bytes};
 ghost use Rattle.std.specs.Bool.{IsTrue};
+ghost use Rattle.std.specs.Io.Buffered.{reader_remaining};
 ghost use Rattle.std.specs.Io.KnownBytes.{Appends};
 ghost use Rattle.cli_common.specs.Input.{bytes_of};
 ghost use Rattle.delivery_json.specs.ReplyText.{reply_line};
@@ -8,20 +9,24 @@ ghost use Rattle.deliveries.specs.declared.delivery.Delivery.{Delivery as a_deli
 ghost use Rattle.deliveries.specs.Delivered.{Holds};
 ghost use Rattle.desk_record.specs.Recorded.{InStep, IsBehind, listed};
 ghost use Rattle.cli_store.specs.Answered.{Answers, Asks, IsAnswered, Opens};
+ghost use Rattle.cli_record.specs.Beside.{OpensBeside, ReadsBeside};
+ghost use Rattle.cli_record.specs.Replayed.{MayHave};
+ghost use Rattle.cli_store.specs.Guarded.{IsGuarded};
 ghost use Rattle.cli_store.specs.Recorded.{Adds, IsRecorded, Records};
 
 use crate::clock_delivery::{ClockDelivery, read_asked};
 use crate::ended::Stopped;
 use crate::keeper::{Opening, Recording, resume_at};
 use building::Building;
-use cli_common::{Input, RunFault, print_whole, read_building};
+use cli_common::{Input, ListInput, RunFault, print_whole, read_building};
+use cli_record::{BesideFault, Database, open_beside};
 use deliveries::{Delivery, Reply};
 use delivery_json::ReplyText;
 use desk::Desk;
 use desk_record::{NoRecord, Recorder, Undelivered};
 use sqlite_disk::Disk;
 use std::alloc::{AllocError, Global};
-use std::io::{Read, Write};
+use std::io::{self, BufReader, Read, Write};
 use store::{OpenFault, Store, StoreFault};
 
 /// What was answered, the store as it stands then, and the disk of the record, if one is kept.
@@ -68,12 +73,43 @@ where
         Ok(store) => match Desk::open(alloc, building, store) {
             Ok(desk) => Ok(desk),
             Err((fault, store)) => Err(Stopped {
-                fault: RunFault::from(fault),
+                fault: BesideFault::from(fault),
                 store: Some(store),
             }),
         },
         Err(fault) => Err(Stopped::from(fault_of(fault))),
     }
+}
+
+/// A desk over the store that is opened; with a record, once the store is seen to be its own.
+pub(crate) fn open_kept<'a, R: Read + Drop, P, S: Store + Drop, O>(
+    alloc: Global,
+    building: Building,
+    database: Database<'a, O>,
+    path: Option<&'a str>,
+    reader: P,
+) -> Result<Desk<S>, Stopped<'a, S>>
+where
+    P: FnOnce() -> io::Result<Option<BufReader<R>>>,
+    P: Drop,
+    O: FnOnce() -> Result<S, OpenFault>,
+    requires { P.IsAlwaysCallable reader × O.IsAlwaysCallable database.opener }
+    ensures building { IfOk result (λ desk. desk.building ≡ building) }
+    ensures holds { (earlier : List a_delivery) → Opens (O.post database.entry.opener) (λ store. Holds building earlier (S.standing store))
+        → IfOk result (λ it. (S.standing it.store).is_honest → Holds building earlier (S.standing it.store)) }
+    ensures behind { (earlier : List a_delivery)
+        → Opens (O.post database.entry.opener) (λ store. IsBehind building earlier (S.standing store))
+        → IfOk result (λ it. (S.standing it.store).is_honest → IsBehind building earlier (S.standing it.store)) }
+    ensures opened { IsSome path.entry → IfOk result (λ it. OpensBeside S.standing (O.post database.entry.opener) building
+        (MayHave (P.post reader) (reader_remaining R.remaining)) (S.standing it.store)) }
+    ensures refused { IsSome path.entry → IfErr result (λ end. (left : S) → end.store ≡ Some left
+        → ReadsBeside S.standing (O.post database.entry.opener) left) }
+{
+    let Some(path) = path else {
+        return open_desk(alloc, building, database.opener);
+    };
+    let list = ListInput { path, open: reader };
+    Ok(open_beside(alloc, building, list, database)?)
 }
 
 /// Prints a reply as a line.
@@ -146,31 +182,31 @@ where
     Ok((reply, kept.into_disk()))
 }
 
-/// Delivers to a desk, after what its record has, and prints the reply as a line.
+/// Delivers to a desk, after what its record has, if it has one, and prints the reply as a line.
 fn deliver<'a, S: Store + Drop, D: Disk + Drop, Q, W: Write>(
     alloc: Global,
     desk: &mut Desk<S>,
-    recording: Recording<'a, Q>,
+    path: Option<&'a str>,
+    opener: Q,
     delivery: &Delivery,
     out: &mut W,
 ) -> Result<Replied<D>, RunFault<'a>>
 where
     Q: FnOnce() -> Result<D, OpenFault>,
     Q: Drop,
-    requires { Q.IsAlwaysCallable recording.opener }
-    ensures answers { recording.entry.path ≡ None → OnOk result ((earlier : List a_delivery) → (S.standing desk.new.store).is_honest
+    requires { Q.IsAlwaysCallable opener }
+    ensures answers { path.entry ≡ None → OnOk result ((earlier : List a_delivery) → (S.standing desk.new.store).is_honest
         → Holds desk.old.building earlier (S.standing desk.old.store)
         → Answers desk.old.building earlier delivery.now (S.standing desk.new.store) (W.contents out.old) (W.contents out.new)) }
-    ensures recorded { IsSome recording.entry.path → IfOk result (λ answered. (disk : D) × (answered.disk ≡ Some disk)
+    ensures recorded { IsSome path.entry → IfOk result (λ answered. (disk : D) × (answered.disk ≡ Some disk)
         × ((earlier : List a_delivery)
-        → Opens (Q.post recording.entry.opener) (λ opened. listed desk.old.building (D.Disk.seen opened) ≡ earlier)
+        → Opens (Q.post opener) (λ opened. listed desk.old.building (D.Disk.seen opened) ≡ earlier)
         → IsBehind desk.old.building earlier (S.standing desk.old.store)
         → (S.standing desk.new.store).is_honest → IsTrue (D.Disk.is_clean disk)
         → Records desk.old.building earlier delivery.now (S.standing desk.new.store) (D.Disk.seen disk) (D.Disk.may_leave disk)
         (W.contents out.old) (W.contents out.new))) }
     ensures honest { OnOk result ((S.standing desk.new.store).is_honest → (S.standing desk.old.store).is_honest) }
 {
-    let Recording { path, opener } = recording;
     let Some(path) = path else {
         let reply = deliver_kept(alloc, desk, &mut NoRecord, "", delivery, out)?;
         return Ok(Replied { reply, disk: None });
@@ -187,46 +223,65 @@ pub(crate) fn answer<
     'a,
     B: Read + Drop,
     L: Read + Drop,
+    R: Read + Drop,
     S: Store + Drop,
     D: Disk + Drop,
     O,
+    P,
     Q,
     W: Write,
 >(
     alloc: Global,
     file: Input<'a, B>,
     asked: ClockDelivery<'a, L>,
-    opening: Opening<'a, O, Q>,
+    opening: Opening<'a, O, P, Q>,
     out: &mut W,
 ) -> Result<Answered<S, D>, Stopped<'a, S>>
 where
     O: FnOnce() -> Result<S, OpenFault>,
+    P: FnOnce() -> io::Result<Option<BufReader<R>>>,
+    P: Drop,
     Q: FnOnce() -> Result<D, OpenFault>,
     Q: Drop,
-    requires { O.IsAlwaysCallable opening.store × Q.IsAlwaysCallable opening.recording.opener }
+    requires { O.IsAlwaysCallable opening.database.opener × P.IsAlwaysCallable opening.recording.reader
+        × Q.IsAlwaysCallable opening.recording.opener }
     ensures answered { opening.entry.recording.path ≡ None → IfOk result (λ answered. (file_bytes : List ℕ)
         → bytes_of B.remaining file.entry.reader ≡ Some file_bytes
-        → IsAnswered S.standing (O.post opening.entry.store) (Asks L.remaining asked.entry) file_bytes answered.store
+        → IsAnswered S.standing (O.post opening.entry.database.opener) (Asks L.remaining asked.entry) file_bytes answered.store
         (W.contents out.old) (W.contents out.new)) }
     ensures recorded { IsSome opening.entry.recording.path → IfOk result (λ answered. (file_bytes : List ℕ)
         → bytes_of B.remaining file.entry.reader ≡ Some file_bytes → (disk : D) × (answered.disk ≡ Some disk)
-        × IsRecorded S.standing D.Disk.seen D.Disk.may_leave D.Disk.is_clean (O.post opening.entry.store)
+        × IsRecorded S.standing D.Disk.seen D.Disk.may_leave D.Disk.is_clean (O.post opening.entry.database.opener)
         (Q.post opening.entry.recording.opener) (Asks L.remaining asked.entry) file_bytes answered.store disk
         (W.contents out.old) (W.contents out.new)) }
+    ensures guarded { IsSome opening.entry.recording.path → (file_bytes list_bytes : List ℕ)
+        → bytes_of B.remaining file.entry.reader ≡ Some file_bytes
+        → MayHave (P.post opening.entry.recording.reader) (reader_remaining R.remaining) list_bytes
+        → IfOk result (λ answered. IsGuarded S.standing (O.post opening.entry.database.opener) file_bytes list_bytes answered.store) }
+    ensures stopped { IsSome opening.entry.recording.path → (file_bytes list_bytes : List ℕ)
+        → bytes_of B.remaining file.entry.reader ≡ Some file_bytes
+        → MayHave (P.post opening.entry.recording.reader) (reader_remaining R.remaining) list_bytes
+        → IfErr result (λ end. (left : S) → end.store ≡ Some left
+        → IsGuarded S.standing (O.post opening.entry.database.opener) file_bytes list_bytes left) }
 {
     let Opening {
-        store: opener,
+        database,
         recording,
     } = opening;
+    let Recording {
+        path,
+        reader,
+        opener,
+    } = recording;
     let building = read_building(alloc, file)?;
     let delivery = read_asked(alloc, &building, asked)?;
-    let mut desk = open_desk(alloc, building, opener)?;
-    let answered = deliver(alloc, &mut desk, recording, &delivery, out);
+    let mut desk = open_kept(alloc, building, database, path, reader)?;
+    let answered = deliver(alloc, &mut desk, path, opener, &delivery, out);
     let store = desk.into_store();
     match answered {
         Ok(Replied { reply, disk }) => Ok(Answered { reply, store, disk }),
         Err(fault) => Err(Stopped {
-            fault,
+            fault: BesideFault::from(fault),
             store: Some(store),
         }),
     }

@@ -3,6 +3,7 @@ ghost use Rattle.std.specs.Prelude.{◌≡◌, Ok, Some};
 ghost use Rattle.std.specs.Io.KnownBytes.{Keeps};
 
 use cli_common::{RunFault, Status};
+use cli_record::{BesideFault, Unopened};
 use std::alloc::Global;
 use std::io::Write;
 use store::StoreFault;
@@ -34,17 +35,33 @@ impl<S, D: Drop> Delivered<S, D> {
 /// Why a run ended early, and the store that it had opened, as it stands then.
 #[derive(Drop)]
 pub(crate) struct Stopped<'a, S> {
-    pub(crate) fault: RunFault<'a>,
+    pub(crate) fault: BesideFault<'a>,
     pub(crate) store: Option<S>,
 }
 
 impl<'a, S> From<RunFault<'a>> for Stopped<'a, S> {
     ghost use Rattle.std.specs.Prelude.{◌≡◌, None};
 
-    ghost from_gives = { λ fault stopped. stopped ≡ record { fault = fault; store = None } };
+    ghost from_gives = { λ _ stopped. stopped.store ≡ None };
 
     fn from(fault: RunFault<'a>) -> Stopped<'a, S> {
-        Stopped { fault, store: None }
+        Stopped {
+            fault: BesideFault::from(fault),
+            store: None,
+        }
+    }
+}
+
+impl<'a, S> From<Unopened<'a, S>> for Stopped<'a, S> {
+    ghost use Rattle.std.specs.Prelude.{◌≡◌};
+
+    ghost from_gives = { λ unopened stopped. stopped.store ≡ unopened.store };
+
+    fn from(unopened: Unopened<'a, S>) -> Stopped<'a, S> {
+        Stopped {
+            fault: unopened.fault,
+            store: unopened.store,
+        }
     }
 }
 

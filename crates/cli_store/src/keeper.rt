@@ -8,6 +8,7 @@ ghost use Rattle.cli_store.specs.Recorded.{IsTakenUp};
 
 use building::Building;
 use cli_common::RunFault;
+use cli_record::Database;
 use deliveries::Delivery;
 use desk::Desk;
 use desk_record::{Record, RecordFault, Recorder, ResumeFault, resume};
@@ -17,20 +18,22 @@ use store::{OpenFault, Store, StoreFault};
 
 /// Where a run writes its deliveries down.
 #[derive(Clone, Copy)]
-pub struct Recording<'a, Q> {
+pub struct Recording<'a, P, Q> {
     /// The path of the record; nothing where none is kept.
     pub path: Option<&'a str>,
-    /// Opens its file.
+    /// Opens its file to be read, if there is one.
+    pub reader: P,
+    /// Opens its file to be written, which is made where there is none.
     pub opener: Q,
 }
 
 /// What a run opens, once the file of its building is read: the store, and then its record, if it keeps one.
 #[derive(Clone, Copy)]
-pub struct Opening<'a, O, Q> {
-    /// Opens the store.
-    pub store: O,
+pub struct Opening<'a, O, P, Q> {
+    /// The database, and what opens the store.
+    pub database: Database<'a, O>,
     /// Where its deliveries are written down.
-    pub recording: Recording<'a, Q>,
+    pub recording: Recording<'a, P, Q>,
 }
 
 /// The record of a run, if it keeps one.
@@ -132,20 +135,20 @@ where
     }
 }
 
-/// The record of a run, with which its desk is level.
+/// The record of a run that keeps none, or of a path, with which its desk is level.
 pub(crate) fn take_up<'a, S: Store + Drop, D: Disk + Drop, Q>(
     alloc: Global,
     desk: &mut Desk<S>,
-    recording: Recording<'a, Q>,
+    path: Option<&'a str>,
+    opener: Q,
 ) -> Result<Keeper<Record<D>>, RunFault<'a>>
 where
     Q: FnOnce() -> Result<D, OpenFault>,
     Q: Drop,
-    requires { Q.IsAlwaysCallable recording.opener }
-    ensures none { recording.entry.path ≡ None → desk.new ≡ desk.old }
+    requires { Q.IsAlwaysCallable opener }
+    ensures none { path.entry ≡ None → desk.new ≡ desk.old }
     ensures building { desk.new.building ≡ desk.old.building }
 {
-    let Recording { path, opener } = recording;
     let Some(path) = path else {
         return Ok(Keeper {
             kept: None,

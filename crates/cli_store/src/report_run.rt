@@ -14,6 +14,7 @@ use crate::answering::open_desk;
 use crate::ended::{Ended, Stopped};
 use building::Building;
 use cli_common::{Input, RunFault, Status, print_whole, read_building};
+use cli_record::BesideFault;
 use dates::Day;
 use desk::Desk;
 use desk_reports::read_day;
@@ -120,7 +121,7 @@ where
     match answered {
         Ok(()) => Ok(store),
         Err(fault) => Err(Stopped {
-            fault,
+            fault: BesideFault::from(fault),
             store: Some(store),
         }),
     }

@@ -1,20 +1,25 @@
 //! A run of the server, from the file of the building on.
 
-ghost use Rattle.std.specs.Prelude.{◌≡◌, IfOk, IsSome, OnOk, string_bytes};
+ghost use Rattle.std.specs.Prelude.{◌≡◌, ℕ, List, Some, IfErr, IfOk, IsSome, OnOk, string_bytes};
+ghost use Rattle.std.specs.Io.Buffered.{reader_remaining};
 ghost use Rattle.std.specs.Io.KnownBytes.{Appends, Keeps};
+ghost use Rattle.cli_common.specs.Input.{bytes_of};
+ghost use Rattle.cli_record.specs.Replayed.{MayHave};
+ghost use Rattle.cli_store.specs.Guarded.{IsGuarded};
 ghost use Rattle.cli_store.specs.Listening.{listening_line};
 
-use crate::answering::open_desk;
+use crate::answering::open_kept;
 use crate::connections::{Connections, EVENTS};
 use crate::ended::{Ended, Stopped};
 use crate::keeper::{Keeper, Opening, Recording, take_up};
 use cli_common::{Input, RunFault, Status, print_whole, read_building};
+use cli_record::BesideFault;
 use desk::Desk;
 use desk_record::Recorder;
 use mio::Events;
 use sqlite_disk::Disk;
 use std::alloc::{AllocError, Global};
-use std::io::{self, ErrorKind, Read, Write};
+use std::io::{self, BufReader, ErrorKind, Read, Write};
 use std::net::TcpListener;
 use store::{OpenFault, Store};
 
@@ -30,25 +35,45 @@ pub struct Serving<'a> {
 }
 
 /// Serves the desk of the building of a file over the store that is opened: `desk serve`. The store is opened after the
-/// building is read, and the record, if one is kept, after the store; then the address is listened on, which is printed
-/// as a line, and then connections are taken. A record that can't be written any more ends the run.
+/// building is read; if a record is kept, it is read through before, and a store that is not its own is not served. Then
+/// the address is listened on, which is printed as a line, and then connections are taken. A record that can't be written
+/// any more ends the run.
 ///
 /// A fault is printed to `fault` as one line. What the store answered stands, and it is handed back.
-pub fn serve<'a, B: Read + Drop, S: Store + Drop, D: Disk + Drop, O, Q, W: Write, F: Write>(
+pub fn serve<
+    'a,
+    B: Read + Drop,
+    R: Read + Drop,
+    S: Store + Drop,
+    D: Disk + Drop,
+    O,
+    P,
+    Q,
+    W: Write,
+    F: Write,
+>(
     rt: &HostRuntime,
     file: Input<'a, B>,
-    opening: Opening<'a, O, Q>,
+    opening: Opening<'a, O, P, Q>,
     serving: &Serving<'a>,
     out: &mut W,
     fault: &mut F,
 ) -> Ended<S>
 where
     O: FnOnce() -> Result<S, OpenFault>,
+    P: FnOnce() -> io::Result<Option<BufReader<R>>>,
+    P: Drop,
     Q: FnOnce() -> Result<D, OpenFault>,
     Q: Drop,
-    requires { O.IsAlwaysCallable opening.store × Q.IsAlwaysCallable opening.recording.opener }
+    requires { O.IsAlwaysCallable opening.database.opener × P.IsAlwaysCallable opening.recording.reader
+        × Q.IsAlwaysCallable opening.recording.opener }
     ensures held { result.status ≡ Status.Done → IsSome result.store }
     ensures listening { result.status ≡ Status.Done → Appends (W.contents out.old) (W.contents out.new) (listening_line serving.now.address.now) }
+    ensures guarded { IsSome opening.entry.recording.path → (file_bytes list_bytes : List ℕ)
+        → bytes_of B.remaining file.entry.reader ≡ Some file_bytes
+        → MayHave (P.post opening.entry.recording.reader) (reader_remaining R.remaining) list_bytes
+        → (left : S) → result.store ≡ Some left
+        → IsGuarded S.standing (O.post opening.entry.database.opener) file_bytes list_bytes left }
     ensures quiet { result.status ≡ Status.Done → Keeps (F.contents fault.old) (F.contents fault.new) }
 {
     match serve_over(rt, file, opening, serving, out) {
@@ -57,29 +82,64 @@ where
     }
 }
 
-fn serve_over<'a, B: Read + Drop, S: Store + Drop, D: Disk + Drop, O, Q, W: Write>(
+fn serve_over<
+    'a,
+    B: Read + Drop,
+    R: Read + Drop,
+    S: Store + Drop,
+    D: Disk + Drop,
+    O,
+    P,
+    Q,
+    W: Write,
+>(
     rt: &HostRuntime,
     file: Input<'a, B>,
-    opening: Opening<'a, O, Q>,
+    opening: Opening<'a, O, P, Q>,
     serving: &Serving<'a>,
     out: &mut W,
 ) -> Result<Ended<S>, Stopped<'a, S>>
 where
     O: FnOnce() -> Result<S, OpenFault>,
+    P: FnOnce() -> io::Result<Option<BufReader<R>>>,
+    P: Drop,
     Q: FnOnce() -> Result<D, OpenFault>,
     Q: Drop,
-    requires { O.IsAlwaysCallable opening.store × Q.IsAlwaysCallable opening.recording.opener }
+    requires { O.IsAlwaysCallable opening.database.opener × P.IsAlwaysCallable opening.recording.reader
+        × Q.IsAlwaysCallable opening.recording.opener }
     ensures held { IfOk result (λ ended. IsSome ended.store) }
+    ensures guarded { IsSome opening.entry.recording.path → (file_bytes list_bytes : List ℕ)
+        → bytes_of B.remaining file.entry.reader ≡ Some file_bytes
+        → MayHave (P.post opening.entry.recording.reader) (reader_remaining R.remaining) list_bytes
+        → IfOk result (λ ended. (left : S) → ended.store ≡ Some left
+        → IsGuarded S.standing (O.post opening.entry.database.opener) file_bytes list_bytes left) }
+    ensures stopped { IsSome opening.entry.recording.path → (file_bytes list_bytes : List ℕ)
+        → bytes_of B.remaining file.entry.reader ≡ Some file_bytes
+        → MayHave (P.post opening.entry.recording.reader) (reader_remaining R.remaining) list_bytes
+        → IfErr result (λ end. (left : S) → end.store ≡ Some left
+        → IsGuarded S.standing (O.post opening.entry.database.opener) file_bytes list_bytes left) }
     ensures listening { OnOk result (Appends (W.contents out.old) (W.contents out.new) (listening_line serving.now.address.now)) }
 {
     let alloc = rt.alloc();
+    let Opening {
+        database,
+        recording,
+    } = opening;
+    let Recording {
+        path,
+        reader,
+        opener,
+    } = recording;
     let building = read_building(alloc, file)?;
-    let mut desk = open_desk(alloc, building, opening.store)?;
-    let answered = keep_and_listen(rt, &mut desk, opening.recording, serving, out);
+    let mut desk = open_kept(alloc, building, database, path, reader)?;
+    let answered = keep_and_listen(rt, &mut desk, path, opener, serving, out);
     let store = Some(desk.into_store());
     match answered {
         Ok(status) => Ok(Ended { status, store }),
-        Err(fault) => Err(Stopped { fault, store }),
+        Err(fault) => Err(Stopped {
+            fault: BesideFault::from(fault),
+            store,
+        }),
     }
 }
 
@@ -87,18 +147,19 @@ where
 fn keep_and_listen<'a, S: Store + Drop, D: Disk + Drop, Q, W: Write>(
     rt: &HostRuntime,
     desk: &mut Desk<S>,
-    recording: Recording<'a, Q>,
+    path: Option<&'a str>,
+    opener: Q,
     serving: &Serving<'a>,
     out: &mut W,
 ) -> Result<Status, RunFault<'a>>
 where
     Q: FnOnce() -> Result<D, OpenFault>,
     Q: Drop,
-    requires { Q.IsAlwaysCallable recording.opener }
+    requires { Q.IsAlwaysCallable opener }
     ensures { OnOk result (Appends (W.contents out.old) (W.contents out.new) (listening_line serving.now.address.now)) }
 {
-    let path = recording.path.unwrap_or("");
-    let mut keeper = take_up(rt.alloc(), desk, recording)?;
+    let mut keeper = take_up(rt.alloc(), desk, path, opener)?;
+    let path = path.unwrap_or("");
     let status = listen(rt, desk, &mut keeper, serving, out)?;
     if keeper.has_failed() {
         Err(RunFault::CannotWrite { path })

@@ -5,8 +5,9 @@ use Rattle.std.specs.Cmp.{nat_cmp_total}
 use Rattle.std.specs.FinMap.{empty, get, get-empty, nat_cmp-IsAntisymmetric, same_map}
 use Rattle.std.specs.Ordering.{nat_cmp}
 use Rattle.std.proofs.lemmas.Bool.{cases_Bool, false≢true}
-use Rattle.desk_adoption.specs.Adopted.{IsAdopted}
+use Rattle.desk_adoption.specs.Adopted.{AreMoved, IsAdopted}
 use Rattle.desk_adoption.specs.declared.renaming.Renaming.{Renaming}
+use Rattle.desk_adoption.specs.declared.sections.Sections.{Sections}
 use Rattle.building.specs.Building.{Building}
 use Rattle.desk.specs.Opening.{Suits, has_calendar, has_panel, has_point, is_ticked}
 use Rattle.store.specs.Listed.{HasCalendar, HasPanel, HasPoint, HasSchedule}
@@ -28,27 +29,27 @@ nothing o none some = false≢true (sym (ap is_some none) ∙ some)
 is_false : (b : Bool) → b ≡ false → IsTrue b → ⊥
 is_false b isnt is = false≢true (sym isnt ∙ is)
 
-pub panels-known : (building : Building) (renamings : List Renaming) (old new : Tables) → IsAdopted building renamings old new → (name : Text)
+pub panels-known : (building : Building) (sections : Sections) (old new : Tables) → AreMoved building sections old new → (name : Text)
     → HasPanel new name → IsTrue (has_panel building name)
-panels-known building renamings old new is name (inl moved) = stands_at (has_panel building name) _ 1 (new.next name) (is.next name) moved
-panels-known building renamings old new is name (inr (number, kept)) =
+panels-known building sections old new is name (inl moved) = stands_at (has_panel building name) _ 1 (new.next name) (is.next name) moved
+panels-known building sections old new is name (inr (number, kept)) =
     stands_at (has_panel building name) _ None (new.row name number) (is.row name number) (λ none. nothing (new.row name number) none kept)
 
-pub points-known : (building : Building) (renamings : List Renaming) (old new : Tables) → IsAdopted building renamings old new → (name : Text)
+pub points-known : (building : Building) (sections : Sections) (old new : Tables) → AreMoved building sections old new → (name : Text)
     → HasPoint new name → IsTrue (has_point building name)
-points-known building renamings old new is name has = elim (cases_Bool (has_point building name)) [
+points-known building sections old new is name has = elim (cases_Bool (has_point building name)) [
   | inl known ↦ known
   | inr other ↦ absurd (has (same_map nat_cmp_total nat_cmp-IsAntisymmetric (new.places name) empty (λ p.
       none_at (has_point building name) _ (get (new.places name) p) (is.places name p) other ∙ sym (get-empty nat_cmp p))))
 ]
 
-pub schedules-known : (building : Building) (renamings : List Renaming) (old new : Tables) → IsAdopted building renamings old new → (name : Text)
+pub schedules-known : (building : Building) (sections : Sections) (old new : Tables) → AreMoved building sections old new → (name : Text)
     → HasSchedule new name → ⊥
-schedules-known building renamings old new is name shows = nothing (new.shown name) (is.shown name) shows
+schedules-known building sections old new is name shows = nothing (new.shown name) (is.shown name) shows
 
-pub calendars-known : (building : Building) (renamings : List Renaming) (old new : Tables) → IsAdopted building renamings old new → (name : Text)
+pub calendars-known : (building : Building) (sections : Sections) (old new : Tables) → AreMoved building sections old new → (name : Text)
     → HasCalendar new name → IsTrue (has_calendar building name)
-calendars-known building renamings old new is name (text, kept) =
+calendars-known building sections old new is name (text, kept) =
     stands_at (has_calendar building name) _ false (new.imported name text) (is.imported name text)
     (λ none. is_false (new.imported name text) none kept)
 
@@ -56,10 +57,10 @@ pub suits-adopted : (building : Building) (renamings : List Renaming) (old new :
     → IsTrue (is_ticked building old.last_tick) → Suits building new
 suits-adopted building renamings old new is ticked = record {
   names = record {
-    panels = panels-known building renamings old new is;
-    points = points-known building renamings old new is;
-    schedules = λ name shows. absurd (schedules-known building renamings old new is name shows);
-    calendars = calendars-known building renamings old new is;
+    panels = panels-known building is.sections old new is.moved;
+    points = points-known building is.sections old new is.moved;
+    schedules = λ name shows. absurd (schedules-known building is.sections old new is.moved name shows);
+    calendars = calendars-known building is.sections old new is.moved;
   };
-  last = subst (λ last. IsTrue (is_ticked building last)) (sym is.last_tick) ticked;
+  last = subst (λ last. IsTrue (is_ticked building last)) (sym is.moved.last_tick) ticked;
 }

@@ -15,7 +15,9 @@ use Rattle.store.specs.Tables.{Tables}
 use Rattle.points.specs.Texts.{Text}
 use Rattle.desk_suiting.specs.Findings.{is_written}
 use Rattle.desk_adoption.specs.declared.renaming.Renaming.{Renaming}
+use Rattle.desk_adoption.specs.declared.sections.Sections.{Sections}
 use Rattle.desk_adoption.specs.Renamed.{at_items, former}
+use Rattle.desk_adoption.specs.Sections.{AreSections, joined}
 
 -- ---- the places of points
 
@@ -55,14 +57,23 @@ no_places point = empty
 
 -- ---- the tables
 
--- each part of the new tables, in the words of the old ones
-pub record IsAdopted (building : Building) (renamings : List Renaming) (old new : Tables) : Type 0 where
+-- each part of the new tables, in the words of the old ones, by the renamings that count in its section
+pub record AreMoved (building : Building) (sections : Sections) (old new : Tables) : Type 0 where
   pub places : (point : Text) (priority : ℕ) → get (new.places point) priority ≡ at_items (λ (it : Point). it.name) building.points
-      (λ name. kept_value building name priority (get (former renamings old.places empty name) priority)) None point
-  pub next : (panel : Text) → new.next panel ≡ at_items (λ (it : Panel). it.name) building.panels (former renamings old.next 1) 1 panel
+      (λ name. kept_value building name priority (get (former sections.points.renamings.items old.places empty name) priority)) None point
+  pub next : (panel : Text) → new.next panel ≡ at_items (λ (it : Panel). it.name) building.panels
+      (former sections.panels.renamings.items old.next 1) 1 panel
   pub row : (panel : Text) (number : ℕ) → new.row panel number ≡ at_items (λ (it : Panel). it.name) building.panels
-      (λ name. remembered_row (former renamings old.next 1 name) (former renamings old.row no_rows name) number) None panel
+      (λ name. remembered_row (former sections.panels.renamings.items old.next 1 name)
+      (former sections.panels.renamings.items old.row no_rows name) number) None panel
   pub shown : (schedule : Text) → new.shown schedule ≡ None
   pub imported : (calendar text : Text) → new.imported calendar text ≡ at_items (λ (it : NamedCalendar). it.name) building.calendars
-      (λ name. former renamings old.imported no_entries name text) false calendar
+      (λ name. former sections.calendars.renamings.items old.imported no_entries name text) false calendar
   pub last_tick : new.last_tick ≡ old.last_tick
+
+-- the same, where no renaming would make one thing of two
+pub record IsAdopted (building : Building) (renamings : List Renaming) (old new : Tables) : Type 0 where
+  pub sections : Sections
+  pub are_sections : AreSections building renamings old sections
+  pub none_joined : joined sections ≡ None
+  pub moved : AreMoved building sections old new

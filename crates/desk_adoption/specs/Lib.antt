@@ -4,3 +4,4 @@ pub mod Items
 pub mod NoteLine
 pub mod Notes
 pub mod Renamed
+pub mod Sections

@@ -2,8 +2,8 @@
 ghost use Rattle.std.specs.Prelude.{◌≡◌, ◌↔◌, true, None, IfOk, IfErr, OnOk, IsTrue};
 ghost use Rattle.std.specs.List.{All};
 ghost use Rattle.std.specs.Result.{result_err};
-ghost use Rattle.desk_adoption.specs.Adopted.{IsAdopted};
-ghost use Rattle.desk_adoption.specs.Faults.{read_fault, IsLeft, IsMade};
+ghost use Rattle.desk_adoption.specs.Adopted.{AreMoved, IsAdopted};
+ghost use Rattle.desk_adoption.specs.Faults.{read_fault, IsCause, IsLeft, IsMade};
 ghost use Rattle.points.specs.declared.command_row.CommandState.{CommandState as a_state};
 ghost use Rattle.store.specs.Change.{CanStand, IsKeptRow, IsNext, IsPlace, IsState, with_change};
 ghost use Rattle.store.specs.Standing.{Reads, sound};
@@ -13,6 +13,7 @@ use crate::calendars::adopted_entries;
 use crate::panels::{adopted_nexts, adopted_rows};
 use crate::places::adopted_places;
 use crate::renaming::Renaming;
+use crate::sections::{Sections, sections_of};
 use building::Building;
 use points::{Answer, CommandState, LOWEST_PRIORITY};
 use std::alloc::Global;
@@ -24,29 +25,33 @@ use window::LAST_NUMBER;
 pub enum AdoptFault {
     /// The earlier tables could not be read.
     Old(StoreFault),
+    /// By this renaming two things of the earlier tables would be one.
+    Joined(Renaming),
     /// A number or an answer of the earlier tables is out of its range.
     OutOfRange,
     /// The new tables could not be written.
     New(StoreFault),
 }
 
-/// What is taken along of the tables of a store, as one change of empty tables.
+/// What is taken along of the tables of a store, by the renamings that count, as one change of empty tables.
 fn read_change<S: Store>(
     alloc: Global,
     store: &mut S,
     building: &Building,
-    renamings: &[Renaming],
+    sections: &Sections,
 ) -> Result<Change, StoreFault>
     ensures reads { Reads (result_err result) (S.standing store.old) (S.standing store.new) }
-    ensures adopted { (S.standing store.new).is_honest → IfOk result (λ change.
-        IsAdopted building.now renamings.now (S.standing store.old).content.tables (with_change change no_tables)) }
+    ensures moved { (S.standing store.new).is_honest → IfOk result (λ change.
+        AreMoved building.now sections.now (S.standing store.old).content.tables (with_change change no_tables)) }
     ensures are_places { IfOk result (λ change. All IsPlace change.places.items) }
 {
+    let panels = &sections.panels.renamings;
     let last_tick = store.last_tick()?;
-    let nexts = adopted_nexts(alloc, store, renamings, building.panels())?;
-    let rows = adopted_rows(alloc, store, renamings, building.panels())?;
-    let places = adopted_places(alloc, store, building, renamings)?;
-    let imported = adopted_entries(alloc, store, renamings, building.calendars())?;
+    let nexts = adopted_nexts(alloc, store, panels, building.panels())?;
+    let rows = adopted_rows(alloc, store, panels, building.panels())?;
+    let places = adopted_places(alloc, store, building, &sections.points.renamings)?;
+    let calendars = &sections.calendars.renamings;
+    let imported = adopted_entries(alloc, store, calendars, building.calendars())?;
     Ok(Change {
         nexts,
         rows,
@@ -87,7 +92,8 @@ fn can_stand(change: &Change) -> bool
 }
 
 /// Takes along what a building has in the tables of an earlier one, with the names that changed since: the second store
-/// gets it in one commit. The first is only read.
+/// gets it in one commit. The first is only read. A renaming counts in the sections alone in which its old name stands
+/// in the tables and its new one in the building; one by which two things of the tables would be one is reported.
 pub fn adopt<S: Store, T: Store>(
     alloc: Global,
     building: &Building,
@@ -102,8 +108,17 @@ pub fn adopt<S: Store, T: Store>(
         × IsAdopted building.now renamings.now (S.standing from.old).content.tables (T.standing into.new).content.tables) }
     ensures made { OnOk result (IsMade None (T.standing into.old) (T.standing into.new)) }
     ensures left { IfErr result (λ fault. IsLeft T.standing fault into.old into.new) }
+    ensures cause { (S.standing from.new).is_honest
+        → IfErr result (IsCause building.now renamings.now (S.standing from.old).content.tables) }
 {
-    let change = match read_change(alloc, from, building, renamings) {
+    let sections = match sections_of(alloc, building, renamings, from) {
+        Ok(sections) => sections,
+        Err(fault) => return Err(AdoptFault::Old(fault)),
+    };
+    if let Some(renaming) = sections.joined() {
+        return Err(AdoptFault::Joined(*renaming));
+    }
+    let change = match read_change(alloc, from, building, &sections) {
         Ok(change) => change,
         Err(fault) => return Err(AdoptFault::Old(fault)),
     };

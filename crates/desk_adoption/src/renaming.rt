@@ -9,7 +9,7 @@ ghost use Rattle.points.specs.Texts.{Text};
 use points::Name;
 
 /// A name of the building, and the one that it has in the tables.
-#[derive(Clone, Copy)]
+#[derive(Clone, Copy, Debug)]
 pub struct Renaming {
     pub old: Name,
     pub new: Name,

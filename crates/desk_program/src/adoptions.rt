@@ -1,11 +1,11 @@
 //! The run that makes a database for a building that changed.
-use cli_adopt::{MakeFault, Paths, adopt_database, finish};
+use cli_adopt::{FindFault, MakeFault, Paths, adopt_database, finish};
 use cli_common::{Input, Status};
 use std::alloc::AllocError;
 use std::fs::{self, File};
 use std::io::{self, BufWriter, ErrorKind, Read, Write};
 use store::{OpenFault, Store, StoreFault};
-use store_file::{DeskStore, close_store, find_store, open_store};
+use store_file::{DeskStore, Found, close_store, find_store_as_it_is, open_store};
 use store_memory::MemStore;
 
 /// What an adoption is to do.
@@ -31,7 +31,7 @@ trait Databases {
     type Made: Store + Drop;
 
     /// The store in the database that is read, if there is one.
-    fn find(&self) -> Result<Option<Self::Earlier>, OpenFault>;
+    fn find(&self) -> Result<Option<Self::Earlier>, FindFault>;
 
     /// The store that is made, which is empty.
     fn make(&self) -> Result<Self::Made, MakeFault>;
@@ -39,8 +39,11 @@ trait Databases {
     /// Closes the store that was made.
     fn close(&self, made: Self::Made) -> Result<(), StoreFault>;
 
-    /// Puts what was made in its place.
+    /// Puts what was made in its place, where a stop no longer takes it away.
     fn place(&self) -> io::Result<()>;
+
+    /// Removes what was put in its place.
+    fn withdraw(&self);
 }
 
 /// Two databases of files. The one that is made stands beside its place until it is whole.
@@ -53,6 +56,21 @@ struct InFiles<'a> {
     part: &'a str,
     /// Whether the run has the file there for its own.
     claimed: Result<(), MakeFault>,
+}
+
+/// The store that a search finds, unless to open it is to change it.
+fn found_by<S: Store + Drop, O>(finder: O) -> Result<Option<S>, FindFault>
+where
+    O: FnOnce() -> Result<Found<S>, OpenFault>,
+    O: Drop,
+    requires { O.IsAlwaysCallable finder }
+{
+    match finder() {
+        Ok(Found::Nothing) => Ok(None),
+        Ok(Found::FirstVersion) => Err(FindFault::FirstVersion),
+        Ok(Found::Store(store)) => Ok(Some(store)),
+        Err(fault) => Err(FindFault::NotOpened(fault)),
+    }
 }
 
 /// The store that a call opens, where nothing is in the way.
@@ -76,13 +94,15 @@ where
 trait Pair {
     type Held: Store + Drop;
 
-    fn find(&self) -> Result<Option<Self::Held>, OpenFault>;
+    fn find(&self) -> Result<Option<Self::Held>, FindFault>;
 
     fn make(&self) -> Result<Self::Held, MakeFault>;
 
     fn close(&self, made: Self::Held) -> Result<(), StoreFault>;
 
     fn place(&self) -> io::Result<()>;
+
+    fn withdraw(&self);
 }
 
 /// A pair, as databases.
@@ -96,7 +116,7 @@ impl<P: Pair> Databases for Paired<P> {
 
     type Made = P::Held;
 
-    fn find(&self) -> Result<Option<P::Held>, OpenFault> {
+    fn find(&self) -> Result<Option<P::Held>, FindFault> {
         self.pair.find()
     }
 
@@ -111,13 +131,17 @@ impl<P: Pair> Databases for Paired<P> {
     fn place(&self) -> io::Result<()> {
         self.pair.place()
     }
+
+    fn withdraw(&self) {
+        self.pair.withdraw();
+    }
 }
 
 impl Pair for InFiles<'_> {
     type Held = DeskStore;
 
-    fn find(&self) -> Result<Option<DeskStore>, OpenFault> {
-        find_store(self.rt, self.database)
+    fn find(&self) -> Result<Option<DeskStore>, FindFault> {
+        found_by(|| find_store_as_it_is(self.rt, self.database))
     }
 
     fn make(&self) -> Result<DeskStore, MakeFault> {
@@ -133,7 +157,16 @@ impl Pair for InFiles<'_> {
             return Err(io::Error::from(ErrorKind::AlreadyExists));
         }
         remove_log(self.rt, self.part)?;
-        fs::rename(self.rt, self.part, self.made)
+        fs::rename(self.rt, self.part, self.made)?;
+        let kept = keep_name(self.rt, self.made);
+        if kept.is_err() {
+            self.withdraw();
+        }
+        kept
+    }
+
+    fn withdraw(&self) {
+        let _removed = fs::remove_file(self.rt, self.made);
     }
 }
 
@@ -151,8 +184,8 @@ impl Databases for InMemory<'_> {
 
     type Made = MemStore;
 
-    fn find(&self) -> Result<Option<DeskStore>, OpenFault> {
-        find_store(self.rt, self.database)
+    fn find(&self) -> Result<Option<DeskStore>, FindFault> {
+        found_by(|| find_store_as_it_is(self.rt, self.database))
     }
 
     fn make(&self) -> Result<MemStore, MakeFault> {
@@ -169,6 +202,8 @@ impl Databases for InMemory<'_> {
     fn place(&self) -> io::Result<()> {
         Ok(())
     }
+
+    fn withdraw(&self) {}
 }
 
 /// Whether something is at a path, also where that can't be known.
@@ -194,21 +229,41 @@ fn log_of(rt: &HostRuntime, database: &str) -> Result<String, AllocError> {
     format!(in rt.alloc(); "{database}-wal")
 }
 
-/// Sees that nothing stands where the new database is to be.
-fn find_free(rt: &HostRuntime, made: &str) -> Result<(), MakeFault> {
-    if stands_at(rt, made) {
-        return Err(MakeFault::Taken);
-    }
-    match log_of(rt, made) {
-        Ok(log) if stands_at(rt, log.as_str()) => Err(MakeFault::Taken),
-        Ok(_) => Ok(()),
+/// Has the disk keep the name of a file that was put in its folder.
+fn keep_name(rt: &HostRuntime, path: &str) -> io::Result<()> {
+    let folder = match path.rsplit_once('/') {
+        Some(("", _)) => "/",
+        Some((folder, _)) => folder,
+        None => ".",
+    };
+    File::open(rt, folder)?.sync_all()
+}
+
+/// Whether something stands where the log of a database is to be.
+fn has_log(rt: &HostRuntime, database: &str) -> Result<bool, MakeFault> {
+    match log_of(rt, database) {
+        Ok(log) => Ok(stands_at(rt, log.as_str())),
         Err(AllocError) => Err(MakeFault::NotOpened(OpenFault::NoMemory)),
     }
 }
 
-/// Makes the empty file in which the new database is made, for this run alone.
+/// Sees that nothing stands where the new database is to be.
+fn find_free(rt: &HostRuntime, made: &str) -> Result<(), MakeFault> {
+    if stands_at(rt, made) || has_log(rt, made)? {
+        return Err(MakeFault::Taken);
+    }
+    Ok(())
+}
+
+/// Makes the empty file in which the new database is made, for this run alone, where no log is beside it.
 fn claim(rt: &HostRuntime, made: &str, part: &str) -> Result<(), MakeFault> {
     find_free(rt, made)?;
+    if stands_at(rt, part) {
+        return Err(MakeFault::PartTaken);
+    }
+    if has_log(rt, part)? {
+        return Err(MakeFault::PartLogTaken);
+    }
     match File::create_new(rt, part) {
         Ok(_file) => Ok(()),
         Err(error) => match error.kind() {
@@ -225,8 +280,9 @@ fn give_up(rt: &HostRuntime, part: &str) {
     let _part = fs::remove_file(rt, part);
 }
 
-/// Makes the database that is asked for, or prints what would be made. It is an error where memory for a path or for
-/// the output's buffer is refused.
+/// Makes the database that is asked for and then prints what it took along, or prints what it would. Nothing of it is
+/// left where the run is not done, also where the output failed. It is an error where memory for a path or for the
+/// output's buffer is refused.
 pub fn run(rt: &HostRuntime, adoption: Adoption<'_>) -> io::Result<Status> {
     if adoption.dry_run {
         return run_in_memory(rt, adoption);
@@ -325,10 +381,19 @@ fn run_over<'a, B: Read + Drop, D: Databases, W: Write, F: Write>(
         paths,
         finder,
         maker,
-        out,
         fault,
     );
     let closer = |made| databases.close(made);
     let placer = || databases.place();
-    finish(rt.alloc(), adopted, adoption.made, closer, placer, fault)
+    let withdrawer = || databases.withdraw();
+    finish(
+        rt.alloc(),
+        adopted,
+        adoption.made,
+        closer,
+        placer,
+        withdrawer,
+        out,
+        fault,
+    )
 }

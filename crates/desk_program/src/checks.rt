@@ -8,7 +8,7 @@ use store::{OpenFault, Store};
 use store_file::find_store;
 
 /// Whether there is no file at a path, or an empty one.
-fn is_nothing_at(rt: &HostRuntime, path: &str) -> bool {
+pub fn is_nothing_at(rt: &HostRuntime, path: &str) -> bool {
     match fs::metadata(rt, path) {
         Ok(found) => found.len() == 0,
         Err(error) => error.kind() == ErrorKind::NotFound,

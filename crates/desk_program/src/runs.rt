@@ -1,12 +1,14 @@
 //! The runs of the subcommands that take a database.
+use crate::checks::is_nothing_at;
 use cli_common::{Input, Status};
+use cli_record::Database;
 use cli_store::{
     ClockDelivery, Ended, Opening, Recording, Serving, deliver, finish, report, serve,
 };
 use sqlite_disk::Disk;
 use std::alloc::Global;
-use std::fs;
-use std::io::{self, BufWriter, Read, Write};
+use std::fs::{self, File};
+use std::io::{self, BufReader, BufWriter, ErrorKind, Read, Write};
 use store::{OpenFault, Store, StoreFault};
 use store_file::{
     DeskStore, ServedStore, close_served_store, close_store, open_record, open_served_store,
@@ -33,13 +35,15 @@ pub enum DatabaseRun<'a> {
 pub fn run<'a>(
     rt: &HostRuntime,
     file: &'a str,
-    database: &str,
+    database: &'a str,
     record: Option<&'a str>,
     run: &DatabaseRun<'a>,
 ) -> io::Result<Status> {
     match run {
-        DatabaseRun::Serve(_) => run_and_close(rt, file, &Server { rt, database }, record, run),
-        _ => run_and_close(rt, file, &Once { rt, database }, record, run),
+        DatabaseRun::Serve(_) => {
+            run_and_close(rt, file, database, &Server { rt, database }, record, run)
+        }
+        _ => run_and_close(rt, file, database, &Once { rt, database }, record, run),
     }
 }
 
@@ -91,10 +95,11 @@ impl Home for Server<'_> {
     }
 }
 
-/// Makes a run over the store that its home opens, and closes it at its end.
+/// Makes a run over the store that its home opens, of the database of this path, and closes it at its end.
 fn run_and_close<'a, H: Home>(
     rt: &HostRuntime,
     file: &'a str,
+    path: &'a str,
     home: &H,
     record: Option<&'a str>,
     run: &DatabaseRun<'a>,
@@ -104,11 +109,28 @@ fn run_and_close<'a, H: Home>(
         path,
         reader: fs::open(rt, path),
     };
-    let opener = || home.open();
+    let database = Database {
+        path,
+        is_missing: is_nothing_at(rt, path),
+        opener: || home.open(),
+    };
     let closer = |held| home.close(held);
     let fault = &mut rt.stderr();
-    let ended = run_remembered(rt, file, input_of, opener, record, run, &mut out, fault);
+    let ended = run_remembered(rt, file, input_of, database, record, run, &mut out, fault);
     Ok(finish(rt.alloc(), ended, closer, fault))
+}
+
+/// The lines of the record of a path; none where there is no file. What is no plain file is not read, since it may have
+/// no end.
+fn found_record(rt: &HostRuntime, path: &str) -> io::Result<Option<BufReader<File>>> {
+    match fs::metadata(rt, path) {
+        Ok(found) if found.is_file() => {
+            Ok(Some(BufReader::new(rt.alloc(), fs::open(rt, path)?)?))
+        }
+        Ok(_) => Err(io::Error::from(ErrorKind::InvalidInput)),
+        Err(error) if error.kind() == ErrorKind::NotFound => Ok(None),
+        Err(error) => Err(error),
+    }
 }
 
 /// A store over the one that is opened, which answers from memory what it was asked before.
@@ -142,7 +164,7 @@ fn run_remembered<'a, B: Read + Drop, S: Store + Drop, I, O, W: Write, F: Write>
     rt: &HostRuntime,
     file: &'a str,
     input_of: I,
-    opener: O,
+    database: Database<'a, O>,
     record: Option<&'a str>,
     run: &DatabaseRun<'a>,
     out: &mut W,
@@ -152,16 +174,26 @@ where
     I: Fn(&'a str) -> Input<'a, B>,
     O: FnOnce() -> Result<S, OpenFault>,
     requires reads { I.IsAlwaysCallable input_of }
-    requires opens { O.IsAlwaysCallable opener }
+    requires opens { O.IsAlwaysCallable database.opener }
 {
     let alloc = rt.alloc();
-    let opener = move || remembered(alloc, opener);
+    let Database {
+        path,
+        is_missing,
+        opener,
+    } = database;
+    let database = Database {
+        path,
+        is_missing,
+        opener: move || remembered(alloc, opener),
+    };
     let recording = Recording {
         path: record,
+        reader: || found_record(rt, record.unwrap_or("")),
         opener: || open_record(rt, record.unwrap_or("")),
     };
     let opening = Opening {
-        store: opener,
+        database,
         recording,
     };
     below_of(run_over(rt, file, input_of, opening, run, out, fault))
@@ -169,11 +201,23 @@ where
 
 /// Makes a run over the files, the store and the record that these calls open. It is generic over them, since a call
 /// that names their types is dear to prove.
-fn run_over<'a, B: Read + Drop, S: Store + Drop, D: Disk + Drop, I, O, Q, W: Write, F: Write>(
+fn run_over<
+    'a,
+    B: Read + Drop,
+    R: Read + Drop,
+    S: Store + Drop,
+    D: Disk + Drop,
+    I,
+    O,
+    P,
+    Q,
+    W: Write,
+    F: Write,
+>(
     rt: &HostRuntime,
     file: &'a str,
     input_of: I,
-    opening: Opening<'a, O, Q>,
+    opening: Opening<'a, O, P, Q>,
     run: &DatabaseRun<'a>,
     out: &mut W,
     fault: &mut F,
@@ -181,10 +225,13 @@ fn run_over<'a, B: Read + Drop, S: Store + Drop, D: Disk + Drop, I, O, Q, W: Wri
 where
     I: Fn(&'a str) -> Input<'a, B>,
     O: FnOnce() -> Result<S, OpenFault>,
+    P: FnOnce() -> io::Result<Option<BufReader<R>>>,
+    P: Drop,
     Q: FnOnce() -> Result<D, OpenFault>,
     Q: Drop,
     requires reads { I.IsAlwaysCallable input_of }
-    requires opens { O.IsAlwaysCallable opening.store × Q.IsAlwaysCallable opening.recording.opener }
+    requires opens { O.IsAlwaysCallable opening.database.opener × P.IsAlwaysCallable opening.recording.reader
+        × Q.IsAlwaysCallable opening.recording.opener }
 {
     let alloc = rt.alloc();
     let file = input_of(file);
@@ -205,7 +252,14 @@ where
             let asked: ClockDelivery<'a, B> = ClockDelivery::Tick { at: *at };
             deliver(alloc, file, asked, opening, out, fault).into_ended()
         }
-        DatabaseRun::Report { date } => report(alloc, file, opening.store, date, out, fault),
+        DatabaseRun::Report { date } => report(
+            alloc,
+            file,
+            opening.database.opener,
+            date,
+            out,
+            fault,
+        ),
         DatabaseRun::Serve(serving) => serve(rt, file, opening, serving, out, fault),
     }
 }

@@ -7,7 +7,7 @@ ghost use Rattle.store.specs.declared.open_fault.OpenFault.TheVariants.{Failed, 
 
 use crate::closing::{closed, closed_served};
 use crate::connecting::{connected, options};
-use crate::finding::{is_nothing_at, store_found};
+use crate::finding::{Found, found_as_it_is, is_nothing_at, store_found};
 use crate::lost_part::{log_path, page_size_on_disk, refuse_lost};
 use crate::serving::served_in;
 use sqlite::{
@@ -207,6 +207,17 @@ pub fn find_store(rt: &HostRuntime, path: &str) -> Result<Option<DeskStore>, Ope
     }
     let files = files_at(rt, path, Unknown)?;
     store_found(rt.alloc(), files, options_at(rt, path)?)
+}
+
+/// What `find_store` would find in the database of a path, which is left as it is but for a log that is missing and
+/// made empty: tables of version 1 are not opened, since that would change them.
+pub fn find_store_as_it_is(rt: &HostRuntime, path: &str) -> Result<Found<DeskStore>, OpenFault> {
+    refuse_lost(rt, path)?;
+    if is_nothing_at(rt, path) {
+        return Ok(Found::Nothing);
+    }
+    let files = files_at(rt, path, Unknown)?;
+    found_as_it_is(rt.alloc(), files, options_at(rt, path)?)
 }
 
 /// A real file of a record.

@@ -1,12 +1,10 @@
-use Rattle.std.proofs.Common.{◌≡◌, ◌∙◌, List, ap, subst, sym, ℕ, ℤ, Option}
+use Rattle.std.proofs.Common.{◌≡◌, ◌∙◌, ap, subst, sym, ℤ, Option}
 use Rattle.std.specs.Bool.{IsTrue}
-use Rattle.std.specs.Io.KnownBytes.{Appends}
 use Rattle.desk_adoption.specs.Adopted.{IsAdopted}
 use Rattle.desk.specs.Opening.{is_ticked}
 use Rattle.store.proofs.ReadLemmas.{kept-read}
 use Rattle.store.specs.Standing.{Content}
 use Rattle.desk_suiting.specs.Surveyed.{IsSurvey}
-use Rattle.cli_adopt.specs.AdoptionRun.{adoption_text}
 use Rattle.cli_adopt.proofs.adoption_run.take_along.Goals as goal
 
 pub returns-clause-taken : goal.returns-clause-taken
@@ -29,8 +27,6 @@ returns-clause-taken g c honest_from honest_into empty =
     (subst (λ (content : Content). IsAdopted building renamings content.tables made.content.tables) same taken.1) in
     let ticked : IsTrue (is_ticked building first.content.tables.last_tick) =
     subst (λ (last : Option ℤ). IsTrue (is_ticked building last)) (c.in_ok-looked.ensures.last honest_looked) c.in_ok-refuse_timeless.ensures in
-    let text : c.as_str.result.now ≡ adoption_text notes.renamed.items notes.left.items notes.unused.items survey.holdings =
-    c.as_str.ensures.value ∙ c.in_ok-text.ensures in
     record {
       is_sound = ap (λ (content : Content). content.is_sound) kept ∙ taken.0;
       adopted = adopted;
@@ -43,6 +39,5 @@ returns-clause-taken g c honest_from honest_into empty =
       holdings = survey.holdings;
       survey = subst (λ (content : Content). IsSurvey building content.tables survey.findings.items survey.holdings) (sym kept)
           (c.in-Ok-survey_tables.ensures.found honest_into);
-      printed = subst (λ (printed : List ℕ). Appends (g.W.Write.contents c.args.out.now) (g.W.Write.contents c.print_whole.new.out) printed)
-          text c.in_ok-print_whole.ensures;
+      text_is = c.in_ok-adoption_text.ensures;
     }

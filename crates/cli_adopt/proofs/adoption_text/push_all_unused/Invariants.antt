@@ -4,5 +4,5 @@ use Rattle.cli_adopt.specs.AdoptionRun.{unused_line}
 use Rattle.cli_adopt.proofs.adoption_text.push_all_unused.Given as goal
 
 -- the lines so far
-abbrev pub invariant-loop-renaming : goal.invariant-loop-renaming
-invariant-loop-renaming l = string_bytes l.text ≡ string_bytes l.initial.text ++ flat_map unused_line (take l.renaming-index l.all)
+abbrev pub invariant-loop-unused : goal.invariant-loop-unused
+invariant-loop-unused l = string_bytes l.text ≡ string_bytes l.initial.text ++ flat_map unused_line (take l.unused-index l.all)

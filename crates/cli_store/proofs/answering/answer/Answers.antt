@@ -1,4 +1,4 @@
-use Rattle.std.proofs.Common.{◌≡◌, ◌++◌, ◌∷◌, [], sym, subst}
+use Rattle.std.proofs.Common.{◌≡◌, ◌++◌, ◌∷◌, [], ◌∙◌, ap, sym, subst}
 use Rattle.std.specs.Io.KnownBytes.{Appends}
 use Rattle.std.specs.Prelude.{IfOk}
 use Rattle.deliveries.specs.Reply.{reply}
@@ -7,6 +7,8 @@ use Rattle.building.specs.Building.{Building}
 use Rattle.desk_record.specs.Recorded.{IsBehind, listed}
 use Rattle.cli_store.specs.Recorded.{Records}
 use Rattle.deliveries.specs.Delivered.{Holds}
+use Rattle.cli_store.specs.declared.ended.Stopped.{Stopped}
+use Rattle.cli_store.proofs.GuardedLemmas.{began-own, only-read, passed-on}
 use Rattle.cli_store.proofs.answering.answer.Goals as goal
 
 pub returns-in-Ok-clause-answered : goal.returns-in-Ok-clause-answered
@@ -62,3 +64,20 @@ returns-in-Ok-clause-recorded g c = λ kept file_bytes file.
             same answered);
       },
     )
+
+pub returns-in-Ok-clause-guarded : goal.returns-in-Ok-clause-guarded
+returns-in-Ok-clause-guarded g c = λ kept file_bytes list_bytes file list.
+    let beside = c.in_ok-desk.ensures.opened kept in
+    began-own g.S.Store.standing _ c.in_ok-building.building file_bytes list_bytes c.in_ok-desk.desk.store c.into_store-store.result
+    _ beside list (c.in_ok-building.ensures file_bytes file)
+
+pub returns-clause-stopped : goal.returns-clause-stopped
+returns-clause-stopped g c = λ kept file_bytes list_bytes file list left is.
+    let beside = c.in_ok-desk.ensures.opened kept in
+    began-own g.S.Store.standing _ c.in_ok-building.building file_bytes list_bytes c.in_ok-desk.desk.store left
+    _ beside list (c.in_ok-building.ensures file_bytes file)
+
+pub returns-in_err-desk-clause-stopped : goal.returns-in_err-desk-clause-stopped
+returns-in_err-desk-clause-stopped g c = λ kept file_bytes list_bytes file list.
+    passed-on c.from_residual-in_err-desk.result c.from_residual-in_err-desk.ensures.1 (λ end same left is.
+    only-read g.S.Store.standing _ file_bytes list_bytes left (c.in_err-desk.ensures.refused kept left (sym (ap (λ (e : Stopped _). e.store) same) ∙ is)))

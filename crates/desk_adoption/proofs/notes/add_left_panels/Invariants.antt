@@ -5,4 +5,4 @@ use Rattle.desk_adoption.proofs.notes.add_left_panels.Given as goal
 
 -- what stays behind so far
 abbrev pub invariant-loop-old : goal.invariant-loop-old
-invariant-loop-old l = l.left.items ≡ l.initial.left.items ++ flat_map (left_panel l.renamings l.names) (take l.old-index l.olds)
+invariant-loop-old l = l.left.items ≡ l.initial.left.items ++ flat_map (left_panel l.section) (take l.old-index l.section.stand.items)

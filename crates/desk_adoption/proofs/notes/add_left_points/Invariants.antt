@@ -12,5 +12,5 @@ invariant-loop-old g l =
       reads : Reads None first (g.S.Store.standing l.store);
       left : (g.S.Store.standing l.store).is_honest
           → l.left.items ≡ l.initial.left.items
-          ++ flat_map (left_point l.renamings l.building l.names first.content.tables.places) (take l.old-index l.olds);
+          ++ flat_map (left_point l.building first.content.tables.places l.section) (take l.old-index l.section.stand.items);
     }

@@ -1,6 +1,6 @@
 use Rattle.std.proofs.Common.{◌≡◌, map, take}
 use Rattle.building.specs.declared.named_calendar.NamedCalendar.{NamedCalendar}
-use Rattle.desk_adoption.proofs.notes.calendar_names.Given as goal
+use Rattle.desk_adoption.proofs.sections.calendar_names.Given as goal
 
 -- the names so far
 abbrev pub invariant-loop-calendar : goal.invariant-loop-calendar

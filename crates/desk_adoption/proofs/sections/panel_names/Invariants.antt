@@ -1,6 +1,6 @@
 use Rattle.std.proofs.Common.{◌≡◌, map, take}
 use Rattle.points.specs.declared.panel.Panel.{Panel}
-use Rattle.desk_adoption.proofs.notes.panel_names.Given as goal
+use Rattle.desk_adoption.proofs.sections.panel_names.Given as goal
 
 -- the names so far
 abbrev pub invariant-loop-panel : goal.invariant-loop-panel

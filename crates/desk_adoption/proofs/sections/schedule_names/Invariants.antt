@@ -1,6 +1,6 @@
 use Rattle.std.proofs.Common.{◌≡◌, map, take}
 use Rattle.building.specs.declared.named_schedule.NamedSchedule.{NamedSchedule}
-use Rattle.desk_adoption.proofs.notes.schedule_names.Given as goal
+use Rattle.desk_adoption.proofs.sections.schedule_names.Given as goal
 
 -- the names so far
 abbrev pub invariant-loop-schedule : goal.invariant-loop-schedule

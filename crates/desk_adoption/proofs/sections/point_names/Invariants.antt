@@ -1,6 +1,6 @@
 use Rattle.std.proofs.Common.{◌≡◌, map, take}
 use Rattle.points.specs.declared.point.Point.{Point}
-use Rattle.desk_adoption.proofs.notes.point_names.Given as goal
+use Rattle.desk_adoption.proofs.sections.point_names.Given as goal
 
 -- the names so far
 abbrev pub invariant-loop-point : goal.invariant-loop-point
