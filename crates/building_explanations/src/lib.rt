@@ -27,5 +27,3 @@ mod table_at;
 mod table_kind;
 mod text_position;
 mod time_values;
-#[cfg(test)]
-mod trials;

@@ -7,7 +7,5 @@
 
 pub use why_run::why;
 
-#[cfg(test)]
-mod trials;
 mod why_fault;
 mod why_run;

@@ -23,6 +23,4 @@ mod places;
 mod renamed_name;
 mod renaming;
 mod sections;
-#[cfg(test)]
-mod trials;
 mod unused_renaming;

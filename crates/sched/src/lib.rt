@@ -28,5 +28,3 @@ mod schedule;
 mod segments;
 mod span;
 mod time;
-#[cfg(test)]
-mod trials;

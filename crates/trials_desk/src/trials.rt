@@ -9,5 +9,6 @@ mod loopback;
 mod members;
 mod runs;
 mod torn_replays;
+mod worked_days;
 mod worked_request;
 mod written;

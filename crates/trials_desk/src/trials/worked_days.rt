@@ -1,7 +1,7 @@
-//! Days that are worked out by hand.
-use crate::{DayList, Exception, Period, Schedule, Time, TimeValue};
+//! Schedules' days that are worked out by hand: spans, and lists of time values.
 use dates::{Day, Entry, Range};
 use points::Listing;
+use sched::{DayList, Exception, Period, Schedule, Time, TimeValue};
 use std::alloc::Global;
 use std::process::Abort;
 use std::test::Fail;

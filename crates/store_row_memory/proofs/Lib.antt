@@ -1,3 +1,0 @@
-pub mod KeptLemmas
-pub mod RecallLemmas
-pub mod TableLemmas
