@@ -20,6 +20,14 @@ pub sees_unchanged : (old new : State) → IsUnchanged old new → Sees old new
 sees_unchanged old new same =
     record { now = same.0.now_is; committed = same.0.committed_is; is_open = same.0.is_open ∙ sym same.0.was_open }
 
+-- a text that was not run leaves what the connection saw
+pub not_run_rests : (sql : List ℕ) (params : Row) (old new : State) (e : Error) → IsNotRun old new sql params e → Rests old new
+unfolding IsNotRun
+not_run_rests sql params old new e (inl h) = rests_unchanged old new h.1
+not_run_rests sql params old new e (inr h) =
+    let back = h.3 in
+    record { was_open = back.was_open; same = λ alike stands. ((back.undone stands).0 ∙ sym alike, (back.undone stands).1) }
+
 -- the answer on `desk` is the cells of its one row
 one_answer : (kept answer : List Row) (one : IsOne kept) → Finds (λ row. true) (λ row. column row 2 ∷ column row 3 ∷ []) kept answer
     → answer ≡ (column one.row 2 ∷ column one.row 3 ∷ []) ∷ []

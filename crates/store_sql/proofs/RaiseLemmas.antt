@@ -13,7 +13,7 @@ use Rattle.store_sql_rows.specs.Steps.{Steps, Turns}
 use Rattle.store_sql_rows.proofs.StepLemmas.{clean_before, then}
 use Rattle.store_sql_reads.specs.Asking.{Answers}
 use Rattle.store_sql_rows.specs.Stored.{Kept, tables_in}
-use Rattle.store_sql.specs.Opening.{DropsEarly, IsChangedBy, IsFirst, IsRaised, Raises, SetsVersion}
+use Rattle.store_sql.specs.Opening.{DropsEarly, IsChangedBy, IsFirst, IsRaised, IsReadToDrop, Raises, SetsVersion}
 use Rattle.store_sql.proofs.OpenLemmas.{answered_sees}
 
 -- the change and then the version
@@ -71,7 +71,7 @@ raised_by change a b db first now drops changed =
 
 -- a stop leaves what was there before, or the raised tables
 pub survives_migration : {Broken : Kept → Type 0} (change : Change) (a b c : State)
-    → Answers (λ kept. DropsEarly (tables_in kept)) Broken a b (Ok change)
+    → Answers IsReadToDrop Broken a b (Ok change)
     → Survives b c (λ trees. IsOurs b.now → IsChangedBy change b.now.trees trees)
     → Survives a c (λ trees. IsFirst a → IsRaised a.committed.trees trees)
 survives_migration change a b c one two =
@@ -82,5 +82,5 @@ survives_migration change a b c one two =
     let was = clean_before b c _ two clean in
     let ours = first.stands.ours in
     let now = (answered_sees a b (one.asks was ours)).now in
-    raised_by change a b db first now (one.value was ours) (changed (subst IsOurs (sym now) ours)))
+    raised_by change a b db first now (one.value was ours).0 (changed (subst IsOurs (sym now) ours)))
     one.survives two

@@ -9,12 +9,14 @@ use Rattle.store.specs.Change.{with_change}
 use Rattle.store.specs.Standing.{sound}
 use Rattle.store.specs.Tables.{Tables, no_tables}
 use Rattle.points.specs.Texts.{Text}
+use Rattle.store_sql_reads.specs.Naming.{NamesStand}
 use Rattle.store_sql_rows.specs.Cells.{number_in}
 use Rattle.store_sql_rows.specs.declared.read_fault.ReadFault.{ReadFault}
 use Rattle.store_sql_rows.specs.declared.read_fault.ReadFault.TheVariants as read
 use Rattle.store_sql_create.specs.Schema.{desk_schema, desk_tree, schema_0}
 use Rattle.store_sql_rows.specs.Ours.{AreOurs, IsOurs, Makes, content_of, kept_in}
 use Rattle.store_sql_rows.specs.Steps.{Turns}
+use Rattle.store_sql_rows.specs.Stored.{Kept, tables_in}
 use Rattle.store_sql.specs.Fitting.{IsFitting}
 use Rattle.store_sql.specs.declared.refusal.Refusal.{Refusal}
 use Rattle.store_sql.specs.declared.refusal.Refusal.TheVariants.{BadRow, NotOurs, Sql}
@@ -101,10 +103,11 @@ pub record IsRaised (old new : Trees) : Type 0 where
   pub makes : Makes without_early_rows (kept_in old) (kept_in new)
   pub version : version_of new ≡ Some (pos 2)
 
--- the tables of the first version are taken as those of the second
+-- the tables of the first version are taken as those of the second; each of their names and next numbers could stand
 pub record IsMigrated (old new : State) : Type 0 where
   pub stands : Stands new
   pub raised : IsRaised old.committed.trees new.committed.trees
+  pub stood : NamesStand (kept_in old.committed.trees)
 
 -- a database of the six tables, of the first version
 pub record IsFirst (s : State) : Type 0 where
@@ -158,3 +161,7 @@ pub record IsWritten (change : Change) (old new : State) : Type 0 where
 -- the change drops the early rows, and changes nothing else
 pub record DropsEarly (tables : Tables) (change : Change) : Type 0 where
   pub makes : with_change change tables ≡ without_early_rows tables
+
+-- so it does, and each name and next number in the tables can stand
+abbrev pub IsReadToDrop : Kept → Change → Type 0
+IsReadToDrop kept change = DropsEarly (tables_in kept) change × NamesStand kept

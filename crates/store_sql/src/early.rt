@@ -8,7 +8,7 @@ ghost use Rattle.store_sql_reads.specs.Asking.{Answers, is_sql};
 ghost use Rattle.store.specs.Change.{CanStand};
 ghost use Rattle.store_sql_rows.specs.Stored.{is_sound_in, tables_in};
 ghost use Rattle.store_sql_rows.specs.declared.read_fault.ReadFault.TheVariants.{BadRow};
-ghost use Rattle.store_sql.specs.Opening.{DropsEarly, early_rows};
+ghost use Rattle.store_sql.specs.Opening.{IsReadToDrop, early_rows};
 
 use points::Name;
 use sqlite::{Alter, Connection, Error, ErrorCode};
@@ -55,13 +55,14 @@ fn early_of<S: Alter>(
     Ok(dropped)
 }
 
-/// The change that drops the early rows of each panel.
+/// The change that drops the early rows of each panel. Each name in the tables has to be one, and each next number one
+/// that can stand.
 pub fn dropping<S: Alter>(
     alloc: Global,
     connection: &mut Connection<S>,
 ) -> Result<Change, ReadFault>
     ensures stands { IfOk result (λ it. CanStand it) }
-    ensures answers { Answers (λ kept. DropsEarly (tables_in kept))
+    ensures answers { Answers (λ kept. IsReadToDrop kept)
         (λ kept. is_sound_in kept ≡ false) (state S.Store connection.old) (state S.Store connection.new) result }
 {
     let mut numbers = RowNumbers::new(alloc);

@@ -27,16 +27,12 @@ fn put_nexts<S: Alter>(
 }
 
 // Puts rows, one after the other.
-fn put_rows<S: Alter>(
-    transaction: &mut Transaction<'_, S>,
-    numbers: &mut RowNumbers,
-    items: &[KeptRow],
-) -> Result<(), Error>
+fn put_rows<S: Alter>(transaction: &mut Transaction<'_, S>, items: &[KeptRow]) -> Result<(), Error>
     requires { All IsKeptRow items.now }
     ensures moves { Moves S.Store (Turns (with_each row_put items.now)) transaction.old.conn transaction.new.conn result }
 {
     for item in items {
-        put_row(transaction, numbers, item)?;
+        put_row(transaction, item)?;
     }
     Ok(())
 }
@@ -136,9 +132,9 @@ fn write_commands<S: Alter>(
 {
     put_nexts(transaction, numbers, &change.nexts)?;
     if let Some((item, below)) = exchange_of(change) {
-        return exchange_row(transaction, numbers, item, below);
+        return exchange_row(transaction, item, below);
     }
-    put_rows(transaction, numbers, &change.rows)?;
+    put_rows(transaction, &change.rows)?;
     drop_all(transaction, &change.dropped)
 }
 

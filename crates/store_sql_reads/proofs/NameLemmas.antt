@@ -17,7 +17,7 @@ use Rattle.sqlite_value.proofs.OrderLemmas.{value_cmp-Text}
 use Rattle.store_sql_rows.specs.Broken.{cannot_stand_in, is_nameless, is_unnumbered}
 use Rattle.store_sql_rows.specs.Looking.{Finds, FindsLeast, is_from_text}
 use Rattle.store_sql_rows.specs.Ours.{IsOurs, kept_in}
-use Rattle.store.specs.Asked.Asked.{AnyName}
+use Rattle.store.specs.Asked.Asked.{AnyName, NextOf}
 use Rattle.store.specs.Listed.{AreNames, AreTexts, HasCalendar, HasPanel, HasPoint, HasSchedule}
 use Rattle.store.specs.declared.names.Names.{Names}
 use Rattle.store.specs.Tables.{Tables}
@@ -25,8 +25,8 @@ use Rattle.points.specs.Texts.{Text}
 use Rattle.dates.specs.declared.entry.Entry.{Entry}
 use Rattle.dates.specs.Entry.{spelling}
 use Rattle.store_sql_rows.specs.Cells.{is_below, is_count, is_text, name_in}
-use Rattle.store_sql_rows.specs.Rows.{of_command, of_lower_command, of_panel, of_place, of_schedule}
-use Rattle.store_sql_rows.specs.Stored.{Kept, tables_in}
+use Rattle.store_sql_rows.specs.Rows.{next_said, of_command, of_lower_command, of_panel, of_place, of_schedule, same_panel}
+use Rattle.store_sql_rows.specs.Stored.{Kept, can_stand, tables_in}
 use Rattle.store_sql_rows.specs.declared.read_fault.ReadFault.{ReadFault}
 use Rattle.store_sql_rows.proofs.BrokenLemmas.{has_any, has_none}
 use Rattle.store_sql_rows.proofs.NamedLemmas.{AreTexted, command_texted, imported_texted, panel_texted, place_texted, shown_texted}
@@ -272,14 +272,19 @@ panel_tells tables name b one tells = record {
   ];
 }
 
-pub panel_reported : (tables : Tables) (name : Text) (r : Result Bool ReadFault) → tables.next name ≡ 1
-    → IfOk r (Tells ((number : ℕ) × IsSome (tables.row name number))) → IfOk r (Tells (HasPanel tables name))
-panel_reported tables name (Ok b) one tells = panel_tells tables name b one tells
-panel_reported tables name (Err e) one tells = tt
+-- it is reported, and its next number can stand
+abbrev pub IsPanelTold : Kept → Text → Bool → Type 0
+IsPanelTold kept name stands = Tells (HasPanel (tables_in kept) name) stands × (cannot_stand_in kept (NextOf name) ≡ false)
+
+pub panel_reported : (kept : Kept) (name : Text) (r : Result Bool ReadFault) → (tables_in kept).next name ≡ 1
+    → cannot_stand_in kept (NextOf name) ≡ false
+    → IfOk r (Tells ((number : ℕ) × IsSome ((tables_in kept).row name number))) → IfOk r (IsPanelTold kept name)
+panel_reported kept name (Ok b) one next tells = (panel_tells (tables_in kept) name b one tells, next)
+panel_reported kept name (Err e) one next tells = tt
 
 pub panel_numbered : (kept : Kept) (name : Text) (r : Result Bool ReadFault) → AreNumbered kept name
-    → IfOk r (Tells (HasPanel (tables_in kept) name)) → IfOk r (IsNumbered kept name)
-panel_numbered kept name (Ok b) numbered tells = record { tells = tells; numbered = numbered }
+    → IfOk r (IsPanelTold kept name) → IfOk r (IsNumbered kept name)
+panel_numbered kept name (Ok b) numbered told = record { tells = told.0; numbered = numbered; next = told.1 }
 panel_numbered kept name (Err e) numbered tells = tt
 
 -- whether a panel has a row
@@ -331,7 +336,7 @@ stands_kept Calendars kept name is = calendar_named kept name is
 
 pub panels_listed : (kept : Kept) (name : Text) (stands : Bool) → IsName name → IsNumbered kept name stands → IsListed Panels kept name stands
 unfolding StandsIn IsGood
-panels_listed kept name stands named is = record { tells = is.tells; good = (named, is.numbered) }
+panels_listed kept name stands named is = record { tells = is.tells; good = (named, is.numbered, is.next) }
 
 pub points_listed : (kept : Kept) (name : Text) (stands : Bool) → IsName name → Tells (HasPoint (tables_in kept) name) stands
     → IsListed Points kept name stands
@@ -409,6 +414,15 @@ none_nameless db ours good =
     (named_row (kept_in db.trees).imported (imported_texted db ours) (λ name has. good Calendars name has))
     (has_none is_unnumbered (kept_in db.trees).command (λ row here.
     let text = command_texted db ours row here in (good Panels text.0 (inr (row, here, text.1))).1 row here text.1))))))
+
+-- each next number can stand
+pub nexts_stand : (kept : Kept) → ((list : NameList) (name : Text) → IsKept list kept name → IsGood list kept name) → (panel : Text)
+    → cannot_stand_in kept (NextOf panel) ≡ false
+unfolding IsKept IsGood
+nexts_stand kept good panel = elim (some_passes (of_panel panel) kept.panel) [
+  | inl none ↦ ap (λ rows. not (can_stand next_said same_panel rows)) none
+  | inr found ↦ (good Panels panel (inl (found.0, found.1, text_here panel (column found.0 1) found.2))).2
+]
 
 -- the four lists are good
 pub four_good : (kept : Kept) (panels points schedules calendars : List Text) → AreAll Panels kept panels → AreAll Points kept points

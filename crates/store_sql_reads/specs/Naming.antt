@@ -7,7 +7,8 @@ use Rattle.sqlite_value.specs.Order.{Row, column}
 use Rattle.store.specs.Listed.{AreTexts, HasCalendar, HasPanel, HasPoint, HasSchedule}
 use Rattle.store.specs.Tables.{Tables}
 use Rattle.points.specs.Texts.{Text}
-use Rattle.store_sql_rows.specs.Broken.{is_unnumbered}
+use Rattle.store.specs.Asked.Asked.{AnyName, NextOf}
+use Rattle.store_sql_rows.specs.Broken.{cannot_stand_in, is_unnumbered}
 use Rattle.store_sql_rows.specs.Cells.{name_in}
 use Rattle.store_sql_rows.specs.Stored.{Kept, tables_in}
 use Rattle.store_sql_reads.specs.Texts.{IsBefore}
@@ -33,9 +34,9 @@ IsKept Calendars kept name = HasName kept.imported name
 abbrev pub AreNumbered : Kept → Text → Type 0
 AreNumbered kept panel = (row : Row) → Has kept.command row → column row 1 ≡ TextCell panel → is_unnumbered row ≡ false
 
--- a text is a name, and a panel's rows are numbered from 1
+-- a text is a name; a panel's rows are numbered from 1, and its next number can stand
 unfoldable pub IsGood : NameList → Kept → Text → Type 0
-IsGood Panels kept name = IsName name × AreNumbered kept name
+IsGood Panels kept name = IsName name × AreNumbered kept name × (cannot_stand_in kept (NextOf name) ≡ false)
 IsGood Points kept name = IsName name
 IsGood Schedules kept name = IsName name
 IsGood Calendars kept name = IsName name
@@ -52,10 +53,11 @@ pub record Tells (Holds : Type 0) (test : Bool) : Type 0 where
   pub held : test ≡ true → Holds
   pub gone : test ≡ false → Holds → ⊥
 
--- whether a panel stands is reported, and its rows are numbered from 1
+-- whether a panel stands is reported; its rows are numbered from 1, and its next number can stand
 pub record IsNumbered (kept : Kept) (panel : Text) (stands : Bool) : Type 0 where
   pub tells : Tells (HasPanel (tables_in kept) panel) stands
   pub numbered : AreNumbered kept panel
+  pub next : cannot_stand_in kept (NextOf panel) ≡ false
 
 -- whether a name stands in a list is reported, and what is kept under it is good
 pub record IsListed (list : NameList) (kept : Kept) (name : Text) (stands : Bool) : Type 0 where
@@ -66,6 +68,11 @@ pub record IsListed (list : NameList) (kept : Kept) (name : Text) (stands : Bool
 pub record AreAll (list : NameList) (kept : Kept) (names : List Text) : Type 0 where
   pub stand : AreTexts (StandsIn list (tables_in kept)) names
   pub good : (name : Text) → IsKept list kept name → IsGood list kept name
+
+-- each name in the tables can stand, and each panel's next number
+pub record NamesStand (kept : Kept) : Type 0 where
+  pub names : cannot_stand_in kept AnyName ≡ false
+  pub nexts : (panel : Text) → cannot_stand_in kept (NextOf panel) ≡ false
 
 -- of two names the one that comes first, or the only one
 abbrev pub IsLesser : Option Text → Option Text → Option Text → Type 0

@@ -11,11 +11,11 @@ ghost use Rattle.store_sql_rows.specs.Ours.{IsOurs, kept_in};
 ghost use Rattle.store_sql_rows.specs.Rows.{of_lower_command};
 ghost use Rattle.store_sql_reads.specs.Asking.{Answers, is_sql};
 ghost use Rattle.store.specs.Asked.{IsSomeBroken};
-ghost use Rattle.store.specs.Asked.Asked.{AnyName};
+ghost use Rattle.store.specs.Asked.Asked.{AnyName, NextOf};
 ghost use Rattle.store.specs.Listed.{AreNames, HasCalendar, HasPanel, HasPoint, HasSchedule};
 ghost use Rattle.store_sql_rows.specs.declared.read_fault.ReadFault.TheVariants.{BadRow};
 ghost use Rattle.store_sql_rows.specs.Stored.{Kept, tables_in};
-ghost use Rattle.store_sql_reads.specs.Naming.{AreAll, AreNumbered, HasName, IsKept, IsLesser, IsListed, IsNumbered, Tells};
+ghost use Rattle.store_sql_reads.specs.Naming.{AreAll, AreNumbered, HasName, IsKept, IsLesser, IsListed, IsNumbered, NamesStand, Tells};
 ghost use Rattle.store_sql_reads.specs.Texts.{IsNextText, after};
 
 use crate::entries::next_entry;
@@ -74,7 +74,8 @@ fn has_panel<S: Alter>(
     numbers: &mut RowNumbers,
     panel: &Name,
 ) -> Result<bool, ReadFault>
-    ensures answers { Answers (λ kept. Tells (HasPanel (tables_in kept) panel.now))
+    ensures answers { Answers (λ kept stands. Tells (HasPanel (tables_in kept) panel.now) stands
+        × (cannot_stand_in kept (NextOf panel.now) ≡ false))
         (λ kept. IsSomeBroken (cannot_stand_in kept)) (state S.Store connection.old) (state S.Store connection.new) result }
 {
     if next_of(connection, numbers, panel)? != LEAST_NUMBER {
@@ -238,7 +239,7 @@ pub fn names_of<S: Alter>(
     connection: &mut Connection<S>,
     numbers: &mut RowNumbers,
 ) -> Result<Names, ReadFault>
-    ensures answers { Answers (λ kept it. AreNames (tables_in kept) it × (cannot_stand_in kept AnyName ≡ false))
+    ensures answers { Answers (λ kept it. AreNames (tables_in kept) it × NamesStand kept)
         (λ kept. IsSomeBroken (cannot_stand_in kept)) (state S.Store connection.old) (state S.Store connection.new) result }
 {
     let panels = names_in(alloc, NameList::Panels, connection, numbers)?;

@@ -30,9 +30,9 @@ use Rattle.store_sql_rows.specs.Slot.{On, command_slot}
 use Rattle.store_sql_rows.proofs.CellLemmas.{and_true, below_count, cast_cell, cast_int, cast_null, equal_count, equal_text, from_count}
 use Rattle.store_sql_rows.proofs.RestLemmas.{finds, finds_least, finds_same, least_same}
 use Rattle.store_sql_rows.specs.Looking.{Finds, FindsLeast, is_from}
-use Rattle.store_sql_rows.proofs.SlotLemmas.{gains, gains_at, is_command, loses}
+use Rattle.store_sql_rows.proofs.SlotLemmas.{gains, is_command, loses}
 use Rattle.store_sql_rows.proofs.TypeLemmas.{IsFilled, first_filled, ruled, second_filled}
-use Rattle.store_sql_rows.proofs.CommandTexts.{add_at_runs, add_at_text, add_runs, add_text, below_runs, below_text, cells_set, clear_runs, clear_text, drop_runs, drop_text, exchange_runs, exchange_text, find_runs, find_text, next_number_runs, next_number_text}
+use Rattle.store_sql_rows.proofs.CommandTexts.{add_runs, add_text, below_runs, below_text, cells_set, clear_runs, clear_text, drop_runs, drop_text, exchange_runs, exchange_text, find_runs, find_text, next_number_runs, next_number_text}
 use Rattle.store_sql_rows.specs.Cells.{cell_of, is_below, is_count, is_text}
 use Rattle.store_sql_rows.specs.Looking.{FindsRun, IsReadRun, last_shown, number_shown}
 use Rattle.store_sql_rows.specs.Meanings.{ordered}
@@ -110,25 +110,6 @@ adds panel number point priority value state a b old new result inside h =
     old new (Text panel ∷ Int (pos number) ∷ Text point ∷ Int priority ∷ cell_of value ∷ Int state ∷ cell_of a ∷ cell_of b ∷ [])
     (Text panel ∷ Int (pos number) ∷ Text point ∷ Int priority ∷ cell_of value ∷ Int state ∷ cell_of a ∷ cell_of b ∷ []) result
     (rw (cast_null, cast_int (pos number), cast_int priority, cast_cell value, cast_int state, cast_cell a, cast_cell b) refl) inside h)
-
--- the same under a number that it names
-pub adds_at : (row : ℤ) (panel : List ℕ) (number : ℕ) (point : List ℕ) (priority : ℤ) (value : Option ℤ) (state : ℤ) (a : Option ℤ)
-    (b : Option ℤ) → (old new : State) (result : Result ℕ Error) → IsInside old
-    → ExecutesInside 0 add_at_text (Text panel ∷ Int (pos number) ∷ Text point ∷ Int priority ∷ cell_of value ∷ Int state ∷ cell_of a
-    ∷ cell_of b ∷ Int row ∷ []) old new result
-    → OnOk result (Changes (On command_slot (Adds (of_command panel number)
-    (Text panel ∷ Int (pos number) ∷ Text point ∷ Int priority ∷ cell_of value ∷ Int state ∷ cell_of a ∷ cell_of b ∷ []))) old new)
-adds_at row panel number point priority value state a b old new result inside h =
-    adds_alone command_slot (of_command panel number)
-    (Text panel ∷ Int (pos number) ∷ Text point ∷ Int priority ∷ cell_of value ∷ Int state ∷ cell_of a ∷ cell_of b ∷ []) old new result
-    (λ id. rw ((bytes_eq-Decides panel panel).1 refl, (Decides-eqb number number).1 refl) refl)
-    (λ it x y hx hy is_x is_y. one_command new.now it.ours panel number x y hx hy is_x is_y)
-    (gains_at command_slot is_command add_at_text add_at_runs.plain (codes "command") command_table.columns command_table.checks
-    (col 0 8 ∷ col 0 0 ∷ col 0 1 ∷ col 0 2 ∷ col 0 3 ∷ col 0 4 ∷ col 0 5 ∷ col 0 6 ∷ col 0 7 ∷ []) 9 command_tree refl add_at_runs.is
-    row old new (Text panel ∷ Int (pos number) ∷ Text point ∷ Int priority ∷ cell_of value ∷ Int state ∷ cell_of a ∷ cell_of b
-    ∷ Int row ∷ [])
-    (Text panel ∷ Int (pos number) ∷ Text point ∷ Int priority ∷ cell_of value ∷ Int state ∷ cell_of a ∷ cell_of b ∷ []) result
-    (rw (cast_int row, cast_int (pos number), cast_int priority, cast_cell value, cast_int state, cast_cell a, cast_cell b) refl) inside h)
 
 passes_lower : (db : Database) → IsOurs db → (panel : List ℕ) (number : ℕ) → (row : Row) → Has (db.trees command_tree) row
     → passes (given 1 0 ∷ compared_with Lt 2 1 ∷ []) (Text panel ∷ Int (pos number) ∷ []) row ≡ of_lower_command panel number row

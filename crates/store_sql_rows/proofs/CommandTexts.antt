@@ -27,15 +27,6 @@ pub add_runs : Runs add_text
 unfolding understood everything
 add_runs = record { is = refl; plain = (refl, refl); unlisted = refl }
 
-abbrev pub add_at_text : List ℕ
-add_at_text = codes
-    "INSERT INTO command (rowid, panel, number, point, priority, value, state, a, b) VALUES (?9, ?1, ?2, ?3, ?4, ?5, ?6, ?7, ?8)"
-
-pub add_at_runs : Runs add_at_text
-    (Insert 2 (Values (col 0 8 ∷ col 0 0 ∷ col 0 1 ∷ col 0 2 ∷ col 0 3 ∷ col 0 4 ∷ col 0 5 ∷ col 0 6 ∷ col 0 7 ∷ []) 9))
-unfolding understood everything
-add_at_runs = record { is = refl; plain = (refl, refl); unlisted = refl }
-
 abbrev pub drop_text : List ℕ
 drop_text = codes "DELETE FROM command WHERE panel = ?1 AND number < ?2"
 

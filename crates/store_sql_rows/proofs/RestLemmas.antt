@@ -33,28 +33,6 @@ rests_rolled : (old new : State) → IsRolledBack old new → Rests old new
 rests_rolled old new back =
     record { was_open = back.was_open; same = λ alike stands. ((back.undone stands).0 ∙ sym alike, (back.undone stands).1) }
 
--- a text that was not run leaves what the connection saw
-pub not_run_rests : (sql : List ℕ) (params : Row) (old new : State) (e : Error) → IsNotRun old new sql params e → Rests old new
-unfolding IsNotRun
-not_run_rests sql params old new e (inl h) = rests_unchanged old new h.1
-not_run_rests sql params old new e (inr h) = rests_rolled old new h.3
-
--- so does one that was compiled, or was not
-pub prepared_rests : {A : Type 0} (P : A → Type 0) (sql : List ℕ) (old new : State) (r : Result A Error)
-    → IfOk r (λ a. P a × IsUnchanged old new) → IfErr r (λ e. (params : Row) → IsNotRun old new sql params e) → Rests old new
-prepared_rests P sql old new (Ok a) ok err = rests_unchanged old new ok.1
-prepared_rests P sql old new (Err e) ok err = not_run_rests sql [] old new e (err [])
-
-pub rests_on : (a b c : State) → Rests a b → Rests b c → Rests a c
-rests_on a b c one two = record {
-  was_open = λ stands. one.was_open (two.was_open stands);
-  same =
-      λ alike stands.
-      let first = one.same alike (two.was_open stands) in
-      let second = two.same (first.0 ∙ alike ∙ sym first.1) stands in
-      (second.0 ∙ first.0, second.1 ∙ first.1);
-}
-
 pub fails_rests : (sql : List ℕ) (params : Row) (old new : State) (e : Error) → IsPlain (understood old.now.schema sql)
     → FailsToQuery sql params old new e → Rests old new
 unfolding FailsToQuery IsNotRun

@@ -1,7 +1,6 @@
 -- What a statement in a transaction keeps.
 use Rattle.std.proofs.Common.{◌≡◌, ◌∙◌, inl, inr, ℕ, List, IfOk, IsTrue, true, false, Ok, Err, Result, refl, sym, subst}
 use Rattle.std.proofs.lemmas.Bool.{cases_Bool}
-use Rattle.sqlite_schema.specs.declared.schema.Constraint.{Constraint}
 use Rattle.sqlite_schema.specs.declared.schema.Constraint.TheVariants.{Unique}
 use Rattle.sqlite_value.specs.Order.{Row}
 use Rattle.sqlite.specs.declared.error.Error.{Error}
@@ -42,33 +41,33 @@ pub moves_made : {S A : Type 0} {g : Ghosts S} {Does : A → State → State →
 moves_made same kept survives done =
     record { same_reference = same; steps = record { done = done; kept = kept; survives = survives } }
 
--- ---- a rule that a row would break
+-- ---- a key that another row has
 
-no_failure : (rule : Constraint) (cause : StoreError) → ◌≡◌ {A = Error} (SqliteFailure (ConstraintViolation rule)) (store_error cause) → ⊥
-no_failure rule OutOfMemory e = cc
-no_failure rule Io e = cc
-no_failure rule Corrupt e = cc
-no_failure rule Full e = cc
-no_failure rule Broken e = cc
-no_failure rule Unstorable e = cc
+no_failure : (cause : StoreError) → ◌≡◌ {A = Error} (SqliteFailure (ConstraintViolation Unique)) (store_error cause) → ⊥
+no_failure OutOfMemory e = cc
+no_failure Io e = cc
+no_failure Corrupt e = cc
+no_failure Full e = cc
+no_failure Broken e = cc
+no_failure Unstorable e = cc
 
-unless_failed : (rule : Constraint) (old new : State) (Big : Type 0) → Fails old new Big (SqliteFailure (ConstraintViolation rule)) → ⊥
-unless_failed rule old new Big failed = no_failure rule failed.0 failed.1
+unless_failed : (old new : State) (Big : Type 0) → Fails old new Big (SqliteFailure (ConstraintViolation Unique)) → ⊥
+unless_failed old new Big failed = no_failure failed.0 failed.1
 
-module _ (rule : Constraint) (sql : List ℕ) (params : Row) (old new : State) where
-  refused_whole : ExecutesIn false sql params old new (Err (SqliteFailure (ConstraintViolation rule))) → IsUnchanged old new
+module _ (sql : List ℕ) (params : Row) (old new : State) where
+  refused_whole : ExecutesIn false sql params old new (Err (SqliteFailure (ConstraintViolation Unique))) → IsUnchanged old new
   unfolding ExecutesIn IsNotRun
   refused_whole (inl (inl refused)) = refused.1
-  refused_whole (inl (inr failed)) = absurd (unless_failed rule old new _ failed)
+  refused_whole (inl (inr failed)) = absurd (unless_failed old new _ failed)
   refused_whole (inr ran) = elim (cases_Bool (shows_rows false ran.0)) [
     | inl shows ↦ (rw shows at ran.2).1
-    | inr runs ↦ elim (rw runs at ran.2) [ inl refused ↦ refused.1 | inr failed ↦ absurd (unless_failed rule old new _ failed) ]
+    | inr runs ↦ elim (rw runs at ran.2) [ inl refused ↦ refused.1 | inr failed ↦ absurd (unless_failed old new _ failed) ]
   ]
 
-  -- a statement that a rule refuses leaves all as it was, and the transaction goes on
-  pub refused_by : (result : Result ℕ Error) → IsTrue old.in_transaction → ExecutesInside 0 sql params old new result
-      → result ≡ Err (SqliteFailure (ConstraintViolation rule)) → Shows old new old.now old.committed true
-  refused_by result inside h is =
+  -- a statement that meets another row's key leaves all as it was, and the transaction goes on
+  pub refused_inside : (result : Result ℕ Error) → IsTrue old.in_transaction → ExecutesInside 0 sql params old new result
+      → result ≡ Err (SqliteFailure (ConstraintViolation Unique)) → Shows old new old.now old.committed true
+  refused_inside result inside h is =
       let stays = still (subst (ExecutesInside 0 sql params old new) is h) in
       record {
         was_open = stays.0.was_open;
@@ -78,12 +77,6 @@ module _ (rule : Constraint) (sql : List ℕ) (params : Row) (old new : State) w
         mode = stays.0.mode ∙ inside;
       }
     where
-      still : ExecutesInside 0 sql params old new (Err (SqliteFailure (ConstraintViolation rule))) → IsUnchanged old new
+      still : ExecutesInside 0 sql params old new (Err (SqliteFailure (ConstraintViolation Unique))) → IsUnchanged old new
       still (inl run) = refused_whole run.0
       still (inr ends) = ends.2
-
--- one that meets another row's key
-pub refused_inside : (sql : List ℕ) (params : Row) (old new : State) (result : Result ℕ Error) → IsTrue old.in_transaction
-    → ExecutesInside 0 sql params old new result → result ≡ Err (SqliteFailure (ConstraintViolation Unique))
-    → Shows old new old.now old.committed true
-refused_inside = refused_by Unique

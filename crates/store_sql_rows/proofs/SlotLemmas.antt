@@ -1,5 +1,5 @@
 -- What a statement on one of the keyed tables makes of the rows of the six.
-use Rattle.std.proofs.Common.{◌≡◌, ◌≢◌, ◌==◌, cond, inl, inr, ℕ, ℤ, Bool, true, false, not, List, length, ◌/◌, [], ◌∷◌, ◌++◌, filter, map, slice_get, Some, Ok, Err, Result, refl, sym, ap, subst, subst₂, ◌∙◌, OnOk}
+use Rattle.std.proofs.Common.{◌≡◌, ◌≢◌, ◌==◌, cond, inl, inr, ℕ, Bool, true, false, not, List, length, ◌/◌, [], ◌∷◌, ◌++◌, filter, map, slice_get, Some, Ok, Err, Result, refl, sym, ap, subst, subst₂, ◌∙◌, OnOk}
 use Rattle.std.proofs.lemmas.Bool.{and_parts, both_ways, cases_Bool, eq-eqb}
 use Rattle.std.specs.List.Sorted.{IsPermutation}
 use Rattle.sqlite_value.specs.declared.value.Value.TheVariants.{Int, Null}
@@ -154,32 +154,7 @@ module _ (slot : Slot) (is_slot : IsSlot slot) (sql : List ℕ) (plain : IsPlain
       changed (Loses gone) _ old new refl inside h.1 gave.2
       (subst (AreOwn slot.key) (sym left) (own_filtered (λ r. not (gone r)) slot.key rows own)) left
 
-  -- a statement that adds a row under a number
-  gains_under : (name : List ℕ) (columns : List Column) (checks terms : List Term) (width : ℕ) (tree : ℕ)
-      → slot.table ≡ keyed_table name tree columns slot.key checks
-      → command_of (understood desk_schema sql) ≡ Insert slot.at (Values terms width)
-      → (old new : State) (params cells source : Row) (number : ℤ) (count : ℕ)
-      → map (cast_row slot.table) (value_rows (params ++ []) width (length terms / width) terms) ≡ source ∷ []
-      → numbered Chosen (old.now.trees slot.table.tree) (source ∷ []) ≡ (Int number ∷ cells) ∷ []
-      → IsInside old → ExecutesInside 0 sql params old new (Ok count) → Changes (On slot (Gains cells)) old new
-  gains_under name columns checks terms width tree table is old new params cells source number count given under inside h =
-      let db = old.now.trees in
-      let rows = db slot.table.tree in
-      let sources = value_rows (params ++ []) width (length terms / width) terms in
-      let added =
-      adds sql slot.at name tree columns slot.key checks (is_slot.found ∙ ap Some table) plain terms width is old new params
-      count inside.ours.schema_is h.0 in
-      let ran : Ran old new (edit_of db slot.table [] Chosen 0 sources) =
-      subst (λ t. Ran old new (edit_of db t [] Chosen 0 sources)) (sym table) added in
-      let row = Int number ∷ cells in
-      let news : numbered Chosen rows (map (cast_row slot.table) sources) ≡ row ∷ [] = ap (numbered Chosen rows) given ∙ under in
-      let free : is_taken rows row ≡ false = not_true _ (and_parts _ _ (subst (λ l. are_fresh rows l ≡ true) news ran.applies.fresh)).0 in
-      let now : new.now.trees slot.table.tree ≡ put_row row rows = ran.applies.rows ∙ ap (put_all rows) news in
-      changed (Gains cells) _ old new refl inside h.1 ran
-      (subst (AreOwn slot.key) (sym now) (own_put row slot.key rows refl free (own_rows old inside)))
-      (record { id = Int number; free = free; more = subst (HasOneMore row rows) (sym now) (put_apart row rows free) })
-
-  -- one that leaves the number to the database
+  -- a statement that adds a row
   pub gains : (name : List ℕ) (columns : List Column) (checks terms : List Term) (width : ℕ) (tree : ℕ)
       → slot.table ≡ keyed_table name tree columns slot.key checks
       → command_of (understood desk_schema sql) ≡ Insert slot.at (Values terms width)
@@ -188,16 +163,19 @@ module _ (slot : Slot) (is_slot : IsSlot slot) (sql : List ℕ) (plain : IsPlain
       → IsInside old → ExecutesInside 0 sql params old new result → OnOk result (Changes (On slot (Gains cells)) old new)
   gains name columns checks terms width tree table is old new params cells (Err e) given inside h = tt
   gains name columns checks terms width tree table is old new params cells (Ok count) given inside h =
-      gains_under name columns checks terms width tree table is old new params cells (Null ∷ cells)
-      (next_rowid (old.now.trees slot.table.tree)) count given refl inside h
-
-  -- and one that names it
-  pub gains_at : (name : List ℕ) (columns : List Column) (checks terms : List Term) (width : ℕ) (tree : ℕ)
-      → slot.table ≡ keyed_table name tree columns slot.key checks
-      → command_of (understood desk_schema sql) ≡ Insert slot.at (Values terms width)
-      → (number : ℤ) (old new : State) (params cells : Row) (result : Result ℕ Error)
-      → map (cast_row slot.table) (value_rows (params ++ []) width (length terms / width) terms) ≡ (Int number ∷ cells) ∷ []
-      → IsInside old → ExecutesInside 0 sql params old new result → OnOk result (Changes (On slot (Gains cells)) old new)
-  gains_at name columns checks terms width tree table is number old new params cells (Err e) given inside h = tt
-  gains_at name columns checks terms width tree table is number old new params cells (Ok count) given inside h =
-      gains_under name columns checks terms width tree table is old new params cells (Int number ∷ cells) number count given refl inside h
+      let db = old.now.trees in
+      let rows = db slot.table.tree in
+      let sources = value_rows (params ++ []) width (length terms / width) terms in
+      let added =
+      adds sql slot.at name tree columns slot.key checks (is_slot.found ∙ ap Some table) plain terms width is old new params
+      count inside.ours.schema_is h.0 in
+      let ran : Ran old new (edit_of db slot.table [] Chosen 0 sources) =
+      subst (λ t. Ran old new (edit_of db t [] Chosen 0 sources)) (sym table) added in
+      let id = Int (next_rowid rows) in
+      let row = id ∷ cells in
+      let news : numbered Chosen rows (map (cast_row slot.table) sources) ≡ row ∷ [] = ap (numbered Chosen rows) given in
+      let free : is_taken rows row ≡ false = not_true _ (and_parts _ _ (subst (λ l. are_fresh rows l ≡ true) news ran.applies.fresh)).0 in
+      let now : new.now.trees slot.table.tree ≡ put_row row rows = ran.applies.rows ∙ ap (put_all rows) news in
+      changed (Gains cells) _ old new refl inside h.1 ran
+      (subst (AreOwn slot.key) (sym now) (own_put row slot.key rows refl free (own_rows old inside)))
+      (record { id = id; free = free; more = subst (HasOneMore row rows) (sym now) (put_apart row rows free) })

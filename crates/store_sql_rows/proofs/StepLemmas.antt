@@ -6,7 +6,7 @@ use Rattle.sqlite.specs.declared.error.Error.{Error}
 use Rattle.sqlite.specs.declared.error.Error.TheVariants.{SqliteFailure}
 use Rattle.sqlite.specs.declared.error.ErrorCode.TheVariants.{ConstraintViolation}
 use Rattle.sqlite.specs.Effect.{Database}
-use Rattle.sqlite_schema.specs.declared.schema.Constraint.{Constraint}
+use Rattle.sqlite_schema.specs.declared.schema.Constraint.TheVariants.{Unique}
 use Rattle.std.specs.Borrow.{MutBor}
 use Rattle.std.specs.Result.{IsErr}
 use Rattle.sqlite_trees.specs.declared.store.Store.{Ghosts}
@@ -20,7 +20,7 @@ use Rattle.store_sql_rows.specs.Broken.{Keeps}
 use Rattle.store_sql_rows.specs.Looking.{Stays}
 use Rattle.store_sql_rows.specs.Stored.{Kept, is_sound_in, tables_in}
 use Rattle.store_sql_rows.specs.Ours.{Changes, IsInside, IsOurs, Makes, kept_in}
-use Rattle.store_sql_rows.specs.Steps.{Moves, MovesBy, StaysIfBroken, Steps, StepsBy, Turns}
+use Rattle.store_sql_rows.specs.Steps.{Moves, MovesBy, StaysIfTaken, Steps, StepsBy, Turns}
 use Rattle.store_sql_rows.proofs.FoldLemmas.{with_each-append}
 
 pub survives_on : (a b c : State) → Survives a b (λ _. ⊥) → Survives b c (λ _. ⊥) → Survives a c (λ _. ⊥)
@@ -147,10 +147,10 @@ fails_after {g} {old} {mid} {new} (Err f) is first second =
       };
     }
 
--- a statement that a rule refused turned nothing
-pub stays_put : {S A B : Type 0} {g : Ghosts S} {rule : Constraint} {old new : MutBor (Held S)} {Does : A → State → State → Type 0}
-    {r : Result A Error} (z : B) → r ≡ Err (SqliteFailure (ConstraintViolation rule)) → MovesBy g Does old new r
-    → StaysIfBroken rule (state g old.now) (state g new.now) r → Moves g (Turns (λ tables. tables)) old new (Ok z)
+-- a statement that another row's key refused turned nothing
+pub stays_put : {S A B : Type 0} {g : Ghosts S} {old new : MutBor (Held S)} {Does : A → State → State → Type 0} {r : Result A Error}
+    (z : B) → r ≡ Err (SqliteFailure (ConstraintViolation Unique)) → MovesBy g Does old new r
+    → StaysIfTaken (state g old.now) (state g new.now) r → Moves g (Turns (λ tables. tables)) old new (Ok z)
 stays_put {g} {old} {new} z taken step stays = record {
   same_reference = step.same_reference;
   steps = record {

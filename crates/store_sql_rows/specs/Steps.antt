@@ -7,7 +7,6 @@ use Rattle.sqlite.specs.declared.error.ErrorCode.TheVariants.{ConstraintViolatio
 use Rattle.sqlite.specs.Held.{Held, state}
 use Rattle.sqlite.specs.State.{HasCleanDisk, KeepsCommit, Shows, State, Survives}
 use Rattle.sqlite_trees.specs.declared.store.Store.{Ghosts}
-use Rattle.sqlite_schema.specs.declared.schema.Constraint.{Constraint}
 use Rattle.sqlite_schema.specs.declared.schema.Constraint.TheVariants.{Unique}
 use Rattle.store.specs.declared.change.Change.{Change}
 use Rattle.store.specs.declared.change.ImportedEntry.{ImportedEntry}
@@ -46,15 +45,11 @@ abbrev pub Moves : {S A : Type 0} → Ghosts S → (State → State → Type 0) 
     → Type 0
 Moves g Does = MovesBy g (λ _. Does)
 
--- a statement that is refused by a rule leaves all as it was, and the transaction goes on
-abbrev pub StaysIfBroken : {A : Type 0} → Constraint → State → State → Result A Error → Type 0
-StaysIfBroken rule old new outcome =
-    HasCleanDisk new → IsInside old → outcome ≡ Err (SqliteFailure (ConstraintViolation rule))
-    → Shows old new old.now old.committed true
-
--- the same of one that is refused as not unique
+-- a statement that is refused as not unique leaves all as it was, and the transaction goes on
 abbrev pub StaysIfTaken : {A : Type 0} → State → State → Result A Error → Type 0
-StaysIfTaken = StaysIfBroken Unique
+StaysIfTaken old new outcome =
+    HasCleanDisk new → IsInside old → outcome ≡ Err (SqliteFailure (ConstraintViolation Unique))
+    → Shows old new old.now old.committed true
 
 -- ---- the tables with one item more
 

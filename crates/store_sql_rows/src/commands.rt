@@ -6,8 +6,7 @@ ghost use Rattle.sqlite_value.specs.Order.{column};
 ghost use Rattle.store_sql_rows.specs.Looking.{Finds, FindsLeast, Reads, is_from, is_from_text};
 ghost use Rattle.store_sql_rows.specs.Ours.{Adds, Changes, Exchanges, Loses};
 ghost use Rattle.store_sql_rows.specs.Slot.{On, command_slot};
-ghost use Rattle.sqlite_schema.specs.declared.schema.Constraint.{Constraint};
-ghost use Rattle.store_sql_rows.specs.Steps.{Moves, MovesBy, StaysIfBroken, StaysIfTaken};
+ghost use Rattle.store_sql_rows.specs.Steps.{Moves, MovesBy, StaysIfTaken};
 ghost use Rattle.store_sql_rows.specs.Cells.{cell_of, is_text};
 ghost use Rattle.store_sql_rows.specs.Rows.{of_command, of_lower_command};
 
@@ -17,15 +16,6 @@ use crate::parameters::{count, optional, text, whole, words};
 use crate::running::run;
 use points::{Content, Name};
 use sqlite::{Alter, Connection, Error, Row, Transaction};
-
-pub(crate) const ADD: &str =
-    "INSERT INTO command (panel, number, point, priority, value, state, a, b) VALUES (?1, ?2, ?3, ?4, ?5, ?6, ?7, ?8)";
-
-pub(crate) const ADD_AT: &str =
-    "INSERT INTO command (rowid, panel, number, point, priority, value, state, a, b) VALUES (?9, ?1, ?2, ?3, ?4, ?5, ?6, ?7, ?8)";
-
-pub(crate) const EXCHANGE: &str =
-    "UPDATE command SET number = ?2, point = ?3, priority = ?4, value = ?5, state = ?6, a = ?7, b = ?8 WHERE panel = ?1 AND number < ?9";
 
 /// Removes the row under a number of a panel.
 pub fn clear<S: Alter>(
@@ -60,7 +50,7 @@ pub fn add<S: Alter>(
 {
     run(
         transaction,
-        ADD,
+        "INSERT INTO command (panel, number, point, priority, value, state, a, b) VALUES (?1, ?2, ?3, ?4, ?5, ?6, ?7, ?8)",
         &[
             text(panel),
             count(number),
@@ -70,39 +60,6 @@ pub fn add<S: Alter>(
             whole(cells.code),
             optional(cells.a),
             optional(cells.b),
-        ],
-    )
-}
-
-/// Adds the row under a number of a panel as the row of a number of the table. Where one stands there it is refused, as
-/// its primary key, and where one stands under the number of the panel, as not unique; then nothing changes.
-pub fn add_at<S: Alter>(
-    transaction: &mut Transaction<'_, S>,
-    row: i64,
-    panel: &Name,
-    number: u64,
-    content: &Content,
-    cells: &StateCells,
-) -> Result<usize, Error>
-    requires { number < 2 ^ 63 }
-    ensures refused { (rule : Constraint) → StaysIfBroken rule (state S.Store transaction.old.conn.now) (state S.Store transaction.new.conn.now) result }
-    ensures moves { Moves S.Store (Changes (On command_slot (Adds (of_command panel.now number)
-        (Text panel.now ∷ Int (pos number) ∷ Text content.now.point ∷ Int content.now.priority ∷ cell_of content.now.value
-        ∷ Int cells.now.code ∷ cell_of cells.now.a ∷ cell_of cells.now.b ∷ [])))) transaction.old.conn transaction.new.conn result }
-{
-    run(
-        transaction,
-        ADD_AT,
-        &[
-            text(panel),
-            count(number),
-            text(&content.point),
-            whole(content.priority),
-            optional(content.value),
-            whole(cells.code),
-            optional(cells.a),
-            optional(cells.b),
-            whole(row),
         ],
     )
 }
@@ -127,7 +84,7 @@ pub fn exchange<S: Alter>(
 {
     run(
         transaction,
-        EXCHANGE,
+        "UPDATE command SET number = ?2, point = ?3, priority = ?4, value = ?5, state = ?6, a = ?7, b = ?8 WHERE panel = ?1 AND number < ?9",
         &[
             text(panel),
             count(number),

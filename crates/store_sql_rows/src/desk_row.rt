@@ -12,13 +12,11 @@ use crate::parameters::whole;
 use crate::running::run;
 use sqlite::{Alter, Connection, Error, Row, Transaction};
 
-pub(crate) const SET_LAST: &str = "UPDATE desk SET last = ?1";
-
 /// Sets the moment of the last tick.
 pub fn set_last<S: Alter>(transaction: &mut Transaction<'_, S>, moment: i64) -> Result<usize, Error>
     ensures moves { Moves S.Store (Changes (SetsDesk (λ _. Int moment))) transaction.old.conn transaction.new.conn result }
 {
-    run(transaction, SET_LAST, &[whole(moment)])
+    run(transaction, "UPDATE desk SET last = ?1", &[whole(moment)])
 }
 
 /// The cells `version` and `last`.

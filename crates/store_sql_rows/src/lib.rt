@@ -5,13 +5,12 @@
 //! of a change into them, in a transaction; of the last three a row that was read or added before is found by its
 //! number (`RowNumbers`). `place_runs` and `shown_runs` put one value into rows that follow one another by their numbers,
 //! by one statement. What a row says is read by `cells` and `command_cells`. `run_from` reads the rows of a panel's run,
-//! one at a time. `look` asks a query, whatever it is. `compile_first` compiles the statements that a server writes by.
+//! one at a time. `look` asks a query, whatever it is.
 #![tactic(auto)]
 
 pub use cells::{count_at, entry_at, name_at, number_at, optional_at};
 pub use command_cells::{StateCells, cells_of, command_at};
 pub use command_run::run_from;
-pub use compiling::compile_first;
 pub use looking::look;
 pub use next_puts::put_next;
 pub use place_runs::put_leading_places;
@@ -24,7 +23,6 @@ mod cells;
 mod command_cells;
 mod command_run;
 pub mod commands;
-mod compiling;
 pub mod desk_row;
 mod looking;
 mod next_puts;

@@ -15,8 +15,6 @@ use crate::running::run;
 use points::Name;
 use sqlite::{Alter, Connection, Error, Row, Transaction};
 
-pub(crate) const SET_AT: &str = "UPDATE panel SET next = ?2 WHERE rowid = ?3 AND name = ?1";
-
 /// Adds the next number of a panel. Where it has one it is refused as not unique, and nothing changes.
 pub fn add<S: Alter>(
     transaction: &mut Transaction<'_, S>,
@@ -63,7 +61,11 @@ pub fn set_at<S: Alter>(
     ensures moves { MovesBy S.Store (λ count. Changes (On panel_slot (RewritesAt row (of_panel panel.now) (Text panel.now ∷ Int (pos next) ∷ []) count)))
         transaction.old.conn transaction.new.conn result }
 {
-    run(transaction, SET_AT, &[text(panel), count(next), whole(row)])
+    run(
+        transaction,
+        "UPDATE panel SET next = ?2 WHERE rowid = ?3 AND name = ?1",
+        &[text(panel), count(next), whole(row)],
+    )
 }
 
 // ---- what is read

@@ -17,17 +17,6 @@ use crate::running::run;
 use points::Name;
 use sqlite::{Alter, Connection, Error, Row, Transaction};
 
-pub(crate) const ADD: &str = "INSERT INTO place (point, priority, value) VALUES (?1, ?2, ?3)";
-
-pub(crate) const SET_AT: &str =
-    "UPDATE place SET value = ?3 WHERE rowid = ?4 AND point = ?1 AND priority = ?2";
-
-pub(crate) const SET_BETWEEN: &str =
-    "UPDATE place SET value = ?3 WHERE rowid >= ?1 AND rowid <= ?2";
-
-pub(crate) const KEYS_BETWEEN: &str =
-    "SELECT point, priority FROM place WHERE rowid >= ?1 AND rowid <= ?2";
-
 /// Removes the value in a place.
 pub fn clear<S: Alter>(
     transaction: &mut Transaction<'_, S>,
@@ -57,7 +46,7 @@ pub fn add<S: Alter>(
 {
     run(
         transaction,
-        ADD,
+        "INSERT INTO place (point, priority, value) VALUES (?1, ?2, ?3)",
         &[text(point), count(u64::from(priority)), whole(value)],
     )
 }
@@ -94,7 +83,7 @@ pub fn set_at<S: Alter>(
 {
     run(
         transaction,
-        SET_AT,
+        "UPDATE place SET value = ?3 WHERE rowid = ?4 AND point = ?1 AND priority = ?2",
         &[
             text(point),
             count(u64::from(priority)),
@@ -116,7 +105,7 @@ pub fn set_between<S: Alter>(
 {
     run(
         transaction,
-        SET_BETWEEN,
+        "UPDATE place SET value = ?3 WHERE rowid >= ?1 AND rowid <= ?2",
         &[whole(first), whole(last), whole(value)],
     )
 }
@@ -132,7 +121,11 @@ pub fn keys_between<S: Alter>(
     ensures moves { MovesBy S.Store (λ rows. Changes (Stays (λ kept. Finds (is_between first last)
         (λ row. column row 1 ∷ column row 2 ∷ []) kept.place rows.items))) transaction.old.conn transaction.new.conn result }
 {
-    ask_inside(transaction, KEYS_BETWEEN, &[whole(first), whole(last)])
+    ask_inside(
+        transaction,
+        "SELECT point, priority FROM place WHERE rowid >= ?1 AND rowid <= ?2",
+        &[whole(first), whole(last)],
+    )
 }
 
 /// The least name of a point from a text on, if there is one.

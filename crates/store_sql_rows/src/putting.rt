@@ -9,7 +9,6 @@ ghost use Rattle.store_sql_rows.specs.Rows.{state_in};
 ghost use Rattle.store_sql_rows.specs.Steps.{Moves, Steps, Turns, imported_put, last_put, row_put, rows_dropped};
 
 use crate::command_cells::{StateCells, cells_of};
-use crate::row_numbers::RowNumbers;
 use crate::{calendars, commands, desk_row};
 use points::LAST_NUMBER;
 use sqlite::{Alter, Constraint, Error, ErrorCode, Transaction};
@@ -43,68 +42,25 @@ fn replace_row<S: Alter>(
     Ok(())
 }
 
-// Adds the row of a command under a number that the database chooses, or puts it in place of the one that stands there.
-fn add_or_replace<S: Alter>(
-    transaction: &mut Transaction<'_, S>,
-    numbers: &mut RowNumbers,
-    item: &KeptRow,
-) -> Result<(), Error>
-    requires { IsKeptRow item.now }
-    ensures moves { Moves S.Store (Turns (row_put item.now)) transaction.old.conn transaction.new.conn result }
-{
-    let _name = item.panel.as_str();
-    let _point = item.row.content.point.as_str();
-    let state = cells_of(&item.row.state);
-    match commands::add(
-        transaction,
-        &item.panel,
-        item.number,
-        &item.row.content,
-        &state,
-    ) {
-        Ok(_) => {
-            let row = transaction.last_insert_rowid();
-            numbers.command = Some(row);
-            Ok(())
-        }
-        Err(Error::SqliteFailure(ErrorCode::ConstraintViolation(Constraint::Unique))) =>
-            replace_row(transaction, item, &state),
-        Err(error) => Err(error),
-    }
-}
-
-/// Puts the row of a command. Most are new, so that it is added first, behind the row that was added last where that is
-/// known, and one that stands there is removed only where that is refused.
-pub fn put_row<S: Alter>(
-    transaction: &mut Transaction<'_, S>,
-    numbers: &mut RowNumbers,
-    item: &KeptRow,
-) -> Result<(), Error>
+/// Puts the row of a command. Most are new, so that it is added first, and one that stands there is removed only where
+/// that is refused.
+pub fn put_row<S: Alter>(transaction: &mut Transaction<'_, S>, item: &KeptRow) -> Result<(), Error>
     requires { IsKeptRow item.now }
     ensures moves { Moves S.Store (Turns (row_put item.now)) transaction.old.conn transaction.new.conn result }
 {
     let _name = item.panel.as_str();
     let _point = item.row.content.point.as_str();
     let cells = cells_of(&item.row.state);
-    let Some(row) = numbers.row_behind() else {
-        return add_or_replace(transaction, numbers, item);
-    };
-    match commands::add_at(
+    match commands::add(
         transaction,
-        row,
         &item.panel,
         item.number,
         &item.row.content,
         &cells,
     ) {
-        Ok(_) => {
-            numbers.command = Some(row);
-            Ok(())
-        }
+        Ok(_) => Ok(()),
         Err(Error::SqliteFailure(ErrorCode::ConstraintViolation(Constraint::Unique))) =>
             replace_row(transaction, item, &cells),
-        Err(Error::SqliteFailure(ErrorCode::ConstraintViolation(Constraint::PrimaryKey))) =>
-            add_or_replace(transaction, numbers, item),
         Err(error) => Err(error),
     }
 }
@@ -131,7 +87,6 @@ pub fn drop_rows<S: Alter>(
 // Drops the rows of a panel below a number and puts the row of a command.
 fn drop_and_put<S: Alter>(
     transaction: &mut Transaction<'_, S>,
-    numbers: &mut RowNumbers,
     item: &KeptRow,
     below: u64,
 ) -> Result<(), Error>
@@ -144,7 +99,7 @@ fn drop_and_put<S: Alter>(
         number: below,
     };
     drop_rows(transaction, &dropped)?;
-    put_row(transaction, numbers, item)
+    put_row(transaction, item)
 }
 
 /// Drops the rows of a panel below a number, and puts the row of a command that has that number or a greater one. Of a
@@ -152,7 +107,6 @@ fn drop_and_put<S: Alter>(
 /// touched.
 pub fn exchange_row<S: Alter>(
     transaction: &mut Transaction<'_, S>,
-    numbers: &mut RowNumbers,
     item: &KeptRow,
     below: u64,
 ) -> Result<(), Error>
@@ -172,10 +126,10 @@ pub fn exchange_row<S: Alter>(
         &item.row.content,
         &cells,
     ) {
-        Ok(0) => put_row(transaction, numbers, item),
+        Ok(0) => put_row(transaction, item),
         Ok(_) => Ok(()),
         Err(Error::SqliteFailure(ErrorCode::ConstraintViolation(Constraint::Unique))) =>
-            drop_and_put(transaction, numbers, item, below),
+            drop_and_put(transaction, item, below),
         Err(error) => Err(error),
     }
 }

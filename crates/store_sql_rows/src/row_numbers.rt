@@ -15,8 +15,6 @@ pub struct RowNumbers {
     pub(crate) nexts: HashMap<Name, i64>,
     pub(crate) places: HashMap<(Name, u8), i64>,
     pub(crate) shown: HashMap<Name, i64>,
-    /// That of the row of a command that was added last: the one behind it is free, as a rule.
-    pub(crate) command: Option<i64>,
 }
 
 /// Notes the number of the row of a key.
@@ -41,13 +39,7 @@ impl RowNumbers {
             nexts: HashMap::new(alloc),
             places: HashMap::new(alloc),
             shown: HashMap::new(alloc),
-            command: None,
         }
-    }
-
-    /// The number behind that of the row of a command that was added last, where one is known.
-    pub(crate) fn row_behind(&self) -> Option<i64> {
-        self.command?.checked_add(1)
     }
 
     /// Notes what an answer of `panels::find` tells.

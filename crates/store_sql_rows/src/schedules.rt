@@ -17,14 +17,6 @@ use crate::running::run;
 use points::Name;
 use sqlite::{Alter, Connection, Error, Row, Transaction};
 
-pub(crate) const SET_AT: &str = "UPDATE shown SET value = ?2 WHERE rowid = ?3 AND schedule = ?1";
-
-pub(crate) const SET_BETWEEN: &str =
-    "UPDATE shown SET value = ?3 WHERE rowid >= ?1 AND rowid <= ?2";
-
-pub(crate) const KEYS_BETWEEN: &str =
-    "SELECT schedule FROM shown WHERE rowid >= ?1 AND rowid <= ?2";
-
 /// Removes what a schedule shows.
 pub fn clear<S: Alter>(
     transaction: &mut Transaction<'_, S>,
@@ -87,7 +79,7 @@ pub fn set_at<S: Alter>(
 {
     run(
         transaction,
-        SET_AT,
+        "UPDATE shown SET value = ?2 WHERE rowid = ?3 AND schedule = ?1",
         &[text(schedule), optional(value), whole(row)],
     )
 }
@@ -104,7 +96,7 @@ pub fn set_between<S: Alter>(
 {
     run(
         transaction,
-        SET_BETWEEN,
+        "UPDATE shown SET value = ?3 WHERE rowid >= ?1 AND rowid <= ?2",
         &[whole(first), whole(last), optional(value)],
     )
 }
@@ -120,7 +112,11 @@ pub fn keys_between<S: Alter>(
     ensures moves { MovesBy S.Store (λ rows. Changes (Stays (λ kept. Finds (is_between first last)
         (λ row. column row 1 ∷ []) kept.shown rows.items))) transaction.old.conn transaction.new.conn result }
 {
-    ask_inside(transaction, KEYS_BETWEEN, &[whole(first), whole(last)])
+    ask_inside(
+        transaction,
+        "SELECT schedule FROM shown WHERE rowid >= ?1 AND rowid <= ?2",
+        &[whole(first), whole(last)],
+    )
 }
 
 /// The cell `value` of a schedule, and the number of its row.

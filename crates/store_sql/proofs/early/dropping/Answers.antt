@@ -12,8 +12,11 @@ returns-clause-answers g c =
     let kept = kept_in (state g.S.Store c.args.connection.now).now.trees in
     let made = c.new-change.ensures in
     answers_ok (read_then (read_first c.in_ok-names.ensures.answers) c.in_ok-change.ensures.answers)
-    (λ _ read. drops_early (tables_in kept) c.in_ok-names.names.panels.items read.0.0.panels _ made.nexts made.rows
-    (rw c.deref.ensures.value at read.1) made.places made.shown made.imported made.last_tick)
+    (λ _ read. (
+      drops_early (tables_in kept) c.in_ok-names.names.panels.items read.0.0.panels _ made.nexts made.rows
+          (rw c.deref.ensures.value at read.1) made.places made.shown made.imported made.last_tick,
+      read.0.1,
+    ))
 
 pub returns-in_err-names-clause-answers : goal.returns-in_err-names-clause-answers
 returns-in_err-names-clause-answers g c =

@@ -1,6 +1,6 @@
 use Rattle.std.specs.Prelude.{[]}
 use Rattle.sqlite.specs.Held.{state}
-use Rattle.store_sql_rows.proofs.RestLemmas.{not_run_rests}
+use Rattle.store_sql.proofs.OpenLemmas.{not_run_rests}
 use Rattle.store_sql.proofs.taking.answers.Goals as goal
 
 pub returns-in_err-prepare-clause-rests : goal.returns-in_err-prepare-clause-rests

@@ -2,7 +2,7 @@ use Rattle.std.proofs.Common.{rules}
 use Rattle.sqlite.specs.Held.{state}
 use Rattle.store_sql_rows.specs.Ours.{kept_in}
 use Rattle.store_sql_rows.specs.Stored.{tables_in}
-use Rattle.store_sql_reads.proofs.NameLemmas.{all_stand, four_good, none_nameless}
+use Rattle.store_sql_reads.proofs.NameLemmas.{all_stand, four_good, nexts_stand, none_nameless}
 use Rattle.store_sql_reads.proofs.ReadLemmas.{answers_ok, read_first, read_then, refused_then}
 use Rattle.store_sql_reads.proofs.names.names_of.Goals as goal
 
@@ -37,6 +37,7 @@ returns g c =
           c.in_ok-schedules.ensures.answers) c.in_ok-calendars.ensures.answers)
           (λ ours all. (
             all_stand (tables_in kept) _ all.0.0.0.stand all.0.0.1.stand all.0.1.stand all.1.stand,
-            none_nameless first.now ours (four_good kept _ _ _ _ all.0.0.0 all.0.0.1 all.0.1 all.1),
+            let good = four_good kept _ _ _ _ all.0.0.0 all.0.0.1 all.0.1 all.1 in
+                record { names = none_nameless first.now ours good; nexts = nexts_stand kept good },
           ));
     }

@@ -33,4 +33,4 @@ returns-clause-stood g c clean =
     subst (λ s. IfOk c.tell.result (λ names. IsTrue ((standing_of g.S.Store s).cannot_stand AnyName) → ⊥)) c.self.view_is
     (value_left (reported_left g.S.Store c.self.inside.session c.names_of-asked.new.connection c.tell.new.self c.names_of-asked.result c.tell.result
     (λ kept broken. unsound kept broken.0 broken.1) c.if-self.false c.self.invariant (λ h db. g.met.S.Store.settled h.store db)
-    c.names_of-asked.ensures.answers c.tell.ensures.mode c.tell.ensures.survives c.tell.ensures.reported) clean _ (λ it holds broken. true≢false (sym broken ∙ holds.1)))
+    c.names_of-asked.ensures.answers c.tell.ensures.mode c.tell.ensures.survives c.tell.ensures.reported) clean _ (λ it holds broken. true≢false (sym broken ∙ holds.1.names)))
