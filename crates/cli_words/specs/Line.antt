@@ -109,11 +109,12 @@ abbrev pub serve_app : App
 serve_app = with_rule (with_rule (with_rule
     (database_app (codes "serve") (needed_rule (codes "address"))) requests_rule) (flag_rule (codes "clock"))) record_rule
 
--- `desk`, which needs a subcommand
+-- `desk`, which has a version, and needs a subcommand
 abbrev pub desk_app : App
 desk_app =
     with_subcommand (with_subcommand (with_subcommand (with_subcommand (with_subcommand (with_subcommand (with_subcommand
-    (with_subcommand (with_subcommand (with_subcommand (on_top (λ s. record s { subcommand_required = true }) (new_app (codes "desk")))
+    (with_subcommand (with_subcommand (with_subcommand
+    (on_top (λ s. record s { has_version = true; subcommand_required = true }) (new_app (codes "desk")))
     check_app.top) describe_app.top) replay_app.top) why_app.top) straighten_app.top) import_app.top) tick_app.top) report_app.top)
     serve_app.top) adopt_app.top
 

@@ -1,5 +1,6 @@
 //! Why the words of a command line ask nothing.
 
+use crate::version::VERSION;
 use std::alloc::AllocError;
 use std::fmt;
 
@@ -8,6 +9,8 @@ use std::fmt;
 pub enum ArgFault {
     /// The words are refused, or they ask for help. Its text is `clap`'s.
     Words(clap::Error),
+    /// They ask which version this is, by `--version` or `-V`.
+    Version,
     /// Memory was refused.
     NoMemory,
 }
@@ -16,6 +19,7 @@ impl fmt::Display for ArgFault {
     fn fmt<W: fmt::Write>(&self, f: &mut fmt::Formatter<W>) -> fmt::Result {
         match self {
             ArgFault::Words(error) => write!(f, "{error}"),
+            ArgFault::Version => writeln!(f, "desk {VERSION}"),
             ArgFault::NoMemory => f.write_str("desk: out of memory\n"),
         }
     }

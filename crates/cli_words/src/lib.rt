@@ -6,6 +6,8 @@
 
 pub use arg_fault::ArgFault;
 pub use line::Line;
+pub use version::VERSION;
 
 mod arg_fault;
 mod line;
+mod version;

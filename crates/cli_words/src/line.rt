@@ -15,6 +15,7 @@ ghost use Rattle.cli_words.specs.Line.{requests_rule, serve_app, serve_in, strai
 ghost use Rattle.cli_words.specs.Line.{straighten_in, tick_app, tick_in, until_rule, values_in, why_app, why_in};
 
 use crate::ArgFault;
+use crate::version::VERSION;
 use clap::error::ErrorKind;
 use clap::{Arg, ArgAction, ArgMatches, Command};
 use std::alloc::{AllocError, Global};
@@ -132,7 +133,7 @@ pub enum Line<'a> {
 impl<'a> Line<'a> {
     /// Reads the program's words, its name first.
     ///
-    /// A request for help is a fault too, whose text is the help.
+    /// A request for help is a fault too, whose text is the help, and so is one for the version.
     pub fn of(alloc: Global, words: &'a [String]) -> Result<Line<'a>, ArgFault>
         ensures takes { IfOk result (λ line. fault_of desk_app (map string_bytes words.entry.now) ≡ []) }
         ensures asks { IfOk result (λ line.
@@ -154,6 +155,7 @@ fn desk_command<'a>(alloc: Global) -> Result<Command<'a>, AllocError>
 {
     let desk = Command::new(alloc, "desk")
         .about("The operating desk of a building: BACnet schedules and command priorities")
+        .version(VERSION)
         .subcommand_required(true);
     let desk = with_subcommand(Ok(desk), check_command(alloc));
     let desk = with_subcommand(desk, describe_command(alloc));
@@ -734,6 +736,7 @@ fn fault_in(error: clap::Error) -> ArgFault
 {
     match error.kind() {
         ErrorKind::OutOfMemory => ArgFault::NoMemory,
+        ErrorKind::DisplayVersion => ArgFault::Version,
         _ => ArgFault::Words(error),
     }
 }

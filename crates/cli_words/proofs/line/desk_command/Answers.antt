@@ -5,7 +5,7 @@ use Rattle.cli_words.proofs.line.desk_command.Goals as goal
 
 pub returns : goal.returns
 returns c =
-    let desk : App = on_top (λ s. record s { subcommand_required = true }) (new_app (codes "desk")) in
+    let desk : App = on_top (λ s. record s { has_version = true; subcommand_required = true }) (new_app (codes "desk")) in
     c.with_subcommand.ensures _ _
     (c.with_subcommand-desk-9.ensures _ _
     (c.with_subcommand-desk-8.ensures _ _
