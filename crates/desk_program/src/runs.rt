@@ -10,10 +10,7 @@ use std::alloc::Global;
 use std::fs::{self, File};
 use std::io::{self, BufReader, BufWriter, ErrorKind, Read, Write};
 use store::{OpenFault, Store, StoreFault};
-use store_file::{
-    DeskStore, ServedStore, close_served_store, close_store, open_record, open_served_store,
-    open_store,
-};
+use store_file::{DeskStore, close_store, open_record, open_store};
 use store_remembered::Remembered;
 
 /// What a run over a database does.
@@ -30,8 +27,7 @@ pub enum DatabaseRun<'a> {
 }
 
 /// Makes a run over the building and the database of these paths, and writes each delivery down in the record of a
-/// path, if there is one. A server's rows are answered from memory: to open them so would take the other runs longer
-/// than it saves. It is an error where memory for the output's buffer is refused.
+/// path, if there is one. It is an error where memory for the output's buffer is refused.
 pub fn run<'a>(
     rt: &HostRuntime,
     file: &'a str,
@@ -39,12 +35,7 @@ pub fn run<'a>(
     record: Option<&'a str>,
     run: &DatabaseRun<'a>,
 ) -> io::Result<Status> {
-    match run {
-        DatabaseRun::Serve(_) => {
-            run_and_close(rt, file, database, &Server { rt, database }, record, run)
-        }
-        _ => run_and_close(rt, file, database, &Once { rt, database }, record, run),
-    }
+    run_and_close(rt, file, database, &InFile { rt, database }, record, run)
 }
 
 /// Where a run has its store, and how it closes it. A trait, since a call that names the types of a real store and of
@@ -57,14 +48,14 @@ trait Home {
     fn close(&self, held: Self::Held) -> Result<(), StoreFault>;
 }
 
-/// A database of one delivery or report.
+/// The database of a path.
 #[derive(Drop)]
-struct Once<'a> {
+struct InFile<'a> {
     rt: &'a HostRuntime,
     database: &'a str,
 }
 
-impl Home for Once<'_> {
+impl Home for InFile<'_> {
     type Held = DeskStore;
 
     fn open(&self) -> Result<DeskStore, OpenFault> {
@@ -73,25 +64,6 @@ impl Home for Once<'_> {
 
     fn close(&self, held: DeskStore) -> Result<(), StoreFault> {
         close_store(held)
-    }
-}
-
-/// A server's database.
-#[derive(Drop)]
-struct Server<'a> {
-    rt: &'a HostRuntime,
-    database: &'a str,
-}
-
-impl Home for Server<'_> {
-    type Held = ServedStore;
-
-    fn open(&self) -> Result<ServedStore, OpenFault> {
-        open_served_store(self.rt, self.database)
-    }
-
-    fn close(&self, held: ServedStore) -> Result<(), StoreFault> {
-        close_served_store(held)
     }
 }
 

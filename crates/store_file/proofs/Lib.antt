@@ -1,3 +1,2 @@
 pub mod BeginLemmas
 pub mod ClosingLemmas
-pub mod ServingLemmas

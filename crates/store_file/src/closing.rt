@@ -8,7 +8,6 @@ ghost use Rattle.sqlite_wal.specs.Reads.{AreClean};
 ghost use Rattle.sqlite.specs.Files.{over_files};
 ghost use Rattle.sqlite.specs.Held.{AreDatabases};
 ghost use Rattle.store.specs.declared.fault.StoreFault.TheVariants.{Failed, NoMemory};
-ghost use Rattle.store_row_memory.specs.Remembering.{remembering};
 ghost use Rattle.store_sql_rows.specs.Ours.{content_of};
 ghost use Rattle.store_sql.specs.Standing.{standing_of};
 ghost use Rattle.store_file.specs.Closed.{IsAtRest, Rests};
@@ -18,7 +17,6 @@ use sqlite_disk::Disk;
 use sqlite_trees::error::StoreError;
 use sqlite_trees::store::Store;
 use store::StoreFault;
-use store_row_memory::RowMemory;
 use store_sql::SqlStore;
 
 /// How a close that failed is reported: S1 for lack of memory, else S2.
@@ -68,20 +66,4 @@ pub fn closed<D: Disk + Drop>(
         → (standing_of over_files store).may_leave (content_of db)) }
 {
     rested(store.into_connection().into_store())
-}
-
-/// Closes a store that answers rows from memory, just so.
-pub fn closed_served<D: Disk + Drop>(
-    store: SqlStore<RowMemory<FileStore<D>>>,
-) -> Result<Files<D>, (StoreFault, FileStore<D>)>
-    ensures log { IfOk result (λ files. IsTrue (D.Disk.is_usable files.log)) }
-    ensures db { IfOk result (λ files. IsTrue (D.Disk.is_usable files.db)) }
-    ensures at_rest { IfOk result (λ files. AreClean D.Disk files.log files.db
-        → IsAtRest D.Disk files (standing_of (remembering over_files) store).content) }
-    ensures honest { IfOk result (λ files. AreClean D.Disk files.log files.db → (standing_of (remembering over_files) store).is_honest) }
-    ensures reported { IfErr result (λ left. (left.0 ≡ NoMemory) ⊎ (left.0 ≡ Failed)) }
-    ensures kept { IfErr result (λ left. (db : Trees) → recovers left.1 db
-        → (standing_of (remembering over_files) store).may_leave (content_of db)) }
-{
-    rested(store.into_connection().into_store().into_below())
 }

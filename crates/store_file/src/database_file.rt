@@ -5,11 +5,10 @@ ghost use Rattle.sqlite.specs.declared.error.Error.TheVariants.{SqliteFailure};
 ghost use Rattle.sqlite.specs.declared.error.ErrorCode.TheVariants.{OutOfMemory};
 ghost use Rattle.store.specs.declared.open_fault.OpenFault.TheVariants.{Failed, NoMemory};
 
-use crate::closing::{closed, closed_served};
+use crate::closing::closed;
 use crate::connecting::{connected, options};
 use crate::finding::{Found, found_as_it_is, is_nothing_at, store_found};
 use crate::lost_part::{log_path, page_size_on_disk, refuse_lost};
-use crate::serving::served_in;
 use sqlite::{
     Alter, Connection, Error, ErrorCode, File, FileFrom, FileStore, Files, Options, Start, Unknown,
 };
@@ -20,7 +19,6 @@ use std::fs;
 use std::hash::{BuildHasher, RandomState};
 use std::io::{self, ErrorKind};
 use store::{OpenFault, StoreFault};
-use store_row_memory::RowMemory;
 use store_sql::SqlStore;
 
 /// Why a database whose files can't be had is not opened: S1 for lack of memory, else S2.
@@ -132,7 +130,7 @@ fn settled<D: Disk + Drop>(
 }
 
 /// The store over a connection, whose tables are made where there is nothing.
-pub(crate) fn made_or_opened<D: Disk + Drop>(
+fn made_or_opened<D: Disk + Drop>(
     alloc: Global,
     connection: Connection<FileStore<D>>,
     options: Options,
@@ -168,25 +166,6 @@ pub fn open_store(rt: &HostRuntime, path: &str) -> Result<DeskStore, OpenFault> 
     refuse_lost(rt, path)?;
     let files = files_at(rt, path, Unknown)?;
     begun_or_opened(rt.alloc(), files, options_at(rt, path)?)
-}
-
-/// The same for a server, with rows answered from memory.
-pub type ServedStore = SqlStore<RowMemory<FileStore<File>>>;
-
-/// The store of a server in the database of a path (`open_store`), which answers rows from memory. It takes as long
-/// again to open, since the tables are read once more.
-pub fn open_served_store(rt: &HostRuntime, path: &str) -> Result<ServedStore, OpenFault> {
-    refuse_lost(rt, path)?;
-    let files = files_at(rt, path, Unknown)?;
-    served_in(rt.alloc(), files, options_at(rt, path)?)
-}
-
-/// Closes the store of a server (`closed_served`), and lets its files go.
-pub fn close_served_store(store: ServedStore) -> Result<(), StoreFault> {
-    match closed_served(store) {
-        Ok(_files) => Ok(()),
-        Err((fault, _left)) => Err(fault),
-    }
 }
 
 /// Closes a store (`closed`), and lets its files go.

@@ -6,23 +6,20 @@
 //! lost a part of a database are refused by their lengths (`specs/Lost.antt`), since one would be begun anew in them.
 //! `closed` copies the log into the database file, which has the tables alone then (`specs/Closed.antt`): at the end of
 //! each run, and once the tables of a new database are made. `find_store` has the store of a database that is there,
-//! and makes none; `find_store_as_it_is` leaves tables of version 1 as they are, too (`finding`). A server's store
-//! answers rows from memory (`serving`), and is opened and closed by calls of its own. `open_record` has the file of a
-//! record. All that knows the types of a real file stands in these calls, so that what they cost to prove is paid once.
+//! and makes none; `find_store_as_it_is` leaves tables of version 1 as they are, too (`finding`). `open_record` has the
+//! file of a record. All that knows the types of a real file stands in these calls, so that what they cost to prove is
+//! paid once.
 #![tactic(auto)]
 
-pub use closing::{closed, closed_served};
+pub use closing::closed;
 pub use connecting::{connected, options};
 pub use database_file::{
-    DeskStore, RecordFile, ServedStore, close_served_store, close_store, find_store,
-    find_store_as_it_is, open_record, open_served_store, open_store,
+    DeskStore, RecordFile, close_store, find_store, find_store_as_it_is, open_record, open_store,
 };
 pub use finding::Found;
-pub use serving::remembering;
 
 mod closing;
 mod connecting;
 mod database_file;
 mod finding;
 mod lost_part;
-mod serving;

@@ -7,7 +7,6 @@ use sqlite_disk::{Crash, Disk, Files, Memory};
 use std::alloc::{AllocError, Global};
 use std::fmt::Write;
 use std::io;
-use std::num::NonZeroUsize;
 use std::test::Fail;
 use store::{OpenFault, Store, StoreFault};
 use store_remembered::Remembered;
@@ -320,22 +319,6 @@ fn work_over<S: Alter + Drop>(
     }
 }
 
-// Works over what a connection is connected to, with a row answered from memory as a server's are: one alone, so that
-// they come and go.
-fn work_remembering<S: Alter + Drop>(
-    alloc: Global,
-    connection: Connection<S>,
-    work: Work<'_>,
-) -> (Result<(), Fail>, S) {
-    match store_file::remembering(alloc, connection, NonZeroUsize::MIN) {
-        Ok(connection) => {
-            let (done, memory) = work_over(alloc, connection, work);
-            (done, memory.into_below())
-        }
-        Err((_fault, store)) => (work_without_database(work), store),
-    }
-}
-
 fn work_without_database(work: Work<'_>) -> Result<(), Fail> {
     match work {
         Work::Deliver { outcome, .. } => push_fault("no database", &mut outcome.printed),
@@ -352,7 +335,7 @@ fn work_in_files<D: Disk + Drop>(
 ) -> (Result<(), Fail>, Files<D>) {
     match connected(alloc, files) {
         Ok(connection) => {
-            let (done, store) = work_remembering(alloc, connection, work);
+            let (done, store) = work_over(alloc, connection, work);
             (done, store.close())
         }
         Err(files) => (work_without_database(work), files),
