@@ -46,6 +46,7 @@ class Building:
     granted: int
     calendars: int = 0
     schedules: int = 0
+    targets: int = 1
 
     def granted_to(self, panel):
         """The numbers of the points that are granted to a panel, from 1."""
@@ -68,10 +69,12 @@ class Building:
                 self.write_schedule(out, schedule)
 
     def write_schedule(self, out, schedule):
-        """A schedule of one point, with seven lists of four time values, and four exceptions of four each."""
+        """A schedule with seven lists of four time values, and four exceptions of four each."""
+        first = (schedule - 1) * self.targets
+        targets = ", ".join(f'"ROOM-{point}"' for point in range(first + 1, first + self.targets + 1))
         day = "[" + ", ".join(f'"{hour:02}:{schedule % 60:02}:00.00={2000 + hour}"' for hour in (5, 8, 17, 21)) + "]"
         out.write(f'[[schedule]]\nname = "SCHEDULE-{schedule}"\nperiod = "2025-01-01..2026-12-31"\npriority = 15\n')
-        out.write(f'targets = ["ROOM-{schedule}"]\ndefault = 1600\nweekly = [\n    ' + ",\n    ".join([day] * 7) + "\n]\n")
+        out.write(f'targets = [{targets}]\ndefault = 1600\nweekly = [\n    ' + ",\n    ".join([day] * 7) + "\n]\n")
         for number in range(4):
             calendar = (schedule + number) % self.calendars + 1
             out.write(f'[[schedule.exception]]\npriority = {number + 3}\ncalendar = "CALENDAR-{calendar}"\ntimes = {day}\n')

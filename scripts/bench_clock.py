@@ -10,12 +10,14 @@ kinds and then in each block: where they differ the run ends with a line that sa
 and what their databases are called, is drawn anew for each of some runs: one program over files of other names comes to
 figures that lie some hundredths apart.
 
-What is reported is the processor's time of the program that is meant, user and system, as the kernel counts it for the process:
-the middle of some blocks, and the middle, the least and the greatest ratio of a pair of them, the speed of the desk over
-that of the C++ program. Where `valgrind` is installed the instructions of a request are counted too. What a row wants is
-printed beside it; the run ends well whatever the rows come to.
+What is reported is the processor's time of the program that is meant, user and system, as the kernel counts it for the process,
+and of a request also the time on the clock, from its connection to the end of its response, with the disk's syncs: the middle
+of some blocks, and the middle, the least and the greatest ratio of a pair of them, the speed of the desk over that of the C++
+program. Where `valgrind` is installed the instructions of a request are counted too. What a row wants is printed beside it; the
+run ends well whatever the rows come to.
 """
 import ctypes
+import dataclasses
 import filecmp
 import json
 import os
@@ -24,12 +26,13 @@ import random
 import re
 import shutil
 import socket
+import sqlite3
 import statistics
 import subprocess
 import sys
 import tomllib
 from dataclasses import dataclass
-from time import clock_gettime, sleep
+from time import clock_gettime, monotonic, sleep
 
 import bench
 import bench_database
@@ -38,15 +41,21 @@ import proved_apart
 ROOT = pathlib.Path(__file__).resolve().parent.parent
 FOLDER = ROOT / "build" / "bench"
 LARGEST, QUARTER, NEW_YEAR = bench.LARGEST, bench.QUARTER, bench.NEW_YEAR
+# The same points and panels, with schedules of forty targets each.
+FORTY = bench.Building(panels=200, points=1_000, granted=40, calendars=100, schedules=25, targets=40)
+HOUR, MINUTE = 4 * QUARTER, QUARTER // 15
 ROUNDS = 15
 # The runs of a row that is served, each with servers of its own.
-RUNS = 8
+RUNS = 3
 # The requests of a block, and the panels that its commands come from.
 TICKS, STILL, REPORTS, NUMBERS, POINTS, PANELS = 384, 300, 20, 66, 500, 4
 # Those that are counted by valgrind.
 TICKS_COUNTED, COUNTED, REPORTS_COUNTED = 96, 100, 5
+STARTS = 5
 # Each list that is replayed, its lines, and what its row wants.
-REPLAYED = {"ticks": (bench.QUARTERS, 2.0), "mixed": (200_000, 1.0), "in order": (200_000, 0.9), "lossy": (200_000, 0.9)}
+REPLAYED = {"ticks": (bench.QUARTERS, 1.0), "mixed": (200_000, 1.0), "in order": (200_000, 1.0), "lossy": (200_000, 1.0)}
+# What a row that is served wants: of the processor, and of the clock.
+AS_FAST, A_TICK = (0.95, 0.95), (0.75, 0.95)
 COMPARED = 20_000
 MOST_REQUESTS = 100_000
 # How many requests the one server takes before the other does: few, so that what else the machine does comes to both.
@@ -90,15 +99,24 @@ def tick(at):
     return post("/tick", f'{{"at":{at}}}')
 
 
-def command(panel, number, more=0):
+def as_desk(members):
+    return json.dumps(members, separators=(",", ":"))
+
+
+def as_node(members):
+    """What a client writes that names a command's members in an order of its own."""
+    return as_desk({key: members[key] for key in ("point", "value", "priority", "number")})
+
+
+def command(panel, number, more=0, spell=as_desk):
     members = json.loads(LARGEST.command(panel, number))
     name = members.pop("panel")
     members["value"] += more
-    return post(f"/panels/{name}/commands", json.dumps(members, separators=(",", ":")))
+    return post(f"/panels/{name}/commands", spell(members))
 
 
-def commands(numbers):
-    return [command(panel, number) for number in numbers for panel in range(PANELS)]
+def commands(numbers, spell=as_desk):
+    return [command(panel, number, spell=spell) for number in numbers for panel in range(PANELS)]
 
 
 def points(count):
@@ -169,10 +187,11 @@ class Server:
             return b"".join(iter(lambda: connection.recv(65_536), b""))
 
     def take(self, requests):
-        """The processor's seconds for these requests, and what they were answered."""
-        before = processor_seconds(self.ran.pid)
+        """The processor's seconds for these requests, those of the clock, and what they were answered."""
+        before, began = processor_seconds(self.ran.pid), monotonic()
         answers = [self.ask(request) for request in requests]
-        return processor_seconds(self.ran.pid) - before, answers
+        clock = monotonic() - began
+        return (processor_seconds(self.ran.pid) - before, clock), answers
 
     def stop(self):
         self.ran.terminate()
@@ -187,15 +206,15 @@ def compare(requests, answers):
 
 
 def taken(servers, requests, turn=0):
-    """What each of the two servers takes for a request of these, the one first and then the other by turns."""
-    seconds, answers = [0.0, 0.0], [[], []]
+    """What each of the two servers takes of the processor and on the clock for a request of these, in turns."""
+    seconds, answers = [[0.0, 0.0], [0.0, 0.0]], [[], []]
     for count, first in enumerate(range(0, len(requests), IN_TURN), turn):
         for place in (count % 2, 1 - count % 2):
             spent, told = servers[place].take(requests[first:first + IN_TURN])
-            seconds[place] += spent
+            seconds[place] = [sum(both) for both in zip(seconds[place], spent)]
             answers[place] += told
     compare(requests, answers)
-    return [spent / len(requests) for spent in seconds]
+    return [[each / len(requests) for each in spent] for spent in seconds]
 
 
 def keep(programs, name, start, requests):
@@ -227,14 +246,23 @@ def amount(seconds):
     return f"{seconds * 1e3:.1f} ms" if seconds > 2e-3 else f"{seconds * 1e6:.{0 if seconds > 2e-5 else 2}f} µs"
 
 
+def show_both(name, pairs, wanted):
+    """The rows of a request: by the processor's time and by the clock's."""
+    for place, said in enumerate(("", ", on the clock")):
+        show(name + said, [[spent[place] for spent in pair] for pair in pairs], wanted[place])
+
+
 def show(name, pairs, wanted, least=None):
     """A row of pairs of seconds. Of two whose ratio doesn't matter none is wanted, but that of the desk alone."""
     ratios = sorted(plain / desk for desk, plain in pairs)
     middles = [statistics.median(column) for column in zip(*pairs)]
-    met = statistics.median(ratios) >= wanted if least is None else middles[0] <= least
     reported = f"{statistics.median(ratios):.2f} ({ratios[0]:.2f} to {ratios[-1]:.2f})"
-    meant = f"at least {wanted}" if least is None else f"at most {amount(least)}"
-    print(f"| {name} | {amount(middles[0])} | {amount(middles[1])} | {reported} | {meant} | {'yes' if met else 'no'} |", flush=True)
+    meant, met = "", ""
+    if least is not None:
+        meant, met = f"at most {amount(least)}", "yes" if middles[0] <= least else "no"
+    elif wanted is not None:
+        meant, met = f"at least {wanted}", "yes" if statistics.median(ratios) >= wanted else "no"
+    print(f"| {name} | {amount(middles[0])} | {amount(middles[1])} | {reported} | {meant} | {met} |", flush=True)
 
 
 def blocks():
@@ -245,23 +273,33 @@ def blocks():
 
     last = NEW_YEAR + ROUNDS * TICKS * QUARTER
     below = ROUNDS * NUMBERS
-    yield "a tick each quarter of an hour", 1.0, parted([tick(NEW_YEAR + (place + 1) * QUARTER) for place in range(ROUNDS * TICKS)])
-    yield "a tick at which nothing is due", 1.0, parted([tick(last + place + 1) for place in range(ROUNDS * STILL)])
-    yield "a report of a day", 1.0, parted(reports(0, ROUNDS * REPORTS))
-    yield "a command below its panel's 1,000th", 1.0, parted(commands(range(1, below + 1)))
+    past = 1002 + below
+    yield "a tick each quarter of an hour", A_TICK, parted([tick(NEW_YEAR + (place + 1) * QUARTER) for place in range(ROUNDS * TICKS)])
+    yield "a tick at which nothing is due", AS_FAST, parted([tick(last + place + 1) for place in range(ROUNDS * STILL)])
+    yield "a report of a day", AS_FAST, parted(reports(0, ROUNDS * REPORTS))
+    yield "a command below its panel's 1,000th", AS_FAST, parted(commands(range(1, below + 1)))
     yield None, None, [commands(range(below + 1, 1002))]
-    yield "a command past it", 1.0, parted(commands(range(1002, 1002 + below)))
-    yield "a GET of a point", 1.0, parted(points(ROUNDS * POINTS))
+    yield "a command past it", AS_FAST, parted(commands(range(1002, past)))
+    yield "a command as Python writes JSON", AS_FAST, parted(commands(range(past, past + below), json.dumps))
+    yield "a command with its keys in another order", AS_FAST, parted(commands(range(past + below, past + 2 * below), as_node))
+    yield "a GET of a point", AS_FAST, parted(points(ROUNDS * POINTS))
 
 
-def served(programs):
+def forty_blocks():
+    """Ticks each of which moves one schedule of forty targets: one a minute, in the hours in which they change."""
+    days = [[tick(NEW_YEAR + day * 24 * HOUR + hour * HOUR + minute * MINUTE) for hour in (5, 8, 17, 21) for minute in range(1, 26)]
+            for day in range(1, ROUNDS + 1)]
+    yield "a tick that moves forty targets", A_TICK, days
+
+
+def served(programs, ready, rows):
     """The pairs of each row, of servers that are started in an order drawn anew, over databases of names drawn anew."""
     run = "run" + "-" * random.randrange(40)
-    started = {program: Server(program, program.copied("ready", run)) for program in random.sample(programs, len(programs))}
+    started = {program: Server(program, program.copied(ready, run)) for program in random.sample(programs, len(programs))}
     servers = [started[program] for program in programs]
     try:
         taken(servers, [tick(NEW_YEAR + 1), *reports(0, 1)])
-        for name, wanted, requests in blocks():
+        for name, wanted, requests in rows():
             first = random.randrange(2)
             pairs = [taken(servers, block, first + turn) for turn, block in enumerate(requests)]
             if name:
@@ -272,14 +310,40 @@ def served(programs):
             bench_database.fresh(program.database(run))
 
 
-def show_served(programs):
+def show_served(programs, ready, blocks):
     rows = {}
     for run in range(RUNS):
         print(f"run {run + 1} of {RUNS} of the rows that are served", file=sys.stderr, flush=True)
-        for name, wanted, pairs in served(programs):
+        for name, wanted, pairs in served(programs, ready, blocks):
             rows.setdefault((name, wanted), []).extend(pairs)
     for (name, wanted), pairs in rows.items():
-        show(name, pairs, wanted)
+        show_both(name, pairs, wanted)
+
+
+def show_starts(programs):
+    """Whole runs of a server that answers one request, over tables in which each panel has its 1,000 rows."""
+    full = [f"('PANEL-{panel + 1}', {number}, 'ROOM-1', 8, 2000, 1, 2000, 8)" for panel in range(LARGEST.panels) for number in range(1, 1001)]
+    nexts = [f"('PANEL-{panel + 1}', 1001)" for panel in range(LARGEST.panels)]
+    for program in programs:
+        path = program.copied("ready", "full")
+        with sqlite3.connect(path) as tables:
+            tables.execute("INSERT INTO command VALUES " + ", ".join(full))
+            tables.execute("INSERT INTO panel VALUES " + ", ".join(nexts))
+        tables.close()
+    pairs = [[started(program) for program in programs] for _ in range(STARTS)]
+    show_both("a start over 200,000 rows, with one GET", pairs, (None, None))
+
+
+def started(program):
+    """What a run of a server takes that is asked once, of the processor and on the clock."""
+    began = monotonic()
+    server = Server(program, program.database("full"), 1)
+    server.ask(points(1)[0])
+    _, status, used = os.wait4(server.ran.pid, 0)
+    server.ran.returncode = os.waitstatus_to_exitcode(status)
+    if status != 0:
+        sys.exit(f"{program.path} ended with status {server.ran.returncode}")
+    return used.ru_utime + used.ru_stime, monotonic() - began
 
 
 def show_served_imports(programs):
@@ -289,7 +353,7 @@ def show_served_imports(programs):
         servers = serving(programs)
         try:
             taken(servers, [tick(NEW_YEAR + 1)], turn)
-            pairs.append([taken(servers, [post("/imports", rows)], turn) for rows in (SECOND_ROWS, NEW_ROWS)])
+            pairs.append([[spent[0] for spent in taken(servers, [post("/imports", rows)], turn)] for rows in (SECOND_ROWS, NEW_ROWS)])
         finally:
             stop(servers)
     known, new = zip(*pairs)
@@ -445,16 +509,32 @@ def check_same(programs):
         replayed(programs, COMPARED // 20 if load == "ticks" else COMPARED, load)
 
 
+def written(building, name):
+    """The files of a building, as the desk and as the plain program read it."""
+    toml, text = FOLDER / f"{name}.toml", FOLDER / f"{name}.txt"
+    building.write(toml)
+    text.write_text("\n".join(plain_lines(tomllib.loads(toml.read_text()))) + "\n")
+    return toml, text
+
+
+def of_forty(programs):
+    """The two programs over the building whose schedules have forty targets each, once it has had its first tick."""
+    files = written(FORTY, "forty-targets")
+    programs = [dataclasses.replace(program, building=file) for program, file in zip(programs, files)]
+    keep(programs, "forty", None, [tick(NEW_YEAR)])
+    return programs
+
+
 def main(words):
     FOLDER.mkdir(parents=True, exist_ok=True)
-    toml, text = FOLDER / f"{LARGEST.points}-points.toml", FOLDER / f"{LARGEST.points}-points.txt"
-    LARGEST.write(toml)
-    text.write_text("\n".join(plain_lines(tomllib.loads(toml.read_text()))) + "\n")
+    toml, text = written(LARGEST, f"{LARGEST.points}-points")
     desk = pathlib.Path(words[0]).resolve() if words else ROOT / "build" / "desk"
     programs = [Program("desk", desk, toml), Program("plain", built_plain(), text)]
     check_same(programs)
     print("| Processor time, each | The desk | The C++ program | Ratio | Wanted | Met |\n|---|---|---|---|---|---|")
-    show_served(programs)
+    show_served(programs, "ready", blocks)
+    show_served(of_forty(programs), "forty", forty_blocks)
+    show_starts(programs)
     show_served_imports(programs)
     show_whole_imports(programs)
     show_replays(programs)

@@ -14,8 +14,8 @@ ROOT = pathlib.Path(__file__).resolve().parent.parent
 PARTS = ("src", "specs", "proofs")
 # The prover walks a gigabyte or two of memory. Told so, its allocator asks for large pages, which saves a tenth of its time.
 ENVIRONMENT = {**os.environ, "MIMALLOC_ALLOW_LARGE_OS_PAGES": "1"}
-# The kits with the logic that the proofs rest on, and whether each keeps what a run has proved for the next one.
-TOOLCHAINS = {"rattle-kit-13b logic dac8208d650f15bf": False, "rattle-kit-13f logic dac8208d650f15bf": True}
+# The kit with the logic that the proofs rest on. It keeps what a run has proved for the next one.
+TOOLCHAIN = "rattle-kit-13f logic dac8208d650f15bf"
 LEAST_PYTHON = (3, 11)
 # What `rt ci` says of a crate that ends.
 ENDED = re.compile(r"rt: (\w+) (proved|is kept|NOT PROVED)\b")
@@ -119,11 +119,6 @@ def toolchain():
     return subprocess.run(["rt", "version"], capture_output=True, text=True).stdout.strip()
 
 
-def keeps_proofs():
-    """Whether what a run has proved is there for the next one."""
-    return TOOLCHAINS.get(toolchain(), False)
-
-
 def free_memory():
     """The memory that is to be had, in bytes: the machine's, or what its control group leaves."""
     words = pathlib.Path("/proc/meminfo").read_text().split()
@@ -146,8 +141,8 @@ def lacks(memory, disk):
     except OSError:
         found.append("the command rt of the Rattle toolchain is not on the PATH")
     else:
-        if said not in TOOLCHAINS:
-            found.append(f"the toolchain {' or '.join(TOOLCHAINS)} is needed, and rt version says {said or 'nothing'}")
+        if said != TOOLCHAIN:
+            found.append(f"the toolchain {TOOLCHAIN} is needed, and rt version says {said or 'nothing'}")
     gigabytes = free_memory() / 1e9
     if gigabytes < memory:
         found.append(f"{memory} GB of free memory are needed, and {gigabytes:.1f} are free")
