@@ -89,12 +89,7 @@ impl<'a> AdoptionFault<'a> {
     pub fn of_finding(fault: FindFault, path: &'a str) -> AdoptionFault<'a> {
         match fault {
             FindFault::FirstVersion => AdoptionFault::FirstVersion { path },
-            FindFault::NotOpened(fault) => AdoptionFault::Run(match fault {
-                OpenFault::NoMemory => RunFault::NoMemory,
-                OpenFault::Failed => RunFault::Store(StoreFault::Failed),
-                OpenFault::UnknownTables => RunFault::UnknownTables,
-                OpenFault::BadRow => RunFault::Store(StoreFault::BadRow),
-            }),
+            FindFault::NotOpened(fault) => AdoptionFault::Run(RunFault::from(fault)),
         }
     }
 

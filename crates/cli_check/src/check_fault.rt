@@ -6,7 +6,6 @@ use cli_common::{RunFault, Status, print_fault};
 use std::alloc::{AllocError, Global};
 use std::fmt;
 use std::io::Write;
-use store::{OpenFault, StoreFault};
 
 /// Why a check stopped.
 #[derive(Drop)]
@@ -26,16 +25,6 @@ pub(crate) enum CheckFault<'a> {
 }
 
 impl<'a> CheckFault<'a> {
-    /// What ends a check whose store is not opened.
-    pub fn of_opening(fault: OpenFault) -> CheckFault<'a> {
-        CheckFault::Run(match fault {
-            OpenFault::NoMemory => RunFault::NoMemory,
-            OpenFault::Failed => RunFault::Store(StoreFault::Failed),
-            OpenFault::UnknownTables => RunFault::UnknownTables,
-            OpenFault::BadRow => RunFault::Store(StoreFault::BadRow),
-        })
-    }
-
     /// What the program ends with.
     pub fn status(&self) -> Status
         ensures { (result ≡ Status.Done) → ⊥ }

@@ -93,7 +93,7 @@ where
     match opener() {
         Ok(Some(store)) => Ok(store),
         Ok(None) => Err(CheckFault::NoDatabase { path: database }),
-        Err(fault) => Err(CheckFault::of_opening(fault)),
+        Err(fault) => Err(CheckFault::Run(RunFault::from(fault))),
     }
 }
 

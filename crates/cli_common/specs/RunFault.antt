@@ -6,6 +6,8 @@ use Rattle.building.specs.declared.building_refusal.BuildingFault.TheVariants as
 use Rattle.building.specs.FaultLine.{fault_line}
 use Rattle.store.specs.declared.StoreFault.{StoreFault}
 use Rattle.store.specs.declared.StoreFault.TheVariants as store
+use Rattle.store.specs.declared.open_fault.OpenFault.{OpenFault}
+use Rattle.store.specs.declared.open_fault.OpenFault.TheVariants as opening
 use Rattle.store.specs.FaultCode.{code_of}
 use Rattle.cli_common.specs.declared.run_fault.RunFault.{RunFault}
 use Rattle.building_holidays.specs.ImportTexts as holidays
@@ -39,3 +41,10 @@ fault_of_store store.NoMemory = NoMemory
 fault_of_store store.Failed = Store store.Failed
 fault_of_store store.Shut = Store store.Shut
 fault_of_store store.BadRow = Store store.BadRow
+
+-- what ends a run whose store is not opened
+abbrev pub fault_of_opening : OpenFault → RunFault
+fault_of_opening opening.NoMemory = NoMemory
+fault_of_opening opening.Failed = Store store.Failed
+fault_of_opening opening.UnknownTables = UnknownTables
+fault_of_opening opening.BadRow = Store store.BadRow

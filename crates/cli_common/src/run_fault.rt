@@ -9,7 +9,7 @@ use building_holidays::ImportFault;
 use std::alloc::{AllocError, Global};
 use std::io::Write;
 use std::{fmt, io};
-use store::StoreFault;
+use store::{OpenFault, StoreFault};
 
 /// Why a run of the program stopped. Its text is the line of the fault end, without the line end.
 #[derive(Clone, Copy)]
@@ -135,6 +135,21 @@ impl From<StoreFault> for RunFault<'_> {
         match fault {
             StoreFault::NoMemory => RunFault::NoMemory,
             _ => RunFault::Store(fault),
+        }
+    }
+}
+
+impl From<OpenFault> for RunFault<'_> {
+    ghost use Rattle.cli_common.specs.RunFault.{fault_of_opening};
+
+    ghost from_gives = { λ fault given. given ≡ fault_of_opening fault };
+
+    fn from(fault: OpenFault) -> Self {
+        match fault {
+            OpenFault::NoMemory => RunFault::NoMemory,
+            OpenFault::Failed => RunFault::Store(StoreFault::Failed),
+            OpenFault::UnknownTables => RunFault::UnknownTables,
+            OpenFault::BadRow => RunFault::Store(StoreFault::BadRow),
         }
     }
 }

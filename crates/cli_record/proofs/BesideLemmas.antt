@@ -1,5 +1,5 @@
 -- A store that was read beside a record.
-use Rattle.std.proofs.Common.{◌≡◌, ◌∙◌, ℕ, false, List, Option, Some, None, Result, Ok, Err, refl, sym, subst}
+use Rattle.std.proofs.Common.{◌≡◌, ◌∙◌, ℕ, Bool, true, false, ◌&&◌, not, is_none, List, [], ◌∷◌, ◌++◌, Option, option_to_list, Some, None, Result, Ok, Err, ap, refl, sym, subst, true≢false}
 use Rattle.std.specs.Prelude.{IfErr, IfOk}
 use Rattle.std.proofs.lemmas.Bool.{false≢true}
 use Rattle.std.proofs.lemmas.Option.{same_Some}
@@ -14,7 +14,8 @@ use Rattle.store.specs.Standing.{IsSettled, Reads, Standing}
 use Rattle.cli_record.specs.declared.difference.Difference.{Difference}
 use Rattle.cli_record.specs.declared.beside_fault.BesideFault.{BesideFault}
 use Rattle.cli_record.specs.Belonging.{IsMatched, IsOfRecord}
-use Rattle.cli_record.specs.Beside.{HoldsStill, OpensOver, RefusesBeside, RefusesOver, told_by}
+use Rattle.cli_record.specs.Beside.{HoldsStill, MissesDatabase, OpensOver, RefusesBeside, RefusesOver, tells_no_database, told_by}
+use Rattle.cli_record.specs.RecordRun.{Lists}
 use Rattle.cli_record.specs.Replayed.{IsReplayed}
 
 -- after any read
@@ -46,6 +47,44 @@ still-then first second third reads still = record {
 pub still-same : (standing : Standing) → IsSettled standing → HoldsStill standing standing
 still-same standing settled = record { honest = λ honest. honest; kept = λ honest going. refl; left = settled }
 
+-- ---- a record beside which no database was missing, or one was
+
+-- where a database is missing nothing was held back
+none-of : (is_missing : Bool) (last : Option Delivery) → (is_missing && not (is_none last)) ≡ false → is_missing ≡ true → last ≡ None
+none-of true None found missing = refl
+none-of true (Some delivery) found missing = absurd (true≢false found)
+none-of false last found missing = absurd (false≢true missing)
+
+pub lists-none : (b : Building) (bytes : List ℕ) (last : Option Delivery) (replayed : Standing) (is_missing : Bool)
+    → (is_missing && not (is_none last)) ≡ false → is_missing ≡ true → IsReplayed b bytes last replayed → Lists b bytes []
+lists-none b bytes last replayed is_missing found missing is =
+    let none = none-of is_missing last found missing in
+    subst (Lists b bytes) (ap (λ ds. ds ++ option_to_list last) (is.back.none none) ∙ ap option_to_list none) is.lists
+
+has-last : (before : List Delivery) (last : Delivery) → before ++ last ∷ [] ≡ [] → ⊥
+has-last [] last none = cc
+has-last (delivery ∷ before) last none = cc
+
+pub lists-some : (b : Building) (bytes : List ℕ) (last : Option Delivery) (replayed : Standing) → is_none last ≡ false
+    → IsReplayed b bytes last replayed → (deliveries : List Delivery) × Lists b bytes deliveries × (deliveries ≡ [] → ⊥)
+lists-some b bytes None replayed some is = absurd (true≢false some)
+lists-some b bytes (Some delivery) replayed some is = (is.made ++ delivery ∷ [], is.lists, has-last is.made delivery)
+
+-- where a database is missing beside deliveries that were held back, that is so
+pub misses_deliveries : (is_missing : Bool) (b : Building) (may_have : List ℕ → Type 0) (last : Option Delivery) (replayed : Standing)
+    → (is_missing && not (is_none last)) ≡ true → ((bytes : List ℕ) → may_have bytes → IsReplayed b bytes last replayed)
+    → (is_missing ≡ true)
+    × ((bytes : List ℕ) → may_have bytes → (deliveries : List Delivery) × Lists b bytes deliveries × (deliveries ≡ [] → ⊥))
+misses_deliveries false b may_have last replayed found replays = absurd (false≢true found)
+misses_deliveries true b may_have None replayed found replays = absurd (false≢true found)
+misses_deliveries true b may_have (Some delivery) replayed found replays =
+    (refl, λ bytes has. lists-some b bytes (Some delivery) replayed refl (replays bytes has))
+
+-- another fault tells nothing of it
+pub misses_none : (is_missing : Bool) (b : Building) (may_have : List ℕ → Type 0) (fault : BesideFault) → tells_no_database fault ≡ false
+    → MissesDatabase is_missing b may_have fault
+misses_none is_missing b may_have fault is = λ tells. absurd (false≢true (sym is ∙ tells))
+
 -- ---- a desk that is opened then, or not
 
 module _ (b : Building) (last : Option Delivery) (replayed old mid : Standing) (difference : Option Difference)
@@ -74,15 +113,20 @@ module _ (b : Building) (last : Option Delivery) (replayed old mid : Standing) (
       }
 
 -- a store that was opened, and is left as another one that is the same
-pub refuses-beside : {S : Type 0} (standing : S → Standing) (may_open : Result S OpenFault → Type 0) (b : Building)
+pub refuses-beside : {S : Type 0} (standing : S → Standing) (may_open : Result S OpenFault → Type 0) (is_missing : Bool) (b : Building)
     (may_have : List ℕ → Type 0) (fault : BesideFault) (last : Option Delivery) (replayed : Standing) (opened mid left : S)
-    → may_open (Ok opened) → ((bytes : List ℕ) → may_have bytes → IsReplayed b bytes last replayed) → Some mid ≡ Some left
-    → RefusesOver b last replayed (standing opened) (standing mid) fault → RefusesBeside standing may_open b may_have fault left
-refuses-beside standing may_open b may_have fault last replayed opened mid left is_opened replays same over =
-    subst (λ s. RefusesBeside standing may_open b may_have fault s) (same_Some _ _ same) (record {
-      opened = opened;
-      is_opened = is_opened;
-      still = over.still;
+    → may_open (Ok opened) → ((bytes : List ℕ) → may_have bytes → IsReplayed b bytes last replayed)
+    → (is_missing && not (is_none last)) ≡ false → Some mid ≡ Some left
+    → RefusesOver b last replayed (standing opened) (standing mid) fault
+    → RefusesBeside standing may_open is_missing b may_have fault (standing left)
+refuses-beside standing may_open is_missing b may_have fault last replayed opened mid left is_opened replays found same over =
+    subst (λ s. RefusesBeside standing may_open is_missing b may_have fault (standing s)) (same_Some _ _ same) (record {
+      reads = record {
+        opened = opened;
+        is_opened = is_opened;
+        made = λ missing bytes has. lists-none b bytes last replayed is_missing found missing (replays bytes has);
+        still = over.still;
+      };
       told = λ honest bytes has. over.told honest bytes (replays bytes has);
     })
 

@@ -1,5 +1,5 @@
 -- A store beside a record whose last delivery was held back.
-use Rattle.std.proofs.Common.{◌≡◌, ◌∙◌, ℕ, true, false, List, [], ◌∷◌, ◌++◌, Option, Some, None, is_some, append-nil, refl, sym, ap, subst, inl, inr}
+use Rattle.std.proofs.Common.{◌≡◌, ◌∙◌, ℕ, true, false, List, [], ◌∷◌, ◌++◌, Option, Some, None, is_some, option_to_list, append-nil, refl, sym, ap, subst, inl, inr}
 use Rattle.std.proofs.lemmas.Bool.{false≢true}
 use Rattle.building.specs.Building.{Building}
 use Rattle.deliveries.specs.declared.delivery.Delivery.{Delivery}
@@ -9,7 +9,7 @@ use Rattle.store.specs.Tables.{Tables}
 use Rattle.cli_record.specs.declared.difference.Difference.{Difference}
 use Rattle.cli_record.specs.Belonging.{Alike, AlikeOrTold, Belongs, IsMatched}
 use Rattle.cli_record.specs.RecordRun.{Lists}
-use Rattle.cli_record.specs.Replayed.{IsReplayed, held_back}
+use Rattle.cli_record.specs.Replayed.{IsReplayed}
 
 no_last : (before : List Delivery) (last : Delivery) → [] ≡ before ++ last ∷ [] → ⊥
 no_last [] last is = cc
@@ -26,7 +26,7 @@ same_before (x ∷ made) (y ∷ before) d last is =
 
 module _ (b : Building) (bytes : List ℕ) (held : Tables) (made : List Delivery) where
   -- the tables are those without what is held back
-  pub matched-before : (last : Option Delivery) → Lists b bytes (made ++ held_back last) → Alike b held (tables b made)
+  pub matched-before : (last : Option Delivery) → Lists b bytes (made ++ option_to_list last) → Alike b held (tables b made)
       → IsMatched b bytes held None
   matched-before None lists alike =
       (made ++ [], lists, inl (subst (λ ds. Alike b held (tables b ds)) (sym (append-nil made)) alike))
@@ -87,7 +87,7 @@ module _ (b : Building) (bytes : List ℕ) (held : Tables) (last : Option Delive
           → IsMatched b bytes held found
       by None some told = absurd (false≢true some)
       by (Some difference) some told =
-          matched-none b bytes held is.made difference (subst (λ l. Lists b bytes (is.made ++ held_back l)) nothing is.lists)
+          matched-none b bytes held is.made difference (subst (λ l. Lists b bytes (is.made ++ option_to_list l)) nothing is.lists)
           (is.back.none nothing) told
 
   -- something is told, and then the delivery that was held back is made
@@ -95,5 +95,5 @@ module _ (b : Building) (bytes : List ℕ) (held : Tables) (last : Option Delive
       → AlikeOrTold (Alike b held (tables b (is.made ++ delivery ∷ []))) held (tables b (is.made ++ delivery ∷ [])) found
       → IsMatched b bytes held found
   unlike-last some delivery there found told_then =
-      matched-all b bytes held is.made delivery found (subst (λ l. Lists b bytes (is.made ++ held_back l)) there is.lists)
+      matched-all b bytes held is.made delivery found (subst (λ l. Lists b bytes (is.made ++ option_to_list l)) there is.lists)
       (unlike _ held (tables b is.made) first some told-made) told_then

@@ -1,51 +1,45 @@
 -- A record, replayed line by line.
-use Rattle.std.proofs.Common.{◌≡◌, ◌∙◌, ℕ, true, false, List, [], ◌∷◌, ◌++◌, Option, Some, None, is_some, append_assoc, append-nil, refl, sym, ap, subst, inl}
+use Rattle.std.proofs.Common.{◌≡◌, ◌∙◌, ℕ, true, false, List, [], ◌∷◌, ◌++◌, Option, Some, None, is_some, option_to_list, append_assoc, append-nil, refl, sym, ap, subst, inl}
 use Rattle.std.proofs.lemmas.Bool.{false≢true}
 use Rattle.building.specs.Building.{Building}
 use Rattle.deliveries.specs.declared.delivery.Delivery.{Delivery}
 use Rattle.deliveries.specs.Delivered.{Holds}
 use Rattle.delivery_json.specs.LineEnds.{IsLine}
-use Rattle.desk_cli.proofs.CollectLemmas.{Collects-Collects}
-use Rattle.desk_cli.specs.ListLines.{Collects}
+use Rattle.desk_cli.proofs.CollectLemmas.{Collects-Collects, Collects-behind}
+use Rattle.desk_cli.specs.ListLines.{Collects, tells}
 use Rattle.desk_cli.specs.Replay.{deliveries_in, lines_of}
 use Rattle.store.specs.Standing.{Standing}
 use Rattle.cli_record.proofs.WholeLemmas.{lines-whole, whole-more}
 use Rattle.cli_record.specs.RecordRun.{Lists}
-use Rattle.cli_record.specs.Replayed.{IsReplayed, Makes, TakesWhole, held_back, tells}
+use Rattle.cli_record.specs.Replayed.{IsReplayed, Makes, TakesWhole}
 use Rattle.cli_record.specs.WholeLines.{IsWhole}
 
 -- ---- a delivery more
 
--- what lines add to nothing they add to anything
-collects-behind : (b : Building) (lines : List (List ℕ)) (earlier added : List Delivery) → Collects b lines [] added
-    → Collects b lines earlier (earlier ++ added)
-collects-behind b lines earlier added more =
-    record { read = more.read; read_is = more.read_is; added = ap (λ ds. earlier ++ ds) more.added }
-
 collects-line : (b : Building) (lines : List (List ℕ)) (line : List ℕ) (made : List Delivery) (next : Option Delivery)
-    → Collects b lines [] made → tells b line next → Collects b (lines ++ line ∷ []) [] (made ++ held_back next)
+    → Collects b lines [] made → tells b line next → Collects b (lines ++ line ∷ []) [] (made ++ option_to_list next)
 collects-line b lines line made next so_far one =
-    Collects-Collects b lines (line ∷ []) [] made (made ++ held_back next) so_far
-    (collects-behind b (line ∷ []) made (held_back next) one)
+    Collects-Collects b lines (line ∷ []) [] made (made ++ option_to_list next) so_far
+    (Collects-behind b (line ∷ []) made (option_to_list next) one)
 
 -- a line that tells none
 pub makes-none : (b : Building) (lines : List (List ℕ)) (line : List ℕ) (last : Option Delivery) (store : Standing) → tells b line None
     → Makes b lines last store → Makes b (lines ++ line ∷ []) last store
 makes-none b lines line last store one so_far = record {
   made = so_far.made;
-  collects = subst (λ ds. Collects b (lines ++ line ∷ []) [] ds) (append-nil (so_far.made ++ held_back last))
-      (collects-line b lines line (so_far.made ++ held_back last) None so_far.collects one);
+  collects = subst (λ ds. Collects b (lines ++ line ∷ []) [] ds) (append-nil (so_far.made ++ option_to_list last))
+      (collects-line b lines line (so_far.made ++ option_to_list last) None so_far.collects one);
   back = so_far.back;
 }
 
 -- a line that tells one, which is held back once the one before it is made
 pub makes-next : (b : Building) (lines : List (List ℕ)) (line : List ℕ) (last : Option Delivery) (next : Delivery) (old new : Standing)
     → tells b line (Some next)
-    → ((earlier : List Delivery) → Holds b earlier old → Holds b (earlier ++ held_back last) new)
+    → ((earlier : List Delivery) → Holds b earlier old → Holds b (earlier ++ option_to_list last) new)
     → Makes b lines last old → Makes b (lines ++ line ∷ []) (Some next) new
 makes-next b lines line last next old new one made so_far = record {
-  made = so_far.made ++ held_back last;
-  collects = collects-line b lines line (so_far.made ++ held_back last) (Some next) so_far.collects one;
+  made = so_far.made ++ option_to_list last;
+  collects = collects-line b lines line (so_far.made ++ option_to_list last) (Some next) so_far.collects one;
   back = record { holds = made so_far.made so_far.back.holds; none = λ is. cc };
 }
 
@@ -57,7 +51,7 @@ makes-left b lines line last (Some next) store none one so_far = absurd (false�
 
 pub makes-some : (b : Building) (lines : List (List ℕ)) (line : List ℕ) (last next : Option Delivery) (old new : Standing)
     → is_some next ≡ true → tells b line next
-    → ((earlier : List Delivery) → Holds b earlier old → Holds b (earlier ++ held_back last) new)
+    → ((earlier : List Delivery) → Holds b earlier old → Holds b (earlier ++ option_to_list last) new)
     → Makes b lines last old → Makes b (lines ++ line ∷ []) next new
 makes-some b lines line last None old new some one made so_far = absurd (false≢true some)
 makes-some b lines line last (Some next) old new some one made so_far = makes-next b lines line last next old new one made so_far
@@ -83,7 +77,7 @@ Replaying-start b bytes left last store left_is none holds = record {
   whole = inl refl;
   makes = record {
     made = [];
-    collects = record { read = []; read_is = refl; added = ap held_back none };
+    collects = record { read = []; read_is = refl; added = ap option_to_list none };
     back = record { holds = holds; none = λ is. refl };
   };
 }

@@ -1,5 +1,5 @@
 -- A store that is opened beside a record.
-use Rattle.std.specs.Prelude.{◌≡◌, ℕ, false, List, Option, Some, None, Result, Ok}
+use Rattle.std.specs.Prelude.{◌≡◌, ℕ, Bool, true, false, List, [], Option, Some, None, Result, Ok}
 use Rattle.building.specs.Building.{Building}
 use Rattle.deliveries.specs.declared.delivery.Delivery.{Delivery}
 use Rattle.store.specs.declared.open_fault.OpenFault.{OpenFault}
@@ -8,6 +8,7 @@ use Rattle.cli_record.specs.declared.difference.Difference.{Difference}
 use Rattle.cli_record.specs.declared.beside_fault.BesideFault.{BesideFault}
 use Rattle.cli_record.specs.declared.beside_fault.BesideFault.TheVariants.{NoDatabase, NotDelivery, OtherRecord, Run}
 use Rattle.cli_record.specs.Belonging.{IsMatched, IsOfRecord}
+use Rattle.cli_record.specs.RecordRun.{Lists}
 use Rattle.cli_record.specs.Replayed.{IsReplayed}
 
 -- a store was only read: it holds what it held, while it is open and as a stop leaves it
@@ -23,6 +24,13 @@ told_by (NotDelivery path line) = None
 told_by (NoDatabase path database) = None
 told_by (OtherRecord path database difference) = Some difference
 
+-- whether a fault tells that no database is there
+abbrev pub tells_no_database : BesideFault → Bool
+tells_no_database (Run fault) = false
+tells_no_database (NotDelivery path line) = false
+tells_no_database (NoDatabase path database) = true
+tells_no_database (OtherRecord path database difference) = false
+
 -- the store is open, and was only read; its tables are those of a record that was replayed so
 pub record OpensOver (building : Building) (last : Option Delivery) (replayed old new : Standing) : Type 0 where
   pub was_open : old.is_shut ≡ false
@@ -36,28 +44,31 @@ pub record RefusesOver (building : Building) (last : Option Delivery) (replayed 
   pub told : new.is_honest → (bytes : List ℕ) → IsReplayed building bytes last replayed → (difference : Difference)
       → told_by fault ≡ Some difference → IsMatched building bytes old.content.tables (Some difference)
 
--- the store is one that was opened, and was only read since; its tables are those of the record whose bytes may be these
-pub record OpensBeside {S : Type 0} (standing : S → Standing) (may_open : Result S OpenFault → Type 0) (building : Building)
-    (may_have : List ℕ → Type 0) (now : Standing) : Type 0 where
+-- The store is one that was opened, and was only read since. Where its database was missing, and so was made, the record whose
+-- bytes may be these has no delivery.
+pub record ReadsBeside {S : Type 0} (standing : S → Standing) (may_open : Result S OpenFault → Type 0) (is_missing : Bool)
+    (building : Building) (may_have : List ℕ → Type 0) (now : Standing) : Type 0 where
   pub opened : S
   pub is_opened : may_open (Ok opened)
-  pub was_open : (standing opened).is_shut ≡ false
-  pub is_open : now.is_shut ≡ false
+  pub made : is_missing ≡ true → (bytes : List ℕ) → may_have bytes → Lists building bytes []
   pub still : HoldsStill (standing opened) now
-  pub own : now.is_honest → (bytes : List ℕ) → may_have bytes → IsOfRecord building bytes (standing opened).content.tables
 
--- The store is one that was opened, and was only read since. Where a difference is told, its tables are not those of the record
--- whose bytes may be these, and differ there.
-pub record RefusesBeside {S : Type 0} (standing : S → Standing) (may_open : Result S OpenFault → Type 0) (building : Building)
-    (may_have : List ℕ → Type 0) (fault : BesideFault) (left : S) : Type 0 where
-  pub opened : S
-  pub is_opened : may_open (Ok opened)
-  pub still : HoldsStill (standing opened) (standing left)
-  pub told : (standing left).is_honest → (bytes : List ℕ) → may_have bytes → (difference : Difference)
-      → told_by fault ≡ Some difference → IsMatched building bytes (standing opened).content.tables (Some difference)
+-- and it is open, and its tables are those of that record
+pub record OpensBeside {S : Type 0} (standing : S → Standing) (may_open : Result S OpenFault → Type 0) (is_missing : Bool)
+    (building : Building) (may_have : List ℕ → Type 0) (now : Standing) : Type 0 where
+  pub reads : ReadsBeside standing may_open is_missing building may_have now
+  pub was_open : (standing reads.opened).is_shut ≡ false
+  pub is_open : now.is_shut ≡ false
+  pub own : now.is_honest → (bytes : List ℕ) → may_have bytes → IsOfRecord building bytes (standing reads.opened).content.tables
 
--- the store is one that was opened, and was only read since
-pub record ReadsBeside {S : Type 0} (standing : S → Standing) (may_open : Result S OpenFault → Type 0) (left : S) : Type 0 where
-  pub opened : S
-  pub is_opened : may_open (Ok opened)
-  pub still : HoldsStill (standing opened) (standing left)
+-- and where a difference is told, its tables are not those of that record, and differ there
+pub record RefusesBeside {S : Type 0} (standing : S → Standing) (may_open : Result S OpenFault → Type 0) (is_missing : Bool)
+    (building : Building) (may_have : List ℕ → Type 0) (fault : BesideFault) (now : Standing) : Type 0 where
+  pub reads : ReadsBeside standing may_open is_missing building may_have now
+  pub told : now.is_honest → (bytes : List ℕ) → may_have bytes → (difference : Difference)
+      → told_by fault ≡ Some difference → IsMatched building bytes (standing reads.opened).content.tables (Some difference)
+
+-- where it is told that no database is there, one is missing beside a record that has deliveries
+abbrev pub MissesDatabase : Bool → Building → (List ℕ → Type 0) → BesideFault → Type 0
+MissesDatabase is_missing building may_have fault = tells_no_database fault ≡ true → (is_missing ≡ true)
+    × ((bytes : List ℕ) → may_have bytes → (deliveries : List Delivery) × Lists building bytes deliveries × (deliveries ≡ [] → ⊥))

@@ -1,5 +1,6 @@
 -- What is made of the lines of a record, whose last delivery is held back.
 use Rattle.std.specs.Prelude.{◌≡◌, ◌++◌, ◌∷◌, ℕ, Bool, true, false, List, [], Option, Some, None, Result, Ok, Err, IfOk, IfSome}
+use Rattle.std.specs.Option.{option_to_list}
 use Rattle.building.specs.Building.{Building}
 use Rattle.deliveries.specs.declared.delivery.Delivery.{Delivery}
 use Rattle.deliveries.specs.Delivered.{Holds}
@@ -27,15 +28,6 @@ abbrev pub CutsEnd : List ℕ → Bool → List ℕ → Type 0
 CutsEnd bytes true line = bytes ≡ line ++ 10 ∷ []
 CutsEnd bytes false line = (before : List ℕ) → bytes ≡ before ++ 10 ∷ [] → ⊥
 
--- the delivery that is held back, if there is one
-abbrev pub held_back : Option Delivery → List Delivery
-held_back None = []
-held_back (Some delivery) = delivery ∷ []
-
--- what a line tells adds a delivery, or none
-abbrev pub tells : Building → List ℕ → Option Delivery → Type 0
-tells building line delivery = Collects building (line ∷ []) [] (held_back delivery)
-
 -- the store has the tables of what was made; what is held back comes after it, and is there if anything was made
 pub record HoldsBack (building : Building) (made : List Delivery) (last : Option Delivery) (store : Standing) : Type 0 where
   pub holds : Holds building made store
@@ -44,11 +36,11 @@ pub record HoldsBack (building : Building) (made : List Delivery) (last : Option
 -- what the lines tell was made, but for the last of it, which is held back
 pub record Makes (building : Building) (lines : List (List ℕ)) (last : Option Delivery) (store : Standing) : Type 0 where
   pub made : List Delivery
-  pub collects : Collects building lines [] (made ++ held_back last)
+  pub collects : Collects building lines [] (made ++ option_to_list last)
   pub back : HoldsBack building made last store
 
 -- the same of the whole lines of a record of these bytes
 pub record IsReplayed (building : Building) (bytes : List ℕ) (last : Option Delivery) (store : Standing) : Type 0 where
   pub made : List Delivery
-  pub lists : Lists building bytes (made ++ held_back last)
+  pub lists : Lists building bytes (made ++ option_to_list last)
   pub back : HoldsBack building made last store

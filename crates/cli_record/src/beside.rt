@@ -1,16 +1,16 @@
 //! A desk that is opened beside a record.
-ghost use Rattle.std.specs.Prelude.{◌≡◌, List, ℕ, IfErr, IfOk, None, Some};
+ghost use Rattle.std.specs.Prelude.{◌≡◌, ◌&&◌, List, ℕ, IfErr, IfOk, None, Some, false, is_none, not};
 ghost use Rattle.std.specs.Io.Buffered.{reader_remaining};
 ghost use Rattle.desk.specs.Opening.{Opens};
 ghost use Rattle.store.specs.Standing.{IsSettled, sound};
 ghost use Rattle.store.specs.Tables.{no_tables};
-ghost use Rattle.cli_record.specs.Beside.{HoldsStill, OpensBeside, OpensOver, RefusesBeside, RefusesOver, told_by};
+ghost use Rattle.cli_record.specs.Beside.{HoldsStill, MissesDatabase, OpensBeside, OpensOver, RefusesBeside, RefusesOver, tells_no_database, told_by};
 ghost use Rattle.cli_record.specs.Replayed.{MayHave};
 
 use crate::beside_fault::BesideFault;
 use crate::replayed::{Matched, Replayed, replay_record};
 use building::Building;
-use cli_common::ListInput;
+use cli_common::{ListInput, RunFault};
 use desk::Desk;
 use std::alloc::Global;
 use std::io::{self, BufReader, Read};
@@ -47,6 +47,7 @@ fn desk_over<'a, S: Store + Drop>(
         × Opens matched.building None (S.standing store) (S.standing desk.store)) }
     ensures refused { IfErr result (λ end. (told_by end.fault ≡ matched.difference)
         × ((left : S) × (end.store ≡ Some left) × (IsSettled (S.standing store) → HoldsStill (S.standing store) (S.standing left)))) }
+    ensures found { IfErr result (λ end. tells_no_database end.fault ≡ false) }
 {
     let Matched {
         building,
@@ -86,18 +87,27 @@ fn open_over<'a, S: Store + Drop, T: Store + Drop>(
         (S.standing store) (S.standing desk.store)) }
     ensures refused { IfErr result (λ end. (left : S) × (end.store ≡ Some left)
         × RefusesOver replayed.building replayed.last (T.standing replayed.store) (S.standing store) (S.standing left) end.fault) }
+    ensures found { IfErr result (λ end. tells_no_database end.fault ≡ false) }
 {
     let mut store = store;
     match replayed.matched(alloc, &mut store) {
         Ok(matched) => desk_over(alloc, matched, store, record_path, database),
         Err(fault) => Err(Unopened {
-            fault: BesideFault::of_comparing(fault),
+            fault: BesideFault::from(RunFault::from(fault)),
             store: Some(store),
         }),
     }
 }
 
+/// Whether a database is missing beside a record that has deliveries.
+fn lacks_database<T: Store + Drop>(is_missing: bool, replayed: &Replayed<T>) -> bool
+    ensures { result ≡ (is_missing && not (is_none replayed.now.last)) }
+{
+    is_missing && !replayed.is_empty()
+}
+
 /// The same, over the record that is read and the store that is opened, with an empty store in memory.
+#[tactic(auto, using(crate::proofs::BesideLemmas::misses_none))]
 fn open_with<'a, R: Read + Drop, P, S: Store + Drop, O, T: Store + Drop>(
     alloc: Global,
     building: Building,
@@ -113,12 +123,14 @@ where
     requires empty { (T.standing empty).content ≡ sound no_tables }
     requires honest { (t : T) → (T.standing t).is_honest }
     ensures building { IfOk result (λ desk. desk.building ≡ building) }
-    ensures opened { IfOk result (λ desk. OpensBeside S.standing (O.post database.entry.opener) building
+    ensures opened { IfOk result (λ desk. OpensBeside S.standing (O.post database.entry.opener) database.entry.is_missing building
         (MayHave (P.post list.entry.open) (reader_remaining R.remaining)) (S.standing desk.store)) }
     ensures refused { IfErr result (λ end. (left : S) → end.store ≡ Some left
-        → RefusesBeside S.standing (O.post database.entry.opener) building
-        (MayHave (P.post list.entry.open) (reader_remaining R.remaining)) end.fault left) }
+        → RefusesBeside S.standing (O.post database.entry.opener) database.entry.is_missing building
+        (MayHave (P.post list.entry.open) (reader_remaining R.remaining)) end.fault (S.standing left)) }
     ensures told { IfErr result (λ end. end.store ≡ None → told_by end.fault ≡ None) }
+    ensures no_database { IfErr result (λ end. MissesDatabase database.entry.is_missing building
+        (MayHave (P.post list.entry.open) (reader_remaining R.remaining)) end.fault) }
 {
     let record_path = list.path;
     let Database {
@@ -135,7 +147,7 @@ where
             });
         }
     };
-    if is_missing && !replayed.is_empty() {
+    if lacks_database(is_missing, &replayed) {
         let fault = BesideFault::NoDatabase {
             path: record_path,
             database: path,
@@ -145,7 +157,7 @@ where
     match opener() {
         Ok(store) => open_over(alloc, replayed, store, record_path, path),
         Err(fault) => Err(Unopened {
-            fault: BesideFault::of_opening(fault),
+            fault: BesideFault::from(RunFault::from(fault)),
             store: None,
         }),
     }
@@ -167,12 +179,14 @@ where
     requires read { P.IsAlwaysCallable list.open }
     requires opened { O.IsAlwaysCallable database.opener }
     ensures building { IfOk result (λ desk. desk.building ≡ building) }
-    ensures opened { IfOk result (λ desk. OpensBeside S.standing (O.post database.entry.opener) building
+    ensures opened { IfOk result (λ desk. OpensBeside S.standing (O.post database.entry.opener) database.entry.is_missing building
         (MayHave (P.post list.entry.open) (reader_remaining R.remaining)) (S.standing desk.store)) }
     ensures refused { IfErr result (λ end. (left : S) → end.store ≡ Some left
-        → RefusesBeside S.standing (O.post database.entry.opener) building
-        (MayHave (P.post list.entry.open) (reader_remaining R.remaining)) end.fault left) }
+        → RefusesBeside S.standing (O.post database.entry.opener) database.entry.is_missing building
+        (MayHave (P.post list.entry.open) (reader_remaining R.remaining)) end.fault (S.standing left)) }
     ensures told { IfErr result (λ end. end.store ≡ None → told_by end.fault ≡ None) }
+    ensures no_database { IfErr result (λ end. MissesDatabase database.entry.is_missing building
+        (MayHave (P.post list.entry.open) (reader_remaining R.remaining)) end.fault) }
 {
     open_with(alloc, building, list, database, MemStore::new(alloc))
 }

@@ -1,14 +1,13 @@
 //! Why a desk is not opened beside a record, or a run over one stopped.
-ghost use Rattle.std.specs.Prelude.{◌≡◌, None};
-ghost use Rattle.cli_record.specs.Beside.{told_by};
+ghost use Rattle.std.specs.Prelude.{◌≡◌, None, false};
+ghost use Rattle.cli_record.specs.Beside.{tells_no_database, told_by};
 
-use crate::comparing::CompareFault;
 use crate::difference::Difference;
 use cli_common::{RunFault, Status, print_fault};
 use std::alloc::Global;
 use std::fmt;
 use std::io::Write;
-use store::{OpenFault, StoreFault};
+use store::StoreFault;
 
 /// Why a run over a database, and the record that is kept beside it, stopped. Its text is the line of the fault end,
 /// without the line end.
@@ -35,31 +34,10 @@ pub enum BesideFault<'a> {
 }
 
 impl<'a> BesideFault<'a> {
-    /// What ends a run whose store is not opened.
-    pub(crate) fn of_opening(fault: OpenFault) -> BesideFault<'a>
-        ensures { told_by result ≡ None }
-    {
-        BesideFault::Run(match fault {
-            OpenFault::NoMemory => RunFault::NoMemory,
-            OpenFault::Failed => RunFault::Store(StoreFault::Failed),
-            OpenFault::UnknownTables => RunFault::UnknownTables,
-            OpenFault::BadRow => RunFault::Store(StoreFault::BadRow),
-        })
-    }
-
-    /// What ends a run whose tables are not compared.
-    pub(crate) fn of_comparing(fault: CompareFault) -> BesideFault<'a>
-        ensures { told_by result ≡ None }
-    {
-        BesideFault::Run(match fault {
-            CompareFault::Held(fault) | CompareFault::Recorded(fault) => RunFault::from(fault),
-            CompareFault::NoMemory => RunFault::NoMemory,
-        })
-    }
-
     /// What ends a run whose record, of this path, is not replayed.
     pub(crate) fn of_replay(fault: RunFault<'a>, path: &'a str) -> BesideFault<'a>
-        ensures { told_by result ≡ None }
+        ensures difference { told_by result ≡ None }
+        ensures found { tells_no_database result ≡ false }
     {
         match fault {
             RunFault::NotDelivery { line } => BesideFault::NotDelivery { path, line },
@@ -109,10 +87,10 @@ impl fmt::Display for BesideFault<'_> {
 }
 
 impl<'a> From<RunFault<'a>> for BesideFault<'a> {
-    ghost use Rattle.std.specs.Prelude.{◌≡◌, None};
-    ghost use Rattle.cli_record.specs.Beside.{told_by};
+    ghost use Rattle.std.specs.Prelude.{◌≡◌, None, false};
+    ghost use Rattle.cli_record.specs.Beside.{tells_no_database, told_by};
 
-    ghost from_gives = { λ _ given. told_by given ≡ None };
+    ghost from_gives = { λ _ given. (told_by given ≡ None) × (tells_no_database given ≡ false) };
 
     fn from(fault: RunFault<'a>) -> Self {
         BesideFault::Run(fault)
@@ -120,10 +98,10 @@ impl<'a> From<RunFault<'a>> for BesideFault<'a> {
 }
 
 impl From<StoreFault> for BesideFault<'_> {
-    ghost use Rattle.std.specs.Prelude.{◌≡◌, None};
-    ghost use Rattle.cli_record.specs.Beside.{told_by};
+    ghost use Rattle.std.specs.Prelude.{◌≡◌, None, false};
+    ghost use Rattle.cli_record.specs.Beside.{tells_no_database, told_by};
 
-    ghost from_gives = { λ _ given. told_by given ≡ None };
+    ghost from_gives = { λ _ given. (told_by given ≡ None) × (tells_no_database given ≡ false) };
 
     fn from(fault: StoreFault) -> Self {
         BesideFault::Run(RunFault::from(fault))

@@ -11,6 +11,7 @@ use crate::places::compare_points;
 use crate::same_row::is_same_value;
 use crate::schedules::compare_schedules;
 use building::Building;
+use cli_common::RunFault;
 use std::alloc::{AllocError, AllocFailed, Global};
 use store::{Store, StoreFault};
 
@@ -23,6 +24,15 @@ pub enum CompareFault {
     Recorded(StoreFault),
     /// Memory was refused.
     NoMemory,
+}
+
+impl From<CompareFault> for RunFault<'_> {
+    fn from(fault: CompareFault) -> Self {
+        match fault {
+            CompareFault::Held(fault) | CompareFault::Recorded(fault) => RunFault::from(fault),
+            CompareFault::NoMemory => RunFault::NoMemory,
+        }
+    }
 }
 
 impl From<StoreFault> for CompareFault {

@@ -66,7 +66,7 @@ fn compare_with<'a, S: Store, T: Store + Drop>(
     let mut of_record = deliver_all(alloc, replayed, empty, deliveries)?;
     match compare_tables(alloc, building, store, &mut of_record) {
         Ok(found) => Ok(found),
-        Err(fault) => Err(RecordRunFault::of_comparing(fault)),
+        Err(fault) => Err(RecordRunFault::Run(RunFault::from(fault))),
     }
 }
 
@@ -137,7 +137,7 @@ where
     let store = match finder() {
         Ok(Some(store)) => store,
         Ok(None) => return Err(RecordRunFault::NoDatabase { path: database }),
-        Err(fault) => return Err(RecordRunFault::of_opening(fault)),
+        Err(fault) => return Err(RecordRunFault::Run(RunFault::from(fault))),
     };
     match Desk::open(alloc, building, store) {
         Ok(desk) => Ok(desk.into_store()),

@@ -1,13 +1,12 @@
 //! Why a comparison with a record stopped.
 ghost use Rattle.std.specs.Prelude.{◌≡◌};
 
-use crate::comparing::CompareFault;
 use building::BuildingFault;
 use cli_common::{RunFault, Status, print_fault};
 use std::alloc::{AllocError, Global};
 use std::fmt;
 use std::io::{self, Write};
-use store::{OpenFault, StoreFault};
+use store::StoreFault;
 
 /// Why the run stopped.
 #[derive(Clone, Copy)]
@@ -19,24 +18,6 @@ pub(crate) enum RecordRunFault<'a> {
 }
 
 impl<'a> RecordRunFault<'a> {
-    /// What ends a run whose store is not opened.
-    pub fn of_opening(fault: OpenFault) -> RecordRunFault<'a> {
-        RecordRunFault::Run(match fault {
-            OpenFault::NoMemory => RunFault::NoMemory,
-            OpenFault::Failed => RunFault::Store(StoreFault::Failed),
-            OpenFault::UnknownTables => RunFault::UnknownTables,
-            OpenFault::BadRow => RunFault::Store(StoreFault::BadRow),
-        })
-    }
-
-    /// What ends a run whose tables are not compared.
-    pub fn of_comparing(fault: CompareFault) -> RecordRunFault<'a> {
-        RecordRunFault::Run(match fault {
-            CompareFault::Held(fault) | CompareFault::Recorded(fault) => RunFault::from(fault),
-            CompareFault::NoMemory => RunFault::NoMemory,
-        })
-    }
-
     /// What the program ends with.
     pub fn status(&self) -> Status
         ensures { (result ≡ Status.Done) → ⊥ }

@@ -8,16 +8,19 @@ ghost use Rattle.store.specs.Standing.{IsOpen, Reads, sound};
 ghost use Rattle.store.specs.Tables.{no_tables};
 ghost use Rattle.cli_record.specs.Belonging.{Alike, AlikeOrTold, IsMatched};
 ghost use Rattle.cli_record.specs.Compared.{held_fault};
-ghost use Rattle.cli_record.specs.Replayed.{IsFound, IsReplayed, Makes, MayHave, held_back, tells};
+ghost use Rattle.std.specs.Option.{option_to_list};
+ghost use Rattle.desk_cli.specs.ListLines.{tells};
+ghost use Rattle.cli_record.specs.Replayed.{IsFound, IsReplayed, Makes, MayHave};
 
 use crate::belonging::first_difference;
 use crate::comparing::CompareFault;
 use crate::difference::Difference;
-use crate::record_lines::{delivery_in, read_whole_line};
+use crate::record_lines::read_whole_line;
 use building::Building;
 use cli_common::{ListInput, RunFault};
 use deliveries::Delivery;
 use desk::Desk;
+use desk_cli::delivery_in;
 use json::Scratch;
 use std::alloc::Global;
 use std::io::{self, BufReader, Read};
@@ -43,7 +46,7 @@ pub(crate) struct Matched {
 fn make<S: Store + Drop>(desk: &mut Desk<S>, delivery: &Option<Delivery>) -> Result<(), StoreFault>
     ensures made { OnOk result ((earlier : List a_delivery) → (S.standing desk.new.store).is_honest
         → Holds desk.old.building earlier (S.standing desk.old.store)
-        → Holds desk.old.building (earlier ++ held_back delivery.now) (S.standing desk.new.store)) }
+        → Holds desk.old.building (earlier ++ option_to_list delivery.now) (S.standing desk.new.store)) }
     ensures honest { (S.standing desk.new.store).is_honest → (S.standing desk.old.store).is_honest }
     ensures building { desk.new.building ≡ desk.old.building }
 {

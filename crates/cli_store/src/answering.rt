@@ -27,7 +27,7 @@ use desk_record::{NoRecord, Recorder, Undelivered};
 use sqlite_disk::Disk;
 use std::alloc::{AllocError, Global};
 use std::io::{self, BufReader, Read, Write};
-use store::{OpenFault, Store, StoreFault};
+use store::{OpenFault, Store};
 
 /// What was answered, the store as it stands then, and the disk of the record, if one is kept.
 #[derive(Drop)]
@@ -42,16 +42,6 @@ pub(crate) struct Answered<S, D> {
 struct Replied<D> {
     reply: Reply,
     disk: Option<D>,
-}
-
-/// What ends a run whose store is not opened.
-fn fault_of<'a>(fault: OpenFault) -> RunFault<'a> {
-    match fault {
-        OpenFault::NoMemory => RunFault::NoMemory,
-        OpenFault::Failed => RunFault::Store(StoreFault::Failed),
-        OpenFault::UnknownTables => RunFault::UnknownTables,
-        OpenFault::BadRow => RunFault::Store(StoreFault::BadRow),
-    }
 }
 
 /// A desk over the store that is opened.
@@ -77,7 +67,7 @@ where
                 store: Some(store),
             }),
         },
-        Err(fault) => Err(Stopped::from(fault_of(fault))),
+        Err(fault) => Err(Stopped::from(RunFault::from(fault))),
     }
 }
 
@@ -100,10 +90,11 @@ where
     ensures behind { (earlier : List a_delivery)
         → Opens (O.post database.entry.opener) (λ store. IsBehind building earlier (S.standing store))
         → IfOk result (λ it. (S.standing it.store).is_honest → IsBehind building earlier (S.standing it.store)) }
-    ensures opened { IsSome path.entry → IfOk result (λ it. OpensBeside S.standing (O.post database.entry.opener) building
+    ensures opened { IsSome path.entry → IfOk result (λ it. OpensBeside S.standing (O.post database.entry.opener) database.entry.is_missing building
         (MayHave (P.post reader) (reader_remaining R.remaining)) (S.standing it.store)) }
     ensures refused { IsSome path.entry → IfErr result (λ end. (left : S) → end.store ≡ Some left
-        → ReadsBeside S.standing (O.post database.entry.opener) left) }
+        → ReadsBeside S.standing (O.post database.entry.opener) database.entry.is_missing building
+        (MayHave (P.post reader) (reader_remaining R.remaining)) (S.standing left)) }
 {
     let Some(path) = path else {
         return open_desk(alloc, building, database.opener);
@@ -257,12 +248,12 @@ where
     ensures guarded { IsSome opening.entry.recording.path → (file_bytes list_bytes : List ℕ)
         → bytes_of B.remaining file.entry.reader ≡ Some file_bytes
         → MayHave (P.post opening.entry.recording.reader) (reader_remaining R.remaining) list_bytes
-        → IfOk result (λ answered. IsGuarded S.standing (O.post opening.entry.database.opener) file_bytes list_bytes answered.store) }
+        → IfOk result (λ answered. IsGuarded S.standing (O.post opening.entry.database.opener) opening.entry.database.is_missing file_bytes list_bytes answered.store) }
     ensures stopped { IsSome opening.entry.recording.path → (file_bytes list_bytes : List ℕ)
         → bytes_of B.remaining file.entry.reader ≡ Some file_bytes
         → MayHave (P.post opening.entry.recording.reader) (reader_remaining R.remaining) list_bytes
         → IfErr result (λ end. (left : S) → end.store ≡ Some left
-        → IsGuarded S.standing (O.post opening.entry.database.opener) file_bytes list_bytes left) }
+        → IsGuarded S.standing (O.post opening.entry.database.opener) opening.entry.database.is_missing file_bytes list_bytes left) }
 {
     let Opening {
         database,

@@ -68,7 +68,7 @@ where
         → bytes_of B.remaining file.entry.reader ≡ Some file_bytes
         → MayHave (P.post opening.entry.recording.reader) (reader_remaining R.remaining) list_bytes
         → (left : S) → result.ended.store ≡ Some left
-        → IsGuarded S.standing (O.post opening.entry.database.opener) file_bytes list_bytes left }
+        → IsGuarded S.standing (O.post opening.entry.database.opener) opening.entry.database.is_missing file_bytes list_bytes left }
     ensures quiet { result.ended.status ≡ Status.Done → Keeps (F.contents fault.old) (F.contents fault.new) }
 {
     match answer(alloc, file, asked, opening, out) {

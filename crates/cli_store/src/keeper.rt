@@ -131,7 +131,7 @@ where
     };
     match resume(alloc, desk, disk) {
         Ok(record) => Ok(record),
-        Err(fault) => Err(fault_of(fault, path)),
+        Err(end) => Err(fault_of(end.fault, path)),
     }
 }
 

@@ -73,7 +73,7 @@ where
         → bytes_of B.remaining file.entry.reader ≡ Some file_bytes
         → MayHave (P.post opening.entry.recording.reader) (reader_remaining R.remaining) list_bytes
         → (left : S) → result.store ≡ Some left
-        → IsGuarded S.standing (O.post opening.entry.database.opener) file_bytes list_bytes left }
+        → IsGuarded S.standing (O.post opening.entry.database.opener) opening.entry.database.is_missing file_bytes list_bytes left }
     ensures quiet { result.status ≡ Status.Done → Keeps (F.contents fault.old) (F.contents fault.new) }
 {
     match serve_over(rt, file, opening, serving, out) {
@@ -112,12 +112,12 @@ where
         → bytes_of B.remaining file.entry.reader ≡ Some file_bytes
         → MayHave (P.post opening.entry.recording.reader) (reader_remaining R.remaining) list_bytes
         → IfOk result (λ ended. (left : S) → ended.store ≡ Some left
-        → IsGuarded S.standing (O.post opening.entry.database.opener) file_bytes list_bytes left) }
+        → IsGuarded S.standing (O.post opening.entry.database.opener) opening.entry.database.is_missing file_bytes list_bytes left) }
     ensures stopped { IsSome opening.entry.recording.path → (file_bytes list_bytes : List ℕ)
         → bytes_of B.remaining file.entry.reader ≡ Some file_bytes
         → MayHave (P.post opening.entry.recording.reader) (reader_remaining R.remaining) list_bytes
         → IfErr result (λ end. (left : S) → end.store ≡ Some left
-        → IsGuarded S.standing (O.post opening.entry.database.opener) file_bytes list_bytes left) }
+        → IsGuarded S.standing (O.post opening.entry.database.opener) opening.entry.database.is_missing file_bytes list_bytes left) }
     ensures listening { OnOk result (Appends (W.contents out.old) (W.contents out.new) (listening_line serving.now.address.now)) }
 {
     let alloc = rt.alloc();

@@ -33,6 +33,12 @@ collects_refused b line ds refused some one = record {
 
 -- ---- some lines, and then more
 
+-- what lines add to nothing they add to anything
+pub Collects-behind : (b : Building) (lines : List (List ℕ)) (earlier added : List Delivery) → Collects b lines [] added
+    → Collects b lines earlier (earlier ++ added)
+Collects-behind b lines earlier added more =
+    record { read = more.read; read_is = more.read_is; added = ap (λ ds. earlier ++ ds) more.added }
+
 pub Collects-Collects : (b : Building) (ls ms : List (List ℕ)) (x y z : List Delivery) → Collects b ls x y → Collects b ms y z
     → Collects b (ls ++ ms) x z
 Collects-Collects b ls ms x y z first more = record {

@@ -1,5 +1,6 @@
 -- How the lines of a list are read, one after another.
 use Rattle.std.specs.Prelude.{◌≡◌, ℕ, Bool, true, false, List, [], ◌∷◌, ◌++◌, Option, Some}
+use Rattle.std.specs.Option.{option_to_list}
 use Rattle.building.specs.Building.{Building}
 use Rattle.deliveries.specs.declared.delivery.Delivery.{Delivery}
 use Rattle.delivery_json.specs.declared.parsed_line.ParsedLine.{ParsedLine}
@@ -15,3 +16,7 @@ pub record Collects (building : Building) (lines : List (List ℕ)) (old new : L
   pub read : List ParsedLine
   pub read_is : parsed_by building lines ≡ Some read
   pub added : new ≡ old ++ deliveries_in read
+
+-- what a line tells adds a delivery, or none
+abbrev pub tells : Building → List ℕ → Option Delivery → Type 0
+tells building line delivery = Collects building (line ∷ []) [] (option_to_list delivery)

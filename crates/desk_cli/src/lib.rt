@@ -5,12 +5,12 @@
 //! of each point (`points`). `answer_line` delivers to a desk what a line says (`delivery_json`), and gives the text of
 //! the reply. `straighten` reads the whole list first, and then prints its straight list (`desk_straighten`), a line
 //! for each delivery. `list_deliveries` is what a run that reads the whole list first calls, or `read_deliveries` with
-//! a reader of its own. What they share with the other subcommands, faults and statuses among it, is `cli_common`'s.
+//! a reader of its own; `delivery_in` gives the delivery of one line. What they share with the other subcommands, faults and statuses among it, is `cli_common`'s.
 #![tactic(auto)]
 
 pub use describe_run::describe;
 pub use line_answer::answer_line;
-pub use list_reading::{list_deliveries, read_deliveries};
+pub use list_reading::{delivery_in, list_deliveries, read_deliveries};
 pub use replay_run::replay;
 pub use straighten_run::straighten;
 

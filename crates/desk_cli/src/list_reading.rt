@@ -3,7 +3,7 @@
 ghost use Rattle.std.specs.Prelude.{◌≡◌, List, ℕ, [], ◌∷◌, ◌++◌, IfOk, OnOk, Some};
 ghost use Rattle.std.specs.Io.Buffered.{reader_remaining};
 ghost use Rattle.cli_common.specs.Input.{bytes_of};
-ghost use Rattle.desk_cli.specs.ListLines.{Collects};
+ghost use Rattle.desk_cli.specs.ListLines.{Collects, tells};
 ghost use Rattle.desk_cli.specs.Replay.{Opens, lines_of, lines_until};
 
 use crate::list_end::is_past;
@@ -76,7 +76,29 @@ pub fn read_deliveries<'a, D: Read + Drop>(
     Err(RunFault::CannotRead { path })
 }
 
-/// Adds the delivery of one line, with its number from 1, unless it is empty or its holiday list is at fault.
+/// The delivery of one line, without its end, whose number is counted from 1; none in an empty one, and none of an import
+/// whose holiday list is at fault. A line that is no delivery, and lack of memory are the faults.
+pub fn delivery_in<'a>(
+    alloc: Global,
+    scratch: &mut Scratch,
+    building: &Building,
+    number: u64,
+    line: &[u8],
+) -> Result<Option<Delivery>, RunFault<'a>>
+    ensures { IfOk result (λ delivery. tells building.now line.now delivery) }
+{
+    if is_empty(line) {
+        return Ok(None);
+    }
+    match parse_line(alloc, scratch, building, line) {
+        Ok(ParsedLine::Delivery(delivery)) => Ok(Some(delivery)),
+        Ok(ParsedLine::RefusedImport(_)) => Ok(None),
+        Err(LineFault::NotDelivery) => Err(RunFault::NotDelivery { line: number }),
+        Err(LineFault::NotDone(fault)) => Err(RunFault::from(fault)),
+    }
+}
+
+/// Adds the delivery of one line, if it tells one.
 fn collect_line<'a>(
     alloc: Global,
     scratch: &mut Scratch,
@@ -87,17 +109,12 @@ fn collect_line<'a>(
 ) -> Result<(), RunFault<'a>>
     ensures { OnOk result (Collects building.now (line.now ∷ []) deliveries.old.items deliveries.new.items) }
 {
-    if is_empty(line) {
-        return Ok(());
-    }
-    match parse_line(alloc, scratch, building, line) {
-        Ok(ParsedLine::Delivery(delivery)) => {
+    match delivery_in(alloc, scratch, building, number, line)? {
+        Some(delivery) => {
             push_delivery(deliveries, delivery)?;
             Ok(())
         }
-        Ok(ParsedLine::RefusedImport(_)) => Ok(()),
-        Err(LineFault::NotDelivery) => Err(RunFault::NotDelivery { line: number }),
-        Err(LineFault::NotDone(fault)) => Err(RunFault::from(fault)),
+        None => Ok(()),
     }
 }
 

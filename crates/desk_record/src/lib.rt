@@ -12,7 +12,7 @@ pub use laws::{each_beginning_may_be_torn, twice_leaves_the_tables};
 pub use no_record::NoRecord;
 pub use record::Record;
 pub use recorder::{RecordFault, Recorder};
-pub use resume_fault::ResumeFault;
+pub use resume_fault::{NotResumed, ResumeFault};
 pub use resuming::resume;
 
 mod again;
@@ -27,5 +27,3 @@ mod recorder;
 mod resume_fault;
 mod resuming;
 mod same_delivery;
-#[cfg(test)]
-mod trials;

@@ -17,3 +17,10 @@ pub enum ResumeFault {
     /// The last line was not delivered once more.
     Store(StoreFault),
 }
+
+/// A record that is not taken up again: why, and its disk as it stands then.
+#[derive(Drop)]
+pub struct NotResumed<D> {
+    pub fault: ResumeFault,
+    pub disk: D,
+}

@@ -12,7 +12,7 @@ use crate::again::deliver_again;
 use crate::last_line::{Ending, read_ending};
 use crate::record::Record;
 use crate::recorder::Recorder;
-use crate::resume_fault::ResumeFault;
+use crate::resume_fault::{NotResumed, ResumeFault};
 use desk::Desk;
 use json::Scratch;
 use sqlite_disk::Disk;
@@ -91,7 +91,7 @@ fn catch_up_store<S: Store + Drop>(desk: &mut Desk<S>, ending: &Ending) -> Resul
 
 /// Takes off what stands after the whole lines of a record, and makes the delivery of the last of them once more.
 /// Answers how many bytes there are then.
-pub(crate) fn catch_up<S: Store + Drop, D: Disk>(
+fn catch_up<S: Store + Drop, D: Disk>(
     alloc: Global,
     scratch: &mut Scratch,
     desk: &mut Desk<S>,
@@ -133,7 +133,7 @@ pub fn resume<S: Store + Drop, D: Disk + Drop>(
     alloc: Global,
     desk: &mut Desk<S>,
     disk: D,
-) -> Result<Record<D>, ResumeFault>
+) -> Result<Record<D>, NotResumed<D>>
     ensures lists { IfOk result (λ taken. IsTrue (D.Disk.is_clean taken.lines.disk)
         → listed desk.old.building (D.Disk.seen taken.lines.disk) ≡ listed desk.old.building (D.Disk.seen disk)) }
     ensures torn { IfOk result (λ taken. IsTrue (D.Disk.is_clean taken.lines.disk)
@@ -143,11 +143,19 @@ pub fn resume<S: Store + Drop, D: Disk + Drop>(
         → IsBehind desk.old.building (listed desk.old.building (D.Disk.seen disk)) (S.standing desk.old.store)
         → InStep desk.old.building (⟦<Record<D> as Recorder>⟧.standing taken) (S.standing desk.new.store)) }
     ensures clean { IfOk result (λ taken. IsTrue (D.Disk.is_clean taken.lines.disk) → IsTrue (D.Disk.is_clean disk)) }
+    ensures keeps { IfErr result (λ end. IsTrue (D.Disk.is_clean end.disk)
+        → KeepsLines desk.old.building (D.Disk.seen disk) (D.Disk.seen end.disk)) }
+    ensures refused { IfErr result (λ end. end.fault ≡ ResumeFault.NotDelivery → D.Disk.seen end.disk ≡ D.Disk.seen disk) }
+    ensures behind { IfErr result (λ end. (S.standing desk.new.store).is_honest → IsTrue (D.Disk.is_clean end.disk)
+        → IsBehind desk.old.building (listed desk.old.building (D.Disk.seen disk)) (S.standing desk.old.store)
+        → IsBehind desk.old.building (listed desk.old.building (D.Disk.seen disk)) (S.standing desk.new.store)) }
     ensures honest { (S.standing desk.new.store).is_honest → (S.standing desk.old.store).is_honest }
     ensures building { desk.new.building ≡ desk.old.building }
 {
     let mut disk = disk;
     let mut scratch = Scratch::new(alloc);
-    let whole = catch_up(alloc, &mut scratch, desk, &mut disk)?;
-    Ok(Record::new(alloc, scratch, disk, whole))
+    match catch_up(alloc, &mut scratch, desk, &mut disk) {
+        Ok(whole) => Ok(Record::new(alloc, scratch, disk, whole)),
+        Err(fault) => Err(NotResumed { fault, disk }),
+    }
 }

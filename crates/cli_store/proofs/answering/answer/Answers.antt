@@ -68,16 +68,17 @@ returns-in-Ok-clause-recorded g c = λ kept file_bytes file.
 pub returns-in-Ok-clause-guarded : goal.returns-in-Ok-clause-guarded
 returns-in-Ok-clause-guarded g c = λ kept file_bytes list_bytes file list.
     let beside = c.in_ok-desk.ensures.opened kept in
-    began-own g.S.Store.standing _ c.in_ok-building.building file_bytes list_bytes c.in_ok-desk.desk.store c.into_store-store.result
-    _ beside list (c.in_ok-building.ensures file_bytes file)
+    began-own g.S.Store.standing _ _ c.in_ok-building.building _ file_bytes list_bytes c.in_ok-desk.desk.store c.into_store-store.result
+    beside list (c.in_ok-building.ensures file_bytes file)
 
 pub returns-clause-stopped : goal.returns-clause-stopped
 returns-clause-stopped g c = λ kept file_bytes list_bytes file list left is.
     let beside = c.in_ok-desk.ensures.opened kept in
-    began-own g.S.Store.standing _ c.in_ok-building.building file_bytes list_bytes c.in_ok-desk.desk.store left
-    _ beside list (c.in_ok-building.ensures file_bytes file)
+    began-own g.S.Store.standing _ _ c.in_ok-building.building _ file_bytes list_bytes c.in_ok-desk.desk.store left
+    beside list (c.in_ok-building.ensures file_bytes file)
 
 pub returns-in_err-desk-clause-stopped : goal.returns-in_err-desk-clause-stopped
 returns-in_err-desk-clause-stopped g c = λ kept file_bytes list_bytes file list.
     passed-on c.from_residual-in_err-desk.result c.from_residual-in_err-desk.ensures.1 (λ end same left is.
-    only-read g.S.Store.standing _ file_bytes list_bytes left (c.in_err-desk.ensures.refused kept left (sym (ap (λ (e : Stopped _). e.store) same) ∙ is)))
+    only-read g.S.Store.standing _ _ c.in_ok-building.building _ file_bytes list_bytes left
+    (c.in_err-desk.ensures.refused kept left (sym (ap (λ (e : Stopped _). e.store) same) ∙ is)) list (c.in_ok-building.ensures file_bytes file))

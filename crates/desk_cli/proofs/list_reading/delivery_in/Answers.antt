@@ -1,6 +1,6 @@
 use Rattle.std.proofs.Common.{[], refl, rules}
 use Rattle.desk_cli.proofs.CollectLemmas.{collects_delivery, collects_empty, collects_refused}
-use Rattle.cli_record.proofs.record_lines.delivery_in.Goals as goal
+use Rattle.desk_cli.proofs.list_reading.delivery_in.Goals as goal
 
 pub returns-then-is_empty : goal.returns-then-is_empty
 returns-then-is_empty c = collects_empty _ _ [] (search rules)
