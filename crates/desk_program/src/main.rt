@@ -142,12 +142,23 @@ fn run_list(
     })
 }
 
-/// The status of words that ask nothing, once their text is printed.
+/// The status of words that ask for no run, once their text is printed: the version to the standard output.
 fn refuse(rt: &HostRuntime, fault: &ArgFault) -> Status {
-    let _printed = write!(rt.stderr(), "{fault}");
     match fault {
-        ArgFault::Words(_) => Status::Words,
-        ArgFault::NoMemory => Status::Store,
+        ArgFault::Version => {
+            match write!(io::writer(rt), "{fault}") {
+                Ok(()) => Status::Done,
+                Err(_) => Status::Fault,
+            }
+        }
+        ArgFault::Words(_) => {
+            let _printed = write!(rt.stderr(), "{fault}");
+            Status::Words
+        }
+        ArgFault::NoMemory => {
+            let _printed = write!(rt.stderr(), "{fault}");
+            Status::Store
+        }
     }
 }
 

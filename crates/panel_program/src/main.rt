@@ -7,6 +7,7 @@
 
 use crate::fault::Fault;
 use crate::sender::Sender;
+use cli_words::VERSION;
 use points::Name;
 use std::env;
 use std::io::{self, BufRead, BufReader};
@@ -19,7 +20,7 @@ mod progress;
 mod sender;
 
 const USAGE: &str =
-    "usage: panel send ADDRESS NAME JOURNAL\n       panel skip ADDRESS NAME JOURNAL\n       panel status NAME JOURNAL";
+    "usage: panel send ADDRESS NAME JOURNAL\n       panel skip ADDRESS NAME JOURNAL\n       panel status NAME JOURNAL\n       panel --version";
 
 fn words(rt: &HostRuntime) -> io::Result<Vec<String>> {
     let mut words = Vec::new(rt.alloc());
@@ -89,6 +90,10 @@ fn run(rt: &HostRuntime, words: &[String]) -> Result<(), Fault> {
         }
         [_, command, name, path] if command.as_str() == "status" => {
             status(rt, name_of(name.as_str())?, path.as_str())
+        }
+        [_, command] if command.as_str() == "--version" => {
+            println!(rt; "panel {VERSION}")?;
+            Ok(())
         }
         _ => Err(Fault::Words),
     }
