@@ -7,7 +7,8 @@ import sqlite3
 import subprocess
 import tomllib
 
-from helpers.random_databases import content_of, fill, lies_in, rows_of, some_building
+from helpers.adoptions import faults_of
+from helpers.random_databases import content_of, fill, rows_of, some_building
 from helpers.serving import SECONDS
 from helpers.trying import expect_none
 
@@ -27,16 +28,6 @@ def held_in(database):
         }
 
 
-def place_lines(building, name, priority, value):
-    point = next(point for point in building["point"] if point["name"] == name)
-    written = [each for each in building.get("schedule", []) if each["priority"] == priority and name in each["targets"]]
-    granted = [each for each in building.get("panel", []) if priority in each["priorities"] and name in each["points"]]
-    if not written and not granted:
-        yield f"point {name} {priority}: no schedule and no panel writes there"
-    if not lies_in(point, value):
-        yield f"point {name} {priority}: {value} is outside its kind"
-
-
 def lines_of(building, held):
     names = {section: {each["name"] for each in building.get(section, [])} for section in ("panel", "point", "schedule", "calendar")}
     calendars = sorted({calendar for calendar, _ in held["imported"]})
@@ -45,8 +36,9 @@ def lines_of(building, held):
         if point not in names["point"]:
             lines.append(f"point {point} is not in the building")
             continue
+        of_building = next(each for each in building["point"] if each["name"] == point)
         for name, priority, value in held["places"]:
-            lines += place_lines(building, name, priority, value) if name == point else []
+            lines += faults_of(building, of_building, priority, value) if name == point else []
     lines += [f"schedule {name} is not in the building" for name in held["schedules"] if name not in names["schedule"]]
     lines += [f"calendar {name} is not in the building" for name in calendars if name not in names["calendar"]]
     # the clock of UTC shows years to 2154
