@@ -227,6 +227,7 @@ ANSWERS = """{"answer":"done","number":65,"present":7,"priority":8}
 USAGE = """usage: panel send ADDRESS NAME JOURNAL
        panel skip ADDRESS NAME JOURNAL
        panel status NAME JOURNAL
+       panel --version
 """
 
 
@@ -240,6 +241,7 @@ def words_are_refused(program, folder, address):
     for words in ([], ["send"], ["send", address, "P1"], ["begin", address, "P1", "a.journal"]):
         expect(run(program, folder, words), (2, "", USAGE))
     expect(run(program, folder, ["send", address, "P 1", "a.journal"]), (2, "", "panel: the panel's name is malformed\n"))
+    expect(run(program, folder, ["--version"]), (0, "panel 1.0.0\n", ""))
 
 
 def lines_are_answered_in_order(program, folder, address):
