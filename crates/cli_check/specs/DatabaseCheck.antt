@@ -9,10 +9,10 @@ use Rattle.cli_common.specs.declared.status.Status.TheVariants.{Done, Fault}
 use Rattle.store.specs.declared.open_fault.OpenFault.{OpenFault}
 use Rattle.store.specs.Standing.{Standing}
 use Rattle.store.specs.Tables.{Tables}
-use Rattle.desk_suiting.specs.declared.finding.Finding.{Finding}
-use Rattle.desk_suiting.specs.declared.holdings.Holdings.{Holdings}
-use Rattle.desk_suiting.specs.FindingLine.{holdings_line, line_of}
-use Rattle.desk_suiting.specs.Surveyed.{IsSurvey}
+use Rattle.desk_adopt.specs.declared.finding.Finding.{Finding}
+use Rattle.desk_adopt.specs.declared.holdings.Holdings.{Holdings}
+use Rattle.desk_adopt.specs.FindingLine.{holdings_line, line_of}
+use Rattle.desk_adopt.specs.Surveyed.{IsSurvey}
 use Rattle.cli_check.specs.FileCheck.{ok_line}
 
 abbrev pub finding_line : Finding → List ℕ

@@ -1,2 +1,4 @@
 pub mod DatabaseCheck
 pub mod FileCheck
+pub mod AdoptionRun
+pub mod Renamings

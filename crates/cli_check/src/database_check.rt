@@ -12,7 +12,7 @@ use crate::explained::building_in;
 use crate::survey_text::survey_text;
 use building::Building;
 use cli_common::{Input, RunFault, Status, print_whole};
-use desk_suiting::{Finding, survey_tables};
+use desk_adopt::{Finding, survey_tables};
 use std::alloc::Global;
 use std::io::{Read, Write};
 use store::{OpenFault, Store};

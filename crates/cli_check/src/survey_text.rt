@@ -6,7 +6,7 @@ ghost use Rattle.cli_check.specs.DatabaseCheck.{finding_line, holdings_text, sur
 
 use crate::file_check::ok_line;
 use building::Building;
-use desk_suiting::{Finding, Holdings, Survey};
+use desk_adopt::{Finding, Holdings, Survey};
 use std::alloc::{AllocError, Global};
 
 // The lines of findings.

@@ -1,5 +1,5 @@
 -- A store that was read beside a record.
-use Rattle.std.proofs.Common.{◌≡◌, ◌∙◌, ℕ, Bool, true, false, ◌&&◌, not, is_none, List, [], ◌∷◌, ◌++◌, Option, option_to_list, Some, None, Result, Ok, Err, ap, refl, sym, subst, true≢false}
+use Rattle.std.proofs.Common.{◌≡◌, ◌∙◌, ℕ, Bool, true, false, ◌&&◌, not, is_none, List, ◌∷◌, ◌++◌, Option, option_to_list, Some, None, Result, Ok, Err, ap, refl, sym, subst, true≢false, []}
 use Rattle.std.specs.Prelude.{IfErr, IfOk}
 use Rattle.std.proofs.lemmas.Bool.{false≢true}
 use Rattle.std.proofs.lemmas.Option.{same_Some}
@@ -8,7 +8,6 @@ use Rattle.deliveries.specs.declared.delivery.Delivery.{Delivery}
 use Rattle.desk.specs.Opening.{Opens}
 use Rattle.store.proofs.ReadLemmas.{kept-read, stays_open, was_open}
 use Rattle.store.specs.declared.fault.StoreFault.{StoreFault}
-use Rattle.store.specs.declared.fault.StoreFault.TheVariants.{Failed}
 use Rattle.store.specs.declared.open_fault.OpenFault.{OpenFault}
 use Rattle.store.specs.Standing.{IsSettled, Reads, Standing}
 use Rattle.cli_record.specs.declared.difference.Difference.{Difference}
@@ -17,14 +16,6 @@ use Rattle.cli_record.specs.Belonging.{IsMatched, IsOfRecord}
 use Rattle.cli_record.specs.Beside.{HoldsStill, MissesDatabase, OpensOver, RefusesBeside, RefusesOver, tells_no_database, told_by}
 use Rattle.cli_record.specs.RecordRun.{Lists}
 use Rattle.cli_record.specs.Replayed.{IsReplayed}
-
--- after any read
-pub still-read : (fault : Option StoreFault) (old new : Standing) → Reads fault old new → HoldsStill old new
-still-read fault old new reads = record {
-  honest = reads.goes.honest;
-  kept = λ honest going. reads.kept honest (λ failed. false≢true (sym going ∙ (reads.goes.failed failed).0));
-  left = reads.left;
-}
 
 -- once a desk was opened over it, or was not
 pub still-opened : (b : Building) (fault : Option StoreFault) (old new : Standing) → Opens b fault old new → HoldsStill old new

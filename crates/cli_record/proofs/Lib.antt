@@ -1,7 +1,6 @@
 pub mod AgreeLemmas
 pub mod BesideLemmas
 pub mod ComparesLemmas
-pub mod CutLemmas
 pub mod MatchLemmas
 pub mod NothingLemmas
 pub mod ReplayLemmas

@@ -4,7 +4,7 @@ use Rattle.std.proofs.lemmas.Bool.{false≢true}
 use Rattle.std.proofs.lemmas.List.{take_all}
 use Rattle.std.proofs.lemmas.List.Elements.{Contains-append_cases}
 use Rattle.std.specs.List.{Contains}
-use Rattle.desk_suiting.proofs.ReadLemmas.{taken-more}
+use Rattle.desk_adopt.proofs.ReadLemmas.{taken-more}
 use Rattle.store.specs.Tables.{Tables}
 use Rattle.cli_record.specs.declared.difference.Difference.{Difference}
 use Rattle.cli_record.specs.Belonging.{AlikeOrTold}

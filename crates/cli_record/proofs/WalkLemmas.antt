@@ -5,7 +5,7 @@ use Rattle.std.proofs.lemmas.List.FromFn.{map-range_with_len_more}
 use Rattle.std.specs.List.{AllZip, flat_map, list_any, range_with_len}
 use Rattle.building.specs.declared.named_calendar.NamedCalendar.{NamedCalendar}
 use Rattle.store.specs.Tables.{Tables}
-use Rattle.desk_suiting.proofs.ReadLemmas.{taken-more, zip-more}
+use Rattle.desk_adopt.proofs.ReadLemmas.{taken-more, zip-more}
 use Rattle.cli_record.specs.declared.difference.Difference.{Difference}
 use Rattle.cli_record.specs.Differences.{OfCalendar, OfCalendars}
 

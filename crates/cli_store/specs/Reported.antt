@@ -3,8 +3,8 @@ use Rattle.std.specs.Prelude.{◌≡◌, ℕ, List, Option, Result, Ok}
 use Rattle.std.specs.Io.KnownBytes.{Appends}
 use Rattle.building.specs.Building.{Building, contents_of}
 use Rattle.building.specs.BuildingFile.{building_of}
-use Rattle.desk_reports.specs.AskedDay.{SpellsDay}
-use Rattle.desk_reports.specs.DayReport.{report_text}
+use Rattle.desk.specs.AskedDay.{SpellsDay}
+use Rattle.desk.specs.DayReport.{report_text}
 use Rattle.deliveries.specs.declared.delivery.Delivery.{Delivery}
 use Rattle.deliveries.specs.Delivered.{Holds}
 use Rattle.deliveries.specs.Tables.{tables}

@@ -1,7 +1,7 @@
 //! The report of a day, from the file of the building to its text.
 ghost use Rattle.std.specs.Prelude.{◌≡◌, List, ℕ, Some, IfErr, IfOk, OnOk};
 ghost use Rattle.std.specs.Io.KnownBytes.{Keeps};
-ghost use Rattle.desk_reports.specs.AskedDay.{SpellsDay};
+ghost use Rattle.desk.specs.AskedDay.{SpellsDay};
 ghost use Rattle.deliveries.specs.declared.delivery.Delivery.{Delivery as a_delivery};
 ghost use Rattle.deliveries.specs.Delivered.{Holds};
 ghost use Rattle.cli_common.specs.Input.{bytes_of};
@@ -16,8 +16,7 @@ use building::Building;
 use cli_common::{Input, RunFault, Status, print_whole, read_building};
 use cli_record::BesideFault;
 use dates::Day;
-use desk::Desk;
-use desk_reports::read_day;
+use desk::{Desk, read_day};
 use std::alloc::Global;
 use std::io::{Read, Write};
 use store::{OpenFault, Store};

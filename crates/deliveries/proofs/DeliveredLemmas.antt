@@ -1,5 +1,5 @@
 -- What reads and a commit leave of a delivery.
-use Rattle.std.proofs.Common.{◌≡◌, ◌⊎◌, ◌++◌, true, false, List, [], ◌∷◌, Some, None, Ok, Err, refl, sym, ap, ◌∙◌, inl, inr}
+use Rattle.std.proofs.Common.{◌≡◌, ◌⊎◌, ◌++◌, true, false, List, ◌∷◌, Some, None, Ok, Err, refl, sym, ap, ◌∙◌, inl, inr, []}
 use Rattle.std.proofs.lemmas.Bool.{false≢true}
 use Rattle.store.specs.declared.change.Change.{Change}
 use Rattle.store.specs.declared.fault.StoreFault.{StoreFault}
@@ -13,16 +13,6 @@ use Rattle.deliveries.specs.declared.reply.Reply.{Reply}
 use Rattle.deliveries.specs.Delivered.{Delivers, Holds}
 use Rattle.deliveries.specs.Reply.{reply}
 use Rattle.deliveries.specs.Tables.{tables}
-
--- a read that fails
-pub Delivers-read : (b : Building) (E : List Delivery) (d : Delivery) (fault : StoreFault) (old new : Standing) → Reads (Some fault) old new
-    → new.is_honest → Holds b E old → Delivers b E d (Err fault) new
-Delivers-read b E d NoMemory old new reads honest held = reads.kept honest (λ e. cc) ∙ held
-Delivers-read b E d Failed old new reads honest held = λ content left.
-    inl (reads.left honest (was_open (Some Failed) old new reads.goes (λ e. cc)) content left ∙ held)
-Delivers-read b E d Shut old new reads honest held = reads.kept honest (λ e. cc) ∙ held
-Delivers-read b E d BadRow old new reads honest held =
-    absurd (false≢true (sym (reads.bad_row honest refl) ∙ ap (λ (c : Content). c.is_sound) held))
 
 -- a delivery that changes nothing
 pub Delivers-read_only : (b : Building) (E : List Delivery) (d : Delivery) (given : Reply) (old new : Standing) → Reads None old new

@@ -11,3 +11,10 @@ pub mod RangeLemmas
 pub mod RefusedLemmas
 pub mod RowLemmas
 pub mod StepLemmas
+pub mod PlaceLemmas
+pub mod ShownLemmas
+pub mod CutLemmas
+pub mod InTurn
+pub mod MachineSame
+pub mod RiseLemmas
+pub mod TablesSame

@@ -7,3 +7,7 @@ pub mod Machine
 pub mod Moved
 pub mod Reply
 pub mod Tables
+pub mod SettlingLaws
+pub mod Cut
+pub mod StraightLaws
+pub mod StraightList

@@ -1,5 +1,5 @@
 -- Opening a desk over a store.
-use Rattle.std.proofs.Common.{◌≡◌, ℕ, suc, ◌+◌, ◌<◌, Bool, true, false, ◌&&◌, List, [], ◌∷◌, length, Option, Some, None, is_some, Result, Ok, Err, OnOk, nat_lt, cond, Bor}
+use Rattle.std.proofs.Common.{◌≡◌, ℕ, suc, ◌+◌, Bool, true, false, ◌&&◌, List, ◌∷◌, length, Option, Some, None, is_some, Result, Ok, Err, OnOk, nat_lt, cond, Bor, []}
 use Rattle.std.specs.Result.{result_err}
 use Rattle.std.proofs.Common.{ℤ, arith, find, position, option_copied, refl, sym, ap, ◌∙◌, subst, inl, inr}
 use Rattle.std.specs.Bool.{IsTrue}
@@ -105,17 +105,6 @@ module _ (b : Building) (tables : Tables) (names : Names) (are : AreNames tables
 some_none : (fault : StoreFault) → Some fault ≡ None → ⊥
 some_none fault e = cc
 
--- a read that fails
-pub Opens-failed : (b : Building) (fault : StoreFault) (old new : Standing) → Reads (Some fault) old new → Opens b (Some fault) old new
-Opens-failed b fault old new reads = record {
-  goes = reads.goes;
-  kept = reads.kept;
-  left = reads.left;
-  known = λ honest none. absurd (some_none fault none);
-  rests = λ honest none. absurd (some_none fault none);
-  bad_row = λ honest reported. inr (reads.bad_row honest reported);
-}
-
 not_shut : Some BadRow ≡ Some Shut → ⊥
 not_shut e = cc
 
@@ -204,12 +193,6 @@ module _ (b : Building) (first second third : Standing) (last : Option ℤ) (bef
             };
         bad_row = λ honest reported. inr (whole.bad_row honest reported);
       }
-
--- the last tick is not read
-pub Opens-unread : (b : Building) (fault : StoreFault) (first second third : Standing) → Reads None first second
-    → Reads (Some fault) second third → Opens b (Some fault) first third
-Opens-unread b fault first second third before after =
-    Opens-failed b fault first third (Reads-then (Some fault) first second third before after)
 
 -- over empty tables a desk begins with those of no deliveries
 pub Opens-empty : (b : Building) (old new : Standing) → Opens b None old new → new.is_honest → old.content ≡ sound no_tables

@@ -2,7 +2,7 @@
 ghost use Rattle.std.specs.Prelude.{◌≡◌, ◌<◌, ◌⊎◌, false, List, [], None, Some, IfErr, IfOk, length, string_bytes};
 ghost use Rattle.std.specs.Bool.{IsTrue};
 ghost use Rattle.std.specs.Result.{result_err};
-ghost use Rattle.desk_reports.specs.DayReport.{report_text};
+ghost use Rattle.desk.specs.DayReport.{report_text};
 ghost use Rattle.points.specs.Rights.{point_named};
 ghost use Rattle.desk_settling.specs.Calendars.{Tells};
 ghost use Rattle.desk_settling.specs.Kept.{AreSpans, AreToday};
@@ -18,12 +18,12 @@ ghost use Rattle.desk.specs.PointState.{state_of};
 
 use crate::opening::look_over;
 use crate::point_state::PointState;
+use crate::whole_report::day_report;
 use building::Building;
 use dates::Day;
 use deliveries::{Delivery, Reply};
 use desk_clock::{deliver_import_after, deliver_tick_after};
 use desk_commands::{deliver_command, deliver_skip};
-use desk_reports::day_report;
 use desk_settling::Kept;
 use points::Name;
 use std::alloc::Global;

@@ -4,3 +4,5 @@ pub mod LineLemmas
 pub mod ReplayLemmas
 pub mod StopLemmas
 pub mod StraightenLemmas
+pub mod FloatLemmas
+pub mod WhyLemmas

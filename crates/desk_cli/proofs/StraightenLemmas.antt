@@ -8,7 +8,7 @@ use Rattle.std.specs.Io.KnownBytes.{Appends, Keeps}
 use Rattle.building.specs.Building.{Building, contents_of}
 use Rattle.building.specs.BuildingFile.{building_of}
 use Rattle.deliveries.specs.declared.delivery.Delivery.{Delivery}
-use Rattle.deliveries_straight.specs.StraightList.{straight_list}
+use Rattle.deliveries.specs.StraightList.{straight_list}
 use Rattle.delivery_json.specs.DeliveryText.{delivery_line}
 use Rattle.points.specs.Beginnings.{AppendsStart}
 use Rattle.cli_common.proofs.PrintedLemmas.{Appends-Keeps, start-Keeps}

@@ -2,8 +2,8 @@
 use Rattle.std.specs.Prelude.{◌≡◌, ℕ, List, Option, Ok}
 use Rattle.std.specs.Io.KnownBytes.{Appends}
 use Rattle.building.specs.BuildingFile.{Contents, building_of}
-use Rattle.building_json.specs.Description.{description_line}
-use Rattle.building_json.specs.ZoneText.{zone_of}
+use Rattle.desk_cli.specs.Description.{description_line}
+use Rattle.desk_cli.specs.ZoneText.{zone_of}
 
 -- the bytes name a building, and this is its line
 pub record Tells (bytes line : List ℕ) : Type 0 where

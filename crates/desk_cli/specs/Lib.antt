@@ -3,3 +3,6 @@ pub mod Describe
 pub mod LineAnswer
 pub mod ListLines
 pub mod Straighten
+pub mod Description
+pub mod ZoneText
+pub mod Why

@@ -6,8 +6,9 @@ ghost use Rattle.building.specs.Building.{contents_of};
 ghost use Rattle.cli_common.specs.Input.{bytes_of};
 ghost use Rattle.desk_cli.specs.Describe.{Describes, Tells};
 
+use crate::description::description_line;
+use crate::zone::zone_text;
 use building::Building;
-use building_json::{description_line, zone_text};
 use cli_common::{Input, RunFault, Status, print_whole, read_start};
 use std::alloc::Global;
 use std::io::{Read, Write};

@@ -1,11 +1,18 @@
 //! What do the runs that use no database print, and how do they end?
 //!
-//! `describe` reads the building of a file and prints it as one JSON object (`building_json`). `replay` reads it, runs
-//! the deliveries of a list over it in memory, and prints what each line is answered (`answer_line`) and then the line
-//! of each point (`points`). `answer_line` delivers to a desk what a line says (`delivery_json`), and gives the text of
-//! the reply. `straighten` reads the whole list first, and then prints its straight list (`desk_straighten`), a line
-//! for each delivery. `list_deliveries` is what a run that reads the whole list first calls, or `read_deliveries` with
-//! a reader of its own; `delivery_in` gives the delivery of one line. What they share with the other subcommands, faults and statuses among it, is `cli_common`'s.
+//! `describe` reads the building of a file and prints it as one JSON object (`description`, `specs/Description.antt`).
+//! A building has the rule of its zone and not the rule's text, which `zone_text` reads from the building file.
+//!
+//! `replay` reads the building, runs the deliveries of a list over it in memory, and prints what each line is answered
+//! (`answer_line`) and then the line of each point (`points`). `answer_line` delivers to a desk what a line says
+//! (`delivery_json`), and gives the text of the reply. `straighten` reads the whole list first, and then prints its
+//! straight list (`desk_straighten`), a line for each delivery. `why` reads the list up to a moment, and prints what a
+//! point presents then, what put each value in its places, and when the schedules that target it change next
+//! (`desk_why`).
+//!
+//! `list_deliveries` is what a run that reads the whole list first calls, or `read_deliveries` with a reader of its own;
+//! `delivery_in` gives the delivery of one line. What they share with the other subcommands, faults and statuses among
+//! it, is `cli_common`'s.
 #![tactic(auto)]
 
 pub use describe_run::describe;
@@ -13,11 +20,18 @@ pub use line_answer::answer_line;
 pub use list_reading::{delivery_in, list_deliveries, read_deliveries};
 pub use replay_run::replay;
 pub use straighten_run::straighten;
+pub use why_run::why;
 
 mod describe_run;
+mod description;
+mod json_value;
 mod line_answer;
 mod list_end;
 mod list_lines;
 mod list_reading;
+mod members;
 mod replay_run;
 mod straighten_run;
+mod why_fault;
+mod why_run;
+mod zone;

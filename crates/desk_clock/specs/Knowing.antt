@@ -9,7 +9,7 @@ use Rattle.building.specs.Building.{Building}
 use Rattle.building.specs.declared.named_calendar.NamedCalendar.{NamedCalendar}
 use Rattle.desk_clock.specs.declared.known.Known.{Known}
 use Rattle.dates.specs.Entry.{spelling}
-use Rattle.store_memory_tables.specs.Held.{imported_of}
+use Rattle.store_memory.specs.Held.{imported_of}
 use Rattle.desk_settling.specs.Calendars.{texts_for}
 use Rattle.store.specs.declared.change.ImportedEntry.{ImportedEntry}
 use Rattle.points.specs.Texts.{Text}

@@ -14,7 +14,7 @@ use points::Name;
 use std::alloc::{AllocError, Global};
 use std::collections::BTreeMap;
 use store::{ImportedEntry, Store, StoreFault};
-use store_memory_tables::{Calendars, SpelledEntry};
+use store_memory::{Calendars, SpelledEntry};
 
 /// The entries of the calendars that were read, of the file and imported, and those that the import adds.
 #[derive(Drop)]

@@ -1,5 +1,5 @@
 //! The run that makes a database for a building that changed.
-use cli_adopt::{FindFault, MakeFault, Paths, adopt_database, finish};
+use cli_check::{FindFault, MakeFault, Paths, adopt_database, finish};
 use cli_common::{Input, Status};
 use std::alloc::AllocError;
 use std::fs::{self, File};

@@ -10,8 +10,8 @@ use std::alloc::Global;
 use std::fs::{self, File};
 use std::io::{self, BufReader, BufWriter, ErrorKind, Read, Write};
 use store::{OpenFault, Store, StoreFault};
+use store_cache::Remembered;
 use store_file::{DeskStore, close_store, open_record, open_store};
-use store_remembered::Remembered;
 
 /// What a run over a database does.
 #[derive(Clone, Copy)]

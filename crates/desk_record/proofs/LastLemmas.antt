@@ -1,5 +1,5 @@
 -- The last line of bytes, and of a file that they end.
-use Rattle.std.proofs.Common.{◌≡◌, ℕ, ◌+◌, ◌==◌, List, [], ◌∷◌, ◌++◌, length, take, drop, ◌-◌, Some, None, refl, sym, ap, ◌∙◌, subst, append_assoc, arith, inl, inr, length-append}
+use Rattle.std.proofs.Common.{◌≡◌, ℕ, ◌+◌, List, ◌∷◌, ◌++◌, length, take, drop, ◌-◌, Some, None, refl, sym, ap, ◌∙◌, subst, append_assoc, arith, inl, inr, length-append, []}
 use Rattle.std.proofs.lemmas.List.{append-nil, length-drop, take_all}
 use Rattle.std.specs.Bool.{IsTrue}
 use Rattle.std.proofs.Math.Seq.{drop-append_seam, take-append_seam}
@@ -11,7 +11,7 @@ use Rattle.desk_record.specs.declared.last_line.LastLine.{LastLine}
 use Rattle.desk_record.specs.LastLine.{HasLastLine, IsWholeBehind, TellsLast}
 use Rattle.delivery_json.specs.LineEnds.{IsLastEnd, IsLine}
 use Rattle.desk_record.specs.Lines.{IsWhole}
-use Rattle.desk_record.specs.Torn.{IsTorn, may_be_torn}
+use Rattle.desk_record.specs.Torn.{may_be_torn}
 
 -- what stands before the last line end
 front-of : (bytes before after : List ℕ) (end : ℕ) → bytes ≡ before ++ 10 ∷ after → length before ≡ end → take end bytes ≡ before
@@ -44,13 +44,6 @@ first-of from bytes part end start same (before, after, is, size, none) one =
 empty-of : (front : List ℕ) → length front ≡ 0 → front ≡ []
 empty-of [] size = refl
 empty-of (byte ∷ front) size = absurd (omega (arith, size))
-
--- a file that is one line without its end
-pub tells-none : (from : ℕ) (bytes : List ℕ) → from ≡ 0 → IsLine bytes → IsTrue (may_be_torn bytes)
-    → (file front : List ℕ) → file ≡ front ++ bytes → length front ≡ from → IsTorn file
-tells-none from bytes start one torn file front joined size =
-    let is : file ≡ bytes = joined ∙ ap (λ first. first ++ bytes) (empty-of front (size ∙ start)) in
-    subst IsTorn (sym is) (one, torn)
 
 IsWhole-behind : (from : ℕ) (front before : List ℕ) → length front ≡ from → IsWholeBehind from before → IsWhole (front ++ before)
 IsWhole-behind from front before size (inl (start, none)) =

@@ -6,7 +6,7 @@ use Rattle.std.proofs.lemmas.List.{append-nil, take_more}
 use Rattle.building.specs.Building.{Building}
 use Rattle.deliveries.specs.declared.delivery.Delivery.{Delivery}
 use Rattle.points.specs.declared.panel.Panel.{Panel}
-use Rattle.deliveries_straight.specs.StraightList.{parked_of, straightened_after, straightened_by}
+use Rattle.deliveries.specs.StraightList.{parked_of, straightened_after, straightened_by}
 
 -- the items up to the next one
 pub taken-more : {A : Type 0} (all : List A) (at : ℕ) (item : A) → at < length all → item ≡ get_or all at item

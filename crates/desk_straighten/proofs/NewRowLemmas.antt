@@ -10,7 +10,7 @@ use Rattle.sched.specs.declared.calendar.CalendarEntry.{CalendarEntry}
 use Rattle.desk_settling.specs.Calendars.{with_items}
 use Rattle.store.specs.declared.change.ImportedEntry.{ImportedEntry}
 use Rattle.points.specs.Texts.{Text}
-use Rattle.deliveries_straight.specs.Cut.{added_rows, row_that_adds}
+use Rattle.deliveries.specs.Cut.{added_rows, row_that_adds}
 use Rattle.desk_straighten.specs.Steps.{row_if}
 
 row_if-adds : (row : CalendarEntry) (old items new : List ImportedEntry) → new ≡ old ++ items

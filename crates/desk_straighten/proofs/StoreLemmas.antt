@@ -34,19 +34,19 @@ use Rattle.deliveries.proofs.RangeLemmas.{front_greatest}
 use Rattle.deliveries.proofs.StepLemmas.{keeps-tables, next-tables}
 use Rattle.desk_straighten.specs.Kept.{HoldsSome}
 use Rattle.desk_straighten.specs.Steps.{import_if, is_imported, is_ticked}
-use Rattle.window_straight.specs.Between.{asks_between}
-use Rattle.deliveries_straight.specs.Cut.{added_rows, cut_event, import_of}
+use Rattle.window.specs.Between.{asks_between}
+use Rattle.deliveries.specs.Cut.{added_rows, cut_event, import_of}
 use Rattle.deliveries.specs.Events.{clock_event, has_calendar, is_later, is_moment, last_tick_of, machine}
 use Rattle.deliveries.specs.Reply.{refused_record, reply}
 use Rattle.deliveries.proofs.ClockLemmas.{reply-bad_moment, reply-imported, reply-old, reply-refused, reply-ticked}
 use Rattle.deliveries.proofs.RangeLemmas.{key_greatest}
-use Rattle.deliveries_straight.proofs.MachineSame.{nothing-import, nothing-tick, straightened-unasked}
-use Rattle.deliveries_straight.specs.StraightList.{sent, sent_by_clock, straightened_by}
-use Rattle.window_straight.specs.Straightened.{straightened}
-use Rattle.deliveries_straight.proofs.InTurn.{row-none}
-use Rattle.window_straight.proofs.BetweenLemmas.{front-near, straightened-asks_between}
-use Rattle.deliveries_straight.proofs.RiseLemmas.{front-push}
-use Rattle.window_straight.proofs.WalkLemmas.{none_of}
+use Rattle.deliveries.proofs.MachineSame.{nothing-import, nothing-tick, straightened-unasked}
+use Rattle.deliveries.specs.StraightList.{sent, sent_by_clock, straightened_by}
+use Rattle.window.specs.Straightened.{straightened}
+use Rattle.deliveries.proofs.InTurn.{row-none}
+use Rattle.window.proofs.BetweenLemmas.{front-near, straightened-asks_between}
+use Rattle.deliveries.proofs.RiseLemmas.{front-push}
+use Rattle.window.proofs.WalkLemmas.{none_of}
 use Rattle.deliveries.proofs.RefusedLemmas.{refused-at}
 
 -- ---- what a store holds

@@ -4,7 +4,7 @@ ghost use Rattle.std.specs.Result.{result_err};
 ghost use Rattle.desk_settling.specs.Calendars.{Tells};
 ghost use Rattle.store.specs.Standing.{IsOpen, Reads};
 ghost use Rattle.points.specs.Texts.{Text};
-ghost use Rattle.deliveries_straight.specs.Cut.{added_rows};
+ghost use Rattle.deliveries.specs.Cut.{added_rows};
 
 use building::Building;
 use desk_clock::{Known, add_row};

@@ -7,8 +7,8 @@ ghost use Rattle.store_memory.specs.Memory.{standing_of};
 ghost use Rattle.points.specs.Run.{rows_between};
 ghost use Rattle.window.specs.Drain.{contents_of};
 ghost use Rattle.desk_straighten.specs.Kept.{HoldsSome};
-ghost use Rattle.window_straight.specs.Between.{asks_between};
-ghost use Rattle.deliveries_straight.specs.StraightList.{sent, straightened_by};
+ghost use Rattle.window.specs.Between.{asks_between};
+ghost use Rattle.deliveries.specs.StraightList.{sent, straightened_by};
 
 use crate::runs::push_run;
 use building::Building;

@@ -9,8 +9,8 @@ ghost use Rattle.points.specs.declared.numbered_row.NumberedRow.{NumberedRow as 
 ghost use Rattle.points.specs.declared.numbered_row.TheConstants.{LAST_NUMBER};
 ghost use Rattle.window.specs.Drain.{contents_of};
 ghost use Rattle.desk_straighten.specs.Kept.{HoldsSome};
-ghost use Rattle.deliveries_straight.specs.StraightList.{sent};
-ghost use Rattle.window_straight.specs.Parked.{command_of, parked_asks};
+ghost use Rattle.deliveries.specs.StraightList.{sent};
+ghost use Rattle.window.specs.Parked.{command_of, parked_asks};
 
 use building::Building;
 use deliveries::Delivery;

@@ -4,8 +4,8 @@ ghost use Rattle.std.specs.List.{All};
 ghost use Rattle.points.specs.declared.numbered_row.NumberedRow.{NumberedRow as a_row};
 ghost use Rattle.points.specs.declared.numbered_row.TheConstants.{LAST_NUMBER};
 ghost use Rattle.window.specs.Drain.{contents_of};
-ghost use Rattle.window_straight.specs.Between.{asks_between, skip_to};
-ghost use Rattle.deliveries_straight.specs.StraightList.{sent};
+ghost use Rattle.window.specs.Between.{asks_between, skip_to};
+ghost use Rattle.deliveries.specs.StraightList.{sent};
 
 use deliveries::Delivery;
 use points::{Name, NumberedRow};

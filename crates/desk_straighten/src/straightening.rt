@@ -5,8 +5,8 @@ ghost use Rattle.deliveries.specs.Delivered.{Holds};
 ghost use Rattle.deliveries.specs.Laws.{HasDistinctSchedules};
 ghost use Rattle.store_memory.specs.Memory.{standing_of};
 ghost use Rattle.desk_straighten.specs.Kept.{HoldsSome};
-ghost use Rattle.deliveries_straight.specs.StraightLaws.{HasDistinctPanels, IsStraightOf};
-ghost use Rattle.deliveries_straight.specs.StraightList.{straight_list, straightened_by};
+ghost use Rattle.deliveries.specs.StraightLaws.{HasDistinctPanels, IsStraightOf};
+ghost use Rattle.deliveries.specs.StraightList.{straight_list, straightened_by};
 
 use crate::imports::straighten_import;
 use crate::panel_asks::{straighten_command, straighten_skip};

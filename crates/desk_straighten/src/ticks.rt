@@ -5,7 +5,7 @@ ghost use Rattle.deliveries.specs.declared.delivery.Delivery.TheVariants as deli
 ghost use Rattle.deliveries.specs.Delivered.{Holds};
 ghost use Rattle.store_memory.specs.Memory.{standing_of};
 ghost use Rattle.desk_straighten.specs.Steps.{is_ticked};
-ghost use Rattle.deliveries_straight.specs.StraightList.{straightened_by};
+ghost use Rattle.deliveries.specs.StraightList.{straightened_by};
 
 use building::Building;
 use deliveries::{Delivery, Reply};

@@ -7,8 +7,8 @@ use Rattle.std.proofs.lemmas.Bool.{cases_eq}
 use Rattle.points.specs.declared.content.Content.{Content}
 use Rattle.window.specs.declared.numbered_content.NumberedContent.{NumberedContent}
 use Rattle.window.specs.Taken.{content_in}
-use Rattle.panel_laws.specs.Life.{RiseFrom}
-use Rattle.panel_laws.proofs.EntryLemmas.{content_in-apart, content_in-dropped, content_in-here, content_in-kept}
+use Rattle.panel.specs.Life.{RiseFrom}
+use Rattle.panel.proofs.ContentLemmas.{content_in-apart, content_in-dropped, content_in-here, content_in-kept}
 use Rattle.panel.specs.Run.{numbered, without}
 
 none_content : (content : Content) → None ≡ Some content → ⊥

@@ -5,3 +5,12 @@ pub mod SentLemmas
 pub mod StepLemmas
 pub mod UpheldLemmas
 pub mod WindowLemmas
+pub mod CommandLemmas
+pub mod ContentLemmas
+pub mod GivenUpLemmas
+pub mod GrowLemmas
+pub mod PressedLemmas
+pub mod ReplyLemmas
+pub mod RestLemmas
+pub mod SkipLemmas
+pub mod BackLemmas

@@ -7,10 +7,10 @@ use Rattle.points.specs.declared.content.Content.{Content}
 use Rattle.window.specs.declared.numbered_content.NumberedContent.{NumberedContent}
 use Rattle.window.specs.Taken.{content_in}
 use Rattle.deliveries.specs.declared.reply.Reply.{Reply}
-use Rattle.panel_laws.specs.Laws.{Goes}
-use Rattle.panel_laws.specs.Life.{IsWithin, RiseFrom}
-use Rattle.panel_laws.specs.Means.{ended_by}
-use Rattle.panel_laws.proofs.EntryLemmas.{RiseFrom-filter, content_in-dropped, content_in-kept}
+use Rattle.panel.specs.Laws.{Goes}
+use Rattle.panel.specs.Life.{IsWithin, RiseFrom}
+use Rattle.panel.specs.Means.{ended_by}
+use Rattle.panel.proofs.ContentLemmas.{RiseFrom-filter, content_in-dropped, content_in-kept}
 use Rattle.panel.specs.Run.{Run, Began, Pressed, Kept, Heard, GaveUp, behind, first_number, further, given_up, in_flight, kept}
 use Rattle.panel.specs.Run.{kept_below, life, next_number, numbered, pressed, skip, without}
 use Rattle.panel.proofs.EntryLemmas.{Between, Between-filter, Between-push, Between-rise, content_in-past, content_in-push}

@@ -1,5 +1,5 @@
 -- What is named as due was sent by the run, and stays so.
-use Rattle.std.proofs.Common.{◌≡◌, ◌⊎◌, ℕ, ◌+◌, ◌<◌, Bool, true, false, cond, List, [], ◌∷◌, Option, Some, None, map, min, pos}
+use Rattle.std.proofs.Common.{◌≡◌, ◌⊎◌, ℕ, ◌+◌, ◌<◌, Bool, true, false, cond, List, ◌∷◌, Option, Some, None, map, min, pos, []}
 use Rattle.std.proofs.Common.{negsuc, zero, suc, length, slice_index_or}
 use Rattle.std.proofs.Common.{refl, ◌∙◌, subst, arith, inl, inr}
 use Rattle.std.specs.List.{filter}
@@ -12,9 +12,9 @@ use Rattle.window.specs.Taken.{content_in}
 use Rattle.deliveries.specs.declared.delivery.Delivery.{Delivery}
 use Rattle.deliveries.specs.declared.delivery.Delivery.TheVariants as delivery_of
 use Rattle.deliveries.specs.Accepted.{panel_of}
-use Rattle.panel_laws.specs.Life.{Life, RiseFrom, WasSent, WereSent}
-use Rattle.panel_laws.proofs.EntryLemmas.{content_in-apart, content_in-here, content_in-least}
-use Rattle.panel_laws.proofs.RestLemmas.{sent-stays}
+use Rattle.panel.specs.Life.{Life, RiseFrom, WasSent, WereSent}
+use Rattle.panel.proofs.ContentLemmas.{content_in-apart, content_in-here, content_in-least}
+use Rattle.panel.proofs.RestLemmas.{sent-stays}
 use Rattle.panel.specs.Due.{command_of, due, is_kept, named_by}
 use Rattle.panel.specs.Run.{Run, Began, Pressed, Kept, Heard, GaveUp, first_number, given_up, in_flight, kept_below, life}
 use Rattle.panel.specs.Run.{next_number, reach, skip}
@@ -58,13 +58,6 @@ named-sent_by panel run (Some upto) is =
 
 pub due-sent : (panel : Text) (run : Run) → WereSent (life run) panel (due panel run)
 due-sent panel run = named-sent_by panel run (skip run) refl
-
-pub due-at : (panel : Text) (run : Run) (upto : Option ℕ) (far below : ℕ) (entries : List NumberedContent) → upto ≡ skip run
-    → far ≡ reach run
-    → below ≡ kept_below run → entries ≡ in_flight run
-    → named_by panel below upto far entries ≡ due panel run
-due-at panel run upto far below entries same_skip same_reach same_kept same_entries i =
-    named_by panel (same_kept i) (same_skip i) (same_reach i) (same_entries i)
 
 -- ---- a run goes on
 

@@ -11,13 +11,13 @@ use Rattle.deliveries.specs.declared.delivery.Delivery.{Delivery}
 use Rattle.deliveries.specs.Accepted.{taken_by}
 use Rattle.deliveries.specs.declared.reply.Reply.{Reply}
 use Rattle.deliveries.specs.declared.reply.Reply.TheVariants.{Answered, Differs, Forgotten, Skipped}
-use Rattle.panel_laws.specs.Laws.{AreEnded, IsEnded}
-use Rattle.panel_laws.specs.Life.{IsPassed, RiseFrom, WereSent, from_number}
-use Rattle.panel_laws.specs.Means.{Came, Means, commands_done, ended_by}
-use Rattle.panel_laws.proofs.EntryLemmas.{content_in-apart, content_in-here, content_in-least, same-entries}
-use Rattle.panel_laws.proofs.PressedLemmas.{commands-pressed}
-use Rattle.panel_laws.proofs.ReplyLemmas.{replies-are-true}
-use Rattle.panel_laws.proofs.RestLemmas.{at-rest}
+use Rattle.panel.specs.Laws.{AreEnded, IsEnded}
+use Rattle.panel.specs.Life.{IsPassed, RiseFrom, WereSent, from_number}
+use Rattle.panel.specs.Means.{Came, Means, commands_done, ended_by}
+use Rattle.panel.proofs.ContentLemmas.{content_in-apart, content_in-here, content_in-least, same-entries}
+use Rattle.panel.proofs.PressedLemmas.{commands-pressed}
+use Rattle.panel.proofs.ReplyLemmas.{replies-are-true}
+use Rattle.panel.proofs.RestLemmas.{at-rest}
 use Rattle.panel.specs.Run.{Run, Began, Pressed, Kept, Heard, GaveUp, entry_of, first_number, given_up, in_flight, kept, life}
 use Rattle.panel.specs.Run.{next_number, pressed, without}
 use Rattle.panel.specs.Upheld.{AllCame, AllIsDone, HasEnded, IsTrueOf, IsUpheld, Upheld}

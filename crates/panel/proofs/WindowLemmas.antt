@@ -1,5 +1,5 @@
 -- How far the numbers that were named go.
-use Rattle.std.proofs.Common.{◌≡◌, ◌⊎◌, ℕ, ◌+◌, ◌<◌, ◌≤◌, Bool, true, false, cond, List, [], ◌∷◌, Option, Some, None, is_some}
+use Rattle.std.proofs.Common.{◌≡◌, ◌⊎◌, ℕ, ◌+◌, ◌<◌, ◌≤◌, Bool, true, false, cond, List, ◌∷◌, Option, Some, None, is_some, []}
 use Rattle.std.proofs.Common.{length, map, max, min, pos, zero, suc, slice_index_or}
 use Rattle.std.proofs.Common.{refl, sym, ap, ◌∙◌, subst, arith, inl, inr, nat_le, nat_lt}
 use Rattle.std.specs.List.{Contains, filter}
@@ -16,10 +16,10 @@ use Rattle.deliveries.specs.declared.reply.Reply.{Reply}
 use Rattle.deliveries.specs.declared.reply.Reply.TheVariants.{SkipDone}
 use Rattle.deliveries.specs.Accepted.{taken_by}
 use Rattle.deliveries.proofs.RangeLemmas.{front_least}
-use Rattle.panel_laws.specs.Life.{WereSent}
-use Rattle.panel_laws.specs.Means.{Came}
-use Rattle.panel_laws.proofs.EntryLemmas.{content_in-apart, content_in-here, content_in-low}
-use Rattle.panel_laws.proofs.SkipLemmas.{skips-are-true}
+use Rattle.panel.specs.Life.{WereSent}
+use Rattle.panel.specs.Means.{Came}
+use Rattle.panel.proofs.ContentLemmas.{content_in-apart, content_in-here, content_in-low}
+use Rattle.panel.proofs.SkipLemmas.{skips-are-true}
 use Rattle.panel.specs.Due.{command_of, due, is_kept, named_by}
 use Rattle.panel.specs.Run.{Run, Began, Pressed, Kept, Heard, GaveUp, behind, first_number, further, in_flight, kept_below, life}
 use Rattle.panel.specs.Run.{next_number, numbered, pressed, reach, skip, skip_after}
@@ -106,9 +106,6 @@ module _ (b : Building) (p : Text) (ds : List Delivery) where
       covered (in_flight run) (first_number run) next (next_number run) (in_flight-between run) (flying-covers run least reached sent all)
 
   -- ---- once the first skip is done, the front has reached the first number
-
-  Leads : Run → Type 0
-  Leads run = (upto : ℕ) → skip run ≡ Some upto → (first_number run ≤ upto) ⊎ (first_number run ≤ next)
 
   record Opens (run : Run) : Type 0 where
     none : skip run ≡ None → first_number run ≤ next

@@ -4,3 +4,9 @@ pub mod Ran
 pub mod Replayed
 pub mod Run
 pub mod Upheld
+pub mod Laws
+pub mod Life
+pub mod Means
+pub mod Entries
+pub mod EntryData
+pub mod Replies

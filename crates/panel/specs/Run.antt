@@ -7,8 +7,8 @@ use Rattle.points.specs.declared.numbered_row.TheConstants.{LAST_NUMBER}
 use Rattle.window.specs.declared.numbered_content.NumberedContent.{NumberedContent}
 use Rattle.deliveries.specs.declared.reply.Reply.{Reply}
 use Rattle.deliveries.specs.declared.reply.Reply.TheVariants.{SkipDone, TooFar}
-use Rattle.panel_laws.specs.Life.{Life}
-use Rattle.panel_laws.specs.Means.{ended_by}
+use Rattle.panel.specs.Life.{Life}
+use Rattle.panel.specs.Means.{ended_by}
 
 -- It began to number at `first`. A content was pressed. The journal has each press up to a number. A reply was heard.
 -- Each press up to a number was given up.

@@ -12,9 +12,9 @@ use Rattle.deliveries.specs.declared.delivery.Delivery.{Delivery}
 use Rattle.deliveries.specs.declared.delivery.Delivery.TheVariants.{Command, Skip}
 use Rattle.deliveries.specs.Accepted.{panel_of, taken_by}
 use Rattle.deliveries.specs.declared.reply.Reply.{Reply}
-use Rattle.panel_laws.specs.Laws.{IsPartOf}
-use Rattle.panel_laws.specs.Life.{IsPassed, WereSent, from_number}
-use Rattle.panel_laws.specs.Means.{Came, Means, commands_done, ended_by}
+use Rattle.panel.specs.Laws.{IsPartOf}
+use Rattle.panel.specs.Life.{IsPassed, WereSent, from_number}
+use Rattle.panel.specs.Means.{Came, Means, commands_done, ended_by}
 use Rattle.panel.specs.Due.{due}
 use Rattle.panel.specs.Run.{Run, Began, Pressed, Kept, Heard, GaveUp, entry_of, first_number, given_up, in_flight, life, pressed}
 

@@ -43,8 +43,8 @@ impl PanelEnd {
     ghost use Rattle.std.specs.List.{filter};
     ghost use Rattle.panel.specs.Due.{command_of, due, is_kept};
     ghost use Rattle.panel.specs.Upheld.{AllIsDone, IsTrueOf, IsUpheld, LiesWithin};
-    ghost use Rattle.panel_laws.specs.Life.{WereSent};
-    ghost use Rattle.panel_laws.specs.Means.{ended_by};
+    ghost use Rattle.panel.specs.Life.{WereSent};
+    ghost use Rattle.panel.specs.Means.{ended_by};
 
     /// The end of a panel of this name that never pressed anything.
     pub fn new(alloc: Global, name: Name) -> Self

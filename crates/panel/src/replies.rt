@@ -2,7 +2,7 @@
 ghost use Rattle.std.specs.Prelude.{◌≡◌, ◌≤◌, ◌==◌, not, vec_len};
 ghost use Rattle.std.specs.List.{filter, find};
 ghost use Rattle.panel.specs.Run.{reach_after, skip_after};
-ghost use Rattle.panel_laws.specs.Means.{ended_by, natural};
+ghost use Rattle.panel.specs.Means.{ended_by, natural};
 
 use deliveries::Reply;
 use window::{LAST_NUMBER, NumberedContent, WINDOW};

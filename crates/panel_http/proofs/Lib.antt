@@ -1,4 +1,18 @@
 pub mod GatheringLemmas
-pub mod LookingLemmas
 pub mod MoreLemmas
 pub mod ServingLemmas
+pub mod CharacterEndings
+pub mod HeadEndings
+pub mod HeadLemmas
+pub mod SectionEndings
+pub mod NumberLemmas
+pub mod ValueLemmas
+pub mod PartLemmas
+mod BodyLemmas
+mod ComeLemmas
+pub mod MethodLemmas
+pub mod RequestLemmas
+mod WholeInputLemmas
+pub mod WholeLemmas
+mod WrittenBodyLemmas
+pub mod PlaceLemmas

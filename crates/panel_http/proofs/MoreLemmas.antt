@@ -6,8 +6,8 @@ use Rattle.panel_http.specs.Serving.{Serves, Tells}
 use Rattle.points.specs.Texts.{Text}
 use Rattle.panel_http.specs.declared.served.Served.{Served}
 use Rattle.panel_http.specs.declared.served.Served.TheVariants.{Answered, NoReply, NoRequest, ReplyLost}
-use Rattle.panel_http_requests.specs.Whole.{IsWhole}
-use Rattle.panel_http_responses.specs.Response.{Status}
+use Rattle.panel_http.specs.Whole.{IsWhole}
+use Rattle.panel_http.specs.Response.{Status}
 use Rattle.store.specs.Standing.{Standing}
 
 pub no-bytes : (bytes : Text) → length bytes ≡ 0 → bytes ≡ []

@@ -7,10 +7,10 @@ use Rattle.deliveries.specs.Delivered.{Holds}
 use Rattle.panel_http.specs.Answers.{Answers}
 use Rattle.panel_http.specs.declared.unanswered.Unanswered.{Unanswered}
 use Rattle.panel_http.specs.declared.unanswered.Unanswered.TheVariants as unanswered
-use Rattle.panel_http_requests.specs.Requests.{IsRequest}
-use Rattle.panel_http_requests.specs.declared.request.Request.{Request}
-use Rattle.panel_http_responses.specs.Response.{Status}
-use Rattle.panel_http_responses.specs.declared.whole_response.Response.{Response}
+use Rattle.panel_http.specs.Requests.{IsRequest}
+use Rattle.panel_http.specs.declared.request.Request.{Request}
+use Rattle.panel_http.specs.Response.{Status}
+use Rattle.panel_http.specs.declared.whole_response.Response.{Response}
 use Rattle.store.specs.Standing.{Standing}
 use Rattle.panel_http.specs.Serving.{IsSilent, Serves, Tells, Writes, written}
 use Rattle.points.specs.Texts.{Text}

@@ -2,7 +2,7 @@
 use Rattle.std.specs.Prelude.{◌≡◌, ◌⊎◌, List, [], ◌∷◌, ◌++◌, Option, Some, None, Result, Ok, Err}
 use Rattle.std.specs.Bool.{IsTrue}
 use Rattle.building.specs.Building.{Building}
-use Rattle.desk_reports.specs.DayReport.{report_text}
+use Rattle.desk.specs.DayReport.{report_text}
 use Rattle.deliveries.specs.Delivered.{Holds, LeavesEither}
 use Rattle.deliveries.specs.Reply.{reply}
 use Rattle.deliveries.specs.Tables.{tables}
@@ -11,12 +11,12 @@ use Rattle.deliveries.specs.declared.reply.Reply.TheVariants as reply_of
 use Rattle.desk.specs.PointState.{state_of}
 use Rattle.desk.specs.declared.point_state.PointState.{PointState}
 use Rattle.points.specs.Rights.{point_named}
-use Rattle.panel_http_requests.specs.declared.request.Request.{Request}
-use Rattle.panel_http_requests.specs.declared.request.Request.TheVariants as asked
-use Rattle.panel_http_responses.specs.Response.{Said, Says}
-use Rattle.panel_http_responses.specs.Responses.{import_refused_said, no_day_said, no_point_said, point_said}
-use Rattle.panel_http_responses.specs.Responses.{refusal_said, reply_said, report_said}
-use Rattle.panel_http_responses.specs.declared.whole_response.Response.{Response}
+use Rattle.panel_http.specs.declared.request.Request.{Request}
+use Rattle.panel_http.specs.declared.request.Request.TheVariants as asked
+use Rattle.panel_http.specs.Response.{Said, Says}
+use Rattle.panel_http.specs.Responses.{import_refused_said, no_day_said, no_point_said, point_said}
+use Rattle.panel_http.specs.Responses.{refusal_said, reply_said, report_said}
+use Rattle.panel_http.specs.declared.whole_response.Response.{Response}
 use Rattle.desk_settling.specs.Calendars.{Tells}
 use Rattle.store.specs.Standing.{HasRisen, Standing}
 use Rattle.store.specs.Tables.{Tables}

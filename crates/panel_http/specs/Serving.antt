@@ -3,18 +3,18 @@ use Rattle.std.specs.Prelude.{◌≡◌, ◌<◌, ◌⊎◌, ℕ, Bool, List, []
 use Rattle.std.specs.Bool.{IsTrue}
 use Rattle.std.specs.Io.KnownBytes.{Appends, Keeps}
 use Rattle.building.specs.Building.{Building}
-use Rattle.panel_http_requests.specs.Counting.{Lost}
+use Rattle.panel_http.specs.Counting.{Lost}
 use Rattle.store.specs.Standing.{HasRisen, Standing}
 use Rattle.deliveries.specs.Delivered.{Holds}
 use Rattle.deliveries.specs.declared.delivery.Delivery.{Delivery}
 use Rattle.panel_http.specs.Answers.{IsSaid, StoreEnds, after}
 use Rattle.panel_http.specs.declared.unanswered.Unanswered.{Unanswered}
 use Rattle.panel_http.specs.declared.unanswered.Unanswered.TheVariants as unanswered
-use Rattle.panel_http_requests.specs.Requests.{IsRequest}
-use Rattle.panel_http_requests.specs.declared.request.Request.{Request}
-use Rattle.panel_http_responses.specs.Response.{Said, Status, response_text}
-use Rattle.panel_http_responses.specs.Responses.{no_memory_said, store_said}
-use Rattle.panel_http_responses.specs.declared.whole_response.Response.{Response}
+use Rattle.panel_http.specs.Requests.{IsRequest}
+use Rattle.panel_http.specs.declared.request.Request.{Request}
+use Rattle.panel_http.specs.Response.{Said, Status, response_text}
+use Rattle.panel_http.specs.Responses.{no_memory_said, store_said}
+use Rattle.panel_http.specs.declared.whole_response.Response.{Response}
 use Rattle.panel_http.specs.declared.served.Served.{Served}
 use Rattle.panel_http.specs.declared.served.Served.TheVariants.{Answered, NoReply, NoRequest, ReplyLost}
 use Rattle.points.specs.Texts.{Text}

@@ -6,15 +6,17 @@ ghost use Rattle.deliveries.specs.declared.delivery.Delivery.{Delivery as a_deli
 ghost use Rattle.deliveries.specs.Delivered.{Holds};
 ghost use Rattle.panel_http.specs.Answers.{Answers};
 ghost use Rattle.panel_http.specs.Keeping.{KeepsStep};
-ghost use Rattle.panel_http_requests.specs.declared.request.Request.TheVariants as asked;
+ghost use Rattle.panel_http.specs.declared.request.Request.TheVariants as asked;
 
 use crate::looking::{point_answer, report_answer};
+use crate::refusals::refusal_response;
+use crate::replies::{import_refused_response, reply_response};
+use crate::request::Request;
 use crate::unanswered::Unanswered;
+use crate::whole_response::Response;
 use deliveries::{Delivery, Reply};
 use desk::Desk;
 use desk_record::{Recorder, deliver};
-use panel_http_requests::Request;
-use panel_http_responses::{Response, import_refused_response, refusal_response, reply_response};
 use std::alloc::Global;
 use store::Store;
 

@@ -5,12 +5,14 @@ ghost use Rattle.std.specs.Io.KnownBytes.{IsAtEnd, Keeps};
 ghost use Rattle.building.specs.Building.{Building as a_building};
 ghost use Rattle.panel_http.specs.Gathering.{Takes};
 ghost use Rattle.panel_http.specs.declared.gathering.Gathered.{Gathered};
-ghost use Rattle.panel_http_requests.specs.Requests.{IsRequest};
-ghost use Rattle.panel_http_requests.specs.Whole.{IsWhole};
-ghost use Rattle.panel_http_requests.specs.declared.request.Request.{Request as a_request};
+ghost use Rattle.panel_http.specs.Requests.{IsRequest};
+ghost use Rattle.panel_http.specs.Whole.{IsWhole};
+ghost use Rattle.panel_http.specs.declared.request.Request.{Request as a_request};
 
+use crate::come::{Come, request_come};
+use crate::request::Request;
+use crate::routes::Routes;
 use building::Building;
-use panel_http_requests::{Come, Request, Routes, request_come};
 use std::alloc::Global;
 use std::io::{self, ErrorKind, Read};
 

@@ -5,15 +5,15 @@ ghost use Rattle.deliveries.specs.declared.delivery.Delivery.{Delivery as a_deli
 ghost use Rattle.deliveries.specs.Delivered.{Holds};
 ghost use Rattle.panel_http.specs.Answers.{Answers, state_said};
 ghost use Rattle.panel_http.specs.Looking.{OnlyReads};
-ghost use Rattle.panel_http_responses.specs.Response.{Says};
-ghost use Rattle.panel_http_requests.specs.declared.request.Request.TheVariants as asked;
+ghost use Rattle.panel_http.specs.Response.{Says};
+ghost use Rattle.panel_http.specs.declared.request.Request.TheVariants as asked;
 
+use crate::point_text::{no_point_response, point_response};
+use crate::reports::{no_day_response, report_response};
 use crate::unanswered::Unanswered;
+use crate::whole_response::Response;
 use dates::Day;
 use desk::{Desk, PointState};
-use panel_http_responses::{
-    Response, no_day_response, no_point_response, point_response, report_response,
-};
 use points::Name;
 use std::alloc::{AllocError, Global};
 use store::Store;

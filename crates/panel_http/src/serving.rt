@@ -5,16 +5,20 @@ ghost use Rattle.deliveries.specs.declared.delivery.Delivery.{Delivery as a_deli
 ghost use Rattle.deliveries.specs.Delivered.{Holds};
 ghost use Rattle.panel_http.specs.Keeping.{KeepsStep};
 ghost use Rattle.panel_http.specs.Serving.{Serves};
-ghost use Rattle.panel_http_requests.specs.Requests.{IsRequest};
-ghost use Rattle.panel_http_requests.specs.Whole.{IsWhole};
+ghost use Rattle.panel_http.specs.Requests.{IsRequest};
+ghost use Rattle.panel_http.specs.Whole.{IsWhole};
 
 use crate::Served;
 use crate::answering::answer;
+use crate::counted_end::Counted;
+use crate::reading::read_request;
+use crate::request::{Request, Unread};
+use crate::routes::Routes;
 use crate::unanswered::Unanswered;
+use crate::whole_input::request_in;
 use crate::writing::write_answer;
 use desk::Desk;
 use desk_record::Recorder;
-use panel_http_requests::{Counted, Request, Routes, Unread, read_request, request_in};
 use std::alloc::{AllocError, Global};
 use std::io::{Read, Write};
 use store::Store;

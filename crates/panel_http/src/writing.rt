@@ -4,10 +4,12 @@ ghost use Rattle.std.specs.Prelude.{Some};
 ghost use Rattle.panel_http.specs.Serving.{Writes, written};
 
 use crate::Served;
+use crate::counted_end::Counted;
+use crate::fixed_texts::{no_memory_text, store_text};
+use crate::text_writing::write_text;
 use crate::unanswered::Unanswered;
+use crate::whole_response::Response;
 use http::StatusCode;
-use panel_http_requests::{Counted, write_text};
-use panel_http_responses::{Response, no_memory_text, store_text};
 use std::io::Write;
 
 /// Writes the response that an answer has.

@@ -1,7 +1,7 @@
 //! One delivery over HTTP, and its reply.
 use crate::fault::Fault;
 use deliveries::{Delivery, Reply};
-use panel_journal::{Entry, line_of, reply_of};
+use panel::{Entry, line_of, reply_of};
 use points::Name;
 use std::alloc::Global;
 use std::io::{self, Read, Write};

@@ -1,7 +1,6 @@
 //! The journal's file.
 use crate::fault::Fault;
-use panel::{PanelEnd, PressFault};
-use panel_journal::{Entry, entry_of, line_of};
+use panel::{Entry, PanelEnd, PressFault, entry_of, line_of};
 use points::Name;
 use std::alloc::Global;
 use std::fs::{self, File, OpenOptions};

@@ -1,5 +1,5 @@
 -- The named times next to a time, by the elements of a list.
-use Rattle.std.proofs.Common.{◌≡◌, ◌⊎◌, ℕ, zero, suc, ◌<◌, ◌≤◌, ◌==◌, nat_le, true, false, List, [], ◌∷◌}
+use Rattle.std.proofs.Common.{◌≡◌, ◌⊎◌, ℕ, zero, suc, ◌<◌, ◌≤◌, ◌==◌, nat_le, true, false, List, ◌∷◌, []}
 use Rattle.std.proofs.Common.{length, get_or, slice_get, Option, Some, None, option_map, refl, sym, ap, ◌∙◌, arith, inl, inr, ⊎_elim}
 use Rattle.std.specs.List.Sorted.{IsNonDecreasingBy, IsPartitionPoint}
 use Rattle.std.proofs.lemmas.Bool.{cases_eq, cases_lt, false≢true, or_cases, or_left, or_right}
@@ -122,11 +122,3 @@ module _ (xs : List TimeValue) (time end : ℕ) (up : IsNonDecreasingBy (λ (x :
         omega (arith, rises, mine, its, e))
         (side t place),
   )
-
--- ---- other lists that name the same
-
-module _ (xs ys : List ℕ) (time : ℕ) (same : (t : ℕ) → is_named xs t ≡ is_named ys t) where
-  pub IsNextTimeAfter-same : (o : Option ℕ) → IsNextTimeAfter xs time o → IsNextTimeAfter ys time o
-  IsNextTimeAfter-same None none = λ t named. none t (same t ∙ named)
-  IsNextTimeAfter-same (Some b) is =
-      (sym (same b) ∙ is.0, is.1, λ t named past. is.2 t (same t ∙ named) past)

@@ -12,3 +12,6 @@ pub mod ByTimeLemmas
 pub mod AroundLemmas
 pub mod SpanLemmas
 pub mod HoldLemmas
+pub mod HeardLemmas
+pub mod SameLemmas
+pub mod NextLemmas

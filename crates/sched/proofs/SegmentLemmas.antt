@@ -1,6 +1,6 @@
 -- One value at each named time, in rising order, gives the segments of the day.
-use Rattle.std.proofs.Common.{◌≡◌, ◌≢◌, ◌⊎◌, inl, inr, ⊎_elim, ℕ, zero, suc, ◌+◌, ◌-◌, ◌<◌, ◌≤◌, ◌==◌, ℤ}
-use Rattle.std.proofs.Common.{Bool, true, false, cond, not, List, [], ◌∷◌, ◌++◌, length, length-append, get_or}
+use Rattle.std.proofs.Common.{◌≡◌, ◌≢◌, ◌⊎◌, inl, inr, ⊎_elim, ℕ, zero, suc, ◌+◌, ◌-◌, ◌<◌, ◌≤◌, ◌==◌, ℤ, []}
+use Rattle.std.proofs.Common.{Bool, true, false, cond, not, List, ◌∷◌, ◌++◌, length, length-append, get_or}
 use Rattle.std.proofs.Common.{Option, Some, None, option_map, slice_get, refl, sym, ap, ◌∙◌, arith}
 use Rattle.std.specs.List.{list_any}
 use Rattle.std.proofs.lemmas.Bool.{cases_Bool, cases_eq, cases_lt, false≢true}
@@ -18,10 +18,6 @@ same_values None None e = refl
 same_values None (Some z) e = absurd (false≢true e)
 same_values (Some z) None e = absurd (false≢true e)
 same_values (Some z) (Some w) e = ap Some ((Decides-int_eq z w).0 e)
-
--- the last of a list that ends in x
-last_place : (n m : ℕ) → m ≡ n + 1 → (m + 1) - 1 ≡ suc (m - 1)
-last_place n m e = omega arith
 
 slice_get-last : (xs : List TimeValue) (x : TimeValue) → slice_get (xs ++ x ∷ []) (length (xs ++ x ∷ []) - 1) ≡ Some x
 slice_get-last [] x = refl
@@ -46,9 +42,6 @@ is_among c xs = list_any (λ t. t == c) xs
 
 eqb_true : (x y : ℕ) → (x == y) ≡ true → x ≡ y
 eqb_true x y e = grind (arith, nat_tests)
-
-eqb_false : (x y : ℕ) → x ≢ y → (x == y) ≡ false
-eqb_false x y e = grind (arith, nat_tests)
 
 record Place (xs : List ℕ) (c : ℕ) : Type 0 where
   at : ℕ

@@ -11,3 +11,7 @@ pub mod Spans
 pub mod TimeText
 pub mod TimesAround
 pub mod ValueCases
+pub mod Sources
+pub mod SourceLaws
+pub mod NextChange
+pub mod NextLaws

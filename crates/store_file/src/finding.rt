@@ -12,7 +12,7 @@ use std::fs;
 use std::io::{ErrorKind, Read};
 use store::OpenFault;
 use store_sql::SqlStore;
-use store_sql_create::{has_desk_schema, has_no_schema};
+use store_sql_rows::{has_desk_schema, has_no_schema};
 
 /// Whether there is no file at a path, or an empty one.
 pub(crate) fn is_nothing_at(rt: &HostRuntime, path: &str) -> bool {

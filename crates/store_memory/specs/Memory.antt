@@ -4,8 +4,8 @@ use Rattle.std.specs.List.{All}
 use Rattle.dates.specs.Entry.{spelling}
 use Rattle.store.specs.declared.change.Change.{Change}
 use Rattle.store_memory.specs.declared.mem_store.MemStore.{MemStore}
-use Rattle.store_memory_tables.specs.declared.spelled_entry.SpelledEntry.{SpelledEntry}
-use Rattle.store_memory_tables.specs.Held.{array_at, calendar_slot, imported_of, next_of, places_of, row_of, shown_of, shown_slot, slot_of, table_at}
+use Rattle.store_memory.specs.declared.spelled_entry.SpelledEntry.{SpelledEntry}
+use Rattle.store_memory.specs.Held.{array_at, calendar_slot, imported_of, next_of, places_of, row_of, shown_of, shown_slot, slot_of, table_at}
 use Rattle.store.specs.Standing.{Standing, sound}
 use Rattle.store.specs.Tables.{Tables}
 

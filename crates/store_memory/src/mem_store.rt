@@ -5,11 +5,15 @@ ghost use Rattle.store_memory.specs.Memory.{HasRoom, standing_of, tables_of};
 ghost use Rattle.store.specs.Standing.{sound};
 ghost use Rattle.store.specs.Tables.{no_tables};
 
+use crate::arrays::Arrays;
+use crate::calendars::Calendars;
+use crate::panels::Panels;
+use crate::shown_values::ShownValues;
+use crate::spelled_entry::{SpelledEntry, spell};
 use dates::Entry;
 use points::{CommandRow, Name, NumberedRow, PriorityArray};
 use std::alloc::{AllocError, Global};
 use store::{Change, Names, Store, StoreFault};
-use store_memory_tables::{Arrays, Calendars, Panels, ShownValues, SpelledEntry, spell};
 
 /// A store that keeps its tables in memory, and so as long as the program runs. It fails for lack of memory
 /// alone.

@@ -12,7 +12,7 @@ use Rattle.sqlite.specs.Effect.{Database, Reads}
 use Rattle.sqlite.specs.Listing.{understood}
 use Rattle.sqlite.proofs.Callers.{command_of}
 use Rattle.sqlite_sql.specs.Program.{overlay}
-use Rattle.store_sql_create.specs.Schema.{desk_schema}
+use Rattle.store_sql_rows.specs.Schema.{desk_schema}
 use Rattle.store_sql_rows.specs.Meanings.{passes, plain_query}
 use Rattle.store_sql_rows.proofs.AnswerLemmas.{overlay_none}
 use Rattle.store_sql.specs.Asking.{FindsNone}

@@ -6,7 +6,7 @@ use Rattle.sqlite_value.specs.Order.{Row}
 use Rattle.sqlite.specs.Effect.{Database, Reads}
 use Rattle.sqlite.specs.Given.{IsPlain}
 use Rattle.sqlite.specs.Listing.{understood}
-use Rattle.store_sql_create.specs.Schema.{desk_schema}
+use Rattle.store_sql_rows.specs.Schema.{desk_schema}
 use Rattle.sqlite.specs.State.{HasCleanDisk, IsUnchanged, Shown, State, Survives}
 use Rattle.sqlite.proofs.Callers.{command_of, reads_as}
 use Rattle.sqlite.proofs.StateLemmas.{survives_weaker}

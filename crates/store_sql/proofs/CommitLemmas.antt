@@ -5,13 +5,13 @@ use Rattle.sqlite_trees.specs.declared.store.Store.{Ghosts}
 use Rattle.sqlite.specs.Held.{Held, state}
 use Rattle.sqlite.specs.State.{HasCleanDisk, IsUnchanged, State, Survives}
 use Rattle.sqlite.proofs.StateLemmas.{survives_then}
-use Rattle.store_sql_reads.proofs.ReadLemmas.{clean_before}
+use Rattle.store_sql.proofs.ReadLemmas.{clean_before}
 use Rattle.store_sql_rows.specs.Broken.{cannot_stand_in}
 use Rattle.store_sql_rows.specs.Ours.{IsOurs, content_of, kept_in}
 use Rattle.store_sql_rows.specs.Ours as ours
 use Rattle.store.specs.declared.change.Change.{Change}
 use Rattle.store.specs.declared.fault.StoreFault.{StoreFault}
-use Rattle.store.specs.declared.fault.StoreFault.TheVariants.{Failed, NoMemory, Shut}
+use Rattle.store.specs.declared.fault.StoreFault.TheVariants.{Failed, NoMemory}
 use Rattle.store.specs.Change.{with_change}
 use Rattle.store.specs.Standing.{Commits, HasRisen, Makes}
 use Rattle.store_sql.specs.Committed.{IsCommitted, ShowsCommitted}
@@ -19,19 +19,7 @@ use Rattle.store_sql.specs.Opening.{Stands}
 use Rattle.store_sql.specs.Standing.{IsFit, standing_at}
 use Rattle.store_sql.specs.Judging.{IsRefusal}
 use Rattle.store_sql.specs.declared.session.Session.{Session}
-use Rattle.store_sql.proofs.GoesLemmas.{Settles, failed_goes, open_goes, shut_goes}
-
--- a shut store answers S3 and is left as it is
-pub commits_shut : (change : Change) (s : State) (failures : ℕ) (is_shut : Bool) → is_shut ≡ true
-    → Commits change (Some Shut) (standing_at s failures is_shut) (standing_at s failures is_shut)
-commits_shut change s failures is_shut shut = record {
-  goes = shut_goes s failures is_shut shut;
-  made = λ _ is. absurd (let e = is in cc);
-  unchanged = λ _ unshut. absurd (true≢false (sym shut ∙ unshut));
-  left = λ _ unshut. absurd (true≢false (sym shut ∙ unshut));
-  never_bad = λ is. absurd (let e = is in cc);
-  stands = λ _ _ asked could. could;
-}
+use Rattle.store_sql.proofs.GoesLemmas.{Settles, failed_goes, open_goes}
 
 -- Before a commit, after it, and once its refusal was reported.
 module _ (change : Change) (old new : State) (failures : ℕ) (was_shut : Bool) (was_open : was_shut ≡ false)

@@ -12,7 +12,7 @@ use Rattle.sqlite_trees.specs.View.{is_int}
 use Rattle.sqlite.specs.Effect.{Database, Reads}
 use Rattle.sqlite.specs.Listing.{understood}
 use Rattle.sqlite.proofs.Callers.{command_of}
-use Rattle.store_sql_create.specs.Schema.{desk_schema, desk_tree}
+use Rattle.store_sql_rows.specs.Schema.{desk_schema, desk_tree}
 use Rattle.store_sql_rows.specs.Meanings.{shows}
 use Rattle.store_sql_rows.specs.Ours.{IsOne}
 use Rattle.store_sql_rows.proofs.AnswerLemmas.{plain_program}

@@ -3,7 +3,7 @@ use Rattle.std.proofs.Common.{◌≡◌, ◌≤◌, ℕ, Bool, true, false, Opti
 use Rattle.sqlite_trees.specs.Tree.{Trees}
 use Rattle.sqlite_trees.specs.View.{doubt}
 use Rattle.sqlite.specs.State.{State}
-use Rattle.store_sql_reads.proofs.ReadLemmas.{clean_before}
+use Rattle.store_sql.proofs.ReadLemmas.{clean_before}
 use Rattle.store_sql_rows.specs.Ours.{content_of}
 use Rattle.store.specs.declared.fault.StoreFault.{StoreFault}
 use Rattle.store.specs.declared.fault.StoreFault.TheVariants.{Failed, Shut}

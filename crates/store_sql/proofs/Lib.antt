@@ -16,3 +16,13 @@ pub mod TransactionLemmas
 pub mod VersionLemmas
 pub mod WholeLemmas
 pub mod GoesLemmas
+pub mod ReadCells
+pub mod FoundLemmas
+pub mod PlacingLemmas
+pub mod ReadLemmas
+pub mod ParsedLemmas
+pub mod NumberLemmas
+pub mod NumberedLemmas
+pub mod TextLemmas
+pub mod EntryLemmas
+pub mod NameLemmas

@@ -1,11 +1,11 @@
 -- What the steps of an opening leave.
-use Rattle.std.proofs.Common.{◌≡◌, inl, inr, ℕ, Bool, true, false, None, true≢false, List, [], ◌∷◌, Some, Ok, Err, Result, ℤ, slice_get, ◌⊎◌, pos, IsTrue, refl, sym, ap, subst, ◌∙◌, IfErr, IfOk}
+use Rattle.std.proofs.Common.{◌≡◌, inl, inr, ℕ, Bool, true, None, true≢false, List, ◌∷◌, Some, Ok, Err, Result, ℤ, slice_get, ◌⊎◌, pos, IsTrue, refl, sym, ap, subst, ◌∙◌, IfErr, IfOk, false, []}
 use Rattle.std.specs.Result.{result_err}
 use Rattle.sqlite_value.specs.Order.{Row, column}
 use Rattle.sqlite.specs.declared.error.Error.{Error}
 use Rattle.sqlite.specs.State.{IsNotRun, IsUnchanged, State}
 use Rattle.sqlite.proofs.Callers.{one_permutation}
-use Rattle.store_sql_reads.specs.Asking.{Asks, Sees}
+use Rattle.store_sql.specs.Leaving.{Asks, Sees}
 use Rattle.store_sql_rows.specs.Looking.{Finds, Rests}
 use Rattle.store_sql_rows.specs.Ours.{IsOne}
 use Rattle.store_sql_rows.proofs.RestLemmas.{rests_unchanged}
@@ -129,19 +129,3 @@ known_reported (Err read.BadRow) own old mid is settled judged known bad =
     let judged' : IsJudged true old mid = subst (λ b. IsJudged b old mid) is judged in
     let none = bad (judged_ours old mid settled judged') refl in
     absurd (known_version old known (ap (λ d. version_of d.trees) (sym (judged.now ∙ known.stands.same)) ∙ none))
-
--- what was found, of a version that is known, was known
-pub found_known : (reported : ℤ) (old new : State) → IsFound reported old new → old.in_transaction ≡ false → (reported ≡ pos 1) ⊎ (reported ≡ pos 2)
-    → IsKnown old
-found_known reported old new found mode is = record {
-  mode = mode;
-  stands = record {
-    is_open = found.was_open;
-    ours = subst IsOurs found.now found.stands.ours;
-    same = sym found.now ∙ found.stands.same ∙ found.committed;
-  };
-  version = elim is [
-    | inl first ↦ inl (ap (λ d. version_of d.trees) (sym found.committed) ∙ found.version ∙ ap Some first)
-    | inr second ↦ inr (ap (λ d. version_of d.trees) (sym found.committed) ∙ found.version ∙ ap Some second)
-  ];
-}

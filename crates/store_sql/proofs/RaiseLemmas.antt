@@ -11,7 +11,7 @@ use Rattle.store.specs.Change.{with_change}
 use Rattle.store_sql_rows.specs.Ours.{IsOurs, kept_in}
 use Rattle.store_sql_rows.specs.Steps.{Steps, Turns}
 use Rattle.store_sql_rows.proofs.StepLemmas.{clean_before, then}
-use Rattle.store_sql_reads.specs.Asking.{Answers}
+use Rattle.store_sql.specs.Leaving.{Answers}
 use Rattle.store_sql_rows.specs.Stored.{Kept, tables_in}
 use Rattle.store_sql.specs.Opening.{DropsEarly, IsChangedBy, IsFirst, IsRaised, IsReadToDrop, Raises, SetsVersion}
 use Rattle.store_sql.proofs.OpenLemmas.{answered_sees}

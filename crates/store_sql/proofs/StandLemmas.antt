@@ -8,8 +8,8 @@ use Rattle.sqlite.specs.State.{HasCleanDisk, IsUnchanged, State, Survives}
 use Rattle.sqlite.proofs.StateLemmas.{survives_then}
 use Rattle.store_sql_rows.specs.Broken.{cannot_stand_in}
 use Rattle.store_sql_rows.specs.Looking.{Rests}
-use Rattle.store_sql_reads.specs.Asking.{Answers, Sees, is_sql}
-use Rattle.store_sql_reads.proofs.ReadLemmas.{clean_before}
+use Rattle.store_sql.specs.Leaving.{Answers, Sees, is_sql}
+use Rattle.store_sql.proofs.ReadLemmas.{clean_before}
 use Rattle.store_sql_rows.specs.Ours.{IsOurs, content_of, kept_in}
 use Rattle.store.specs.declared.fault.StoreFault.{StoreFault}
 use Rattle.store.specs.declared.fault.StoreFault.TheVariants.{BadRow, Failed, NoMemory, Shut}
@@ -22,18 +22,7 @@ use Rattle.store_sql.specs.Opening.{Stands}
 use Rattle.store_sql.specs.Standing.{IsFit, standing_at, standing_of}
 use Rattle.store_sql.specs.declared.session.Session.{Session}
 use Rattle.store_sql.specs.Judging.{IsRefusal, IsReported}
-use Rattle.store_sql.proofs.GoesLemmas.{Settles, failed_goes, open_goes, shut_goes}
-
--- a shut store answers S3 and is left as it is
-pub reads_shut : (s : State) (failures : ℕ) (is_shut : Bool) → is_shut ≡ true
-    → Reads (Some Shut) (standing_at s failures is_shut) (standing_at s failures is_shut)
-reads_shut s failures is_shut shut = record {
-  goes = shut_goes s failures is_shut shut;
-  kept = λ _ _. refl;
-  rows = λ _ _. refl;
-  left = λ _ unshut. absurd (true≢false (sym shut ∙ unshut));
-  bad_row = λ _ is. absurd (let e = is in cc);
-}
+use Rattle.store_sql.proofs.GoesLemmas.{Settles, failed_goes, open_goes}
 
 sees_stands : (old new : State) → Sees old new → Stands old → Stands new
 sees_stands old new sees stands = record {

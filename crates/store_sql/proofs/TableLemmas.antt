@@ -8,7 +8,7 @@ use Rattle.sqlite_schema.specs.declared.schema.Constraint.TheVariants.{Datatype,
 use Rattle.sqlite_schema.specs.declared.schema.Kind.TheVariants as kind
 use Rattle.sqlite_schema.specs.Rules.{Keeps}
 use Rattle.sqlite.specs.Effect.{Database}
-use Rattle.store_sql_create.specs.Schema.{column_of, command_table, command_tree, desk_schema, imported_table, imported_tree, panel_table, panel_tree, place_table, place_tree, shown_table, shown_tree}
+use Rattle.store_sql_rows.specs.Schema.{column_of, command_table, command_tree, desk_schema, imported_table, imported_tree, panel_table, panel_tree, place_table, place_tree, shown_table, shown_tree}
 use Rattle.store_sql_rows.specs.Ours.{AreOwn}
 use Rattle.store_sql_rows.proofs.TypeLemmas.{IsFilled, first_filled, second_filled}
 use Rattle.store_sql.specs.Asking.{FindsNone, Joins}

@@ -16,7 +16,7 @@ use Rattle.sqlite_trees.specs.Tree.{rowid}
 use Rattle.sqlite.specs.declared.error.Error.{Error}
 use Rattle.sqlite.specs.Effect.{Database}
 use Rattle.sqlite.specs.State.{ExecutesInside, State}
-use Rattle.store_sql_create.specs.Schema.{desk_table, desk_tree}
+use Rattle.store_sql_rows.specs.Schema.{desk_table, desk_tree}
 use Rattle.store_sql_rows.specs.Ours.{IsInside, IsOurs, Makes, kept_in}
 use Rattle.store_sql_rows.proofs.CellLemmas.{cast_int, cast_null}
 use Rattle.store_sql_rows.proofs.DeskLemmas.{desk_updated}

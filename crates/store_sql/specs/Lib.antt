@@ -7,3 +7,9 @@ pub mod Opened
 pub mod Opening
 pub mod Own
 pub mod Standing
+pub mod Leaving
+pub mod Placing
+pub mod Numbered
+pub mod Stepping
+pub mod Texts
+pub mod Naming

@@ -4,7 +4,7 @@ use Rattle.sqlite.specs.Held.{Held}
 use Rattle.sqlite.specs.State.{State, Survives}
 use Rattle.sqlite.specs.declared.error.Error.TheVariants as sql
 use Rattle.sqlite.specs.declared.error.ErrorCode.TheVariants as code
-use Rattle.store_sql_create.specs.Creating.{AreFirst}
+use Rattle.store_sql_rows.specs.Creating.{AreFirst}
 use Rattle.store_sql.specs.Opening.{IsMigrated, IsRaised, IsTaken}
 use Rattle.store_sql_rows.specs.Ours.{content_of}
 use Rattle.store_sql.specs.declared.refusal.Refusal.{Refusal}

@@ -9,11 +9,11 @@ use Rattle.store.specs.Change.{with_change}
 use Rattle.store.specs.Standing.{sound}
 use Rattle.store.specs.Tables.{Tables, no_tables}
 use Rattle.points.specs.Texts.{Text}
-use Rattle.store_sql_reads.specs.Naming.{NamesStand}
+use Rattle.store_sql.specs.Naming.{NamesStand}
 use Rattle.store_sql_rows.specs.Cells.{number_in}
 use Rattle.store_sql_rows.specs.declared.read_fault.ReadFault.{ReadFault}
 use Rattle.store_sql_rows.specs.declared.read_fault.ReadFault.TheVariants as read
-use Rattle.store_sql_create.specs.Schema.{desk_schema, desk_tree, schema_0}
+use Rattle.store_sql_rows.specs.Schema.{desk_schema, desk_tree, schema_0}
 use Rattle.store_sql_rows.specs.Ours.{AreOurs, IsOurs, Makes, content_of, kept_in}
 use Rattle.store_sql_rows.specs.Steps.{Turns}
 use Rattle.store_sql_rows.specs.Stored.{Kept, tables_in}

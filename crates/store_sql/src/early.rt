@@ -4,17 +4,18 @@ ghost use Rattle.std.specs.Result.{result_err};
 ghost use Rattle.sqlite.specs.Held.{state};
 ghost use Rattle.sqlite.specs.State.{HasCleanDisk, Survives};
 ghost use Rattle.store_sql_rows.specs.Ours.{IsOurs, kept_in};
-ghost use Rattle.store_sql_reads.specs.Asking.{Answers, is_sql};
+ghost use Rattle.store_sql.specs.Leaving.{Answers, is_sql};
 ghost use Rattle.store.specs.Change.{CanStand};
 ghost use Rattle.store_sql_rows.specs.Stored.{is_sound_in, tables_in};
 ghost use Rattle.store_sql_rows.specs.declared.read_fault.ReadFault.TheVariants.{BadRow};
 ghost use Rattle.store_sql.specs.Opening.{IsReadToDrop, early_rows};
 
+use crate::finding::next_of;
+use crate::names::names_of;
 use points::Name;
 use sqlite::{Alter, Connection, Error, ErrorCode};
 use std::alloc::Global;
 use store::{Change, RowsBelow};
-use store_sql_reads::{names_of, next_of};
 use store_sql_rows::{ReadFault, RowNumbers};
 
 // How many numbers below a panel's next one keep their rows.

@@ -10,6 +10,10 @@
 //!
 //! `make` makes the tables in an empty database. `take` takes a database whose tables are of this version, or of the
 //! first, which it makes those of this one, and whose rows are such as a store writes (`own_rows`).
+//!
+//! Each function of `finding` and `placing` reads one of the six tables and answers what they hold, or that a row
+//! cannot stand. The others list: the entries of a calendar and a panel's run of rows, each by one query, the run one row
+//! at a time, and the names, each by a query of its own.
 #![tactic(auto)]
 
 pub use sql_store::SqlStore;
@@ -17,10 +21,19 @@ pub use sql_store::SqlStore;
 mod asking;
 mod committing;
 mod early;
+mod entries;
+mod finding;
 mod making;
+mod memory;
+mod names;
+mod next_names;
+mod numbered;
+mod only;
 mod own_rows;
+mod placing;
 mod raising;
 mod refusal;
+mod rows;
 mod session;
 mod sql_store;
 mod tables;

@@ -3,13 +3,13 @@ ghost use Rattle.std.specs.Prelude.{◌≡◌, ◌↔◌, ◌⊎◌, Err, IfErr,
 ghost use Rattle.sqlite.specs.Effect.{IsDatabase};
 ghost use Rattle.sqlite.specs.Held.{state};
 ghost use Rattle.sqlite.specs.State.{HasCleanDisk, Survives};
-ghost use Rattle.store_sql_create.specs.Creating.{AreFirst, IsAsBefore, IsMade};
+ghost use Rattle.store_sql_rows.specs.Creating.{AreFirst, IsAsBefore, IsMade};
 ghost use Rattle.store_sql.specs.Opening.{IsBare, IsBegun, is_sql};
 ghost use Rattle.store_sql.specs.declared.refusal.Refusal.TheVariants.{NotOurs};
 
 use crate::refusal::Refusal;
 use sqlite::{Alter, Connection, Error};
-use store_sql_create::{has_no_schema, make_tables};
+use store_sql_rows::{has_no_schema, make_tables};
 
 /// Whether the connection is outside a transaction, over a database in which nothing is.
 pub fn is_bare<S: Alter>(connection: &Connection<S>) -> bool

@@ -3,7 +3,7 @@
 ghost use Rattle.std.specs.Prelude.{◌≡◌, ◌↔◌, false, IfOk, OnOk, IsTrue, [], ◌∷◌};
 ghost use Rattle.sqlite.specs.Held.{state};
 ghost use Rattle.sqlite.specs.State.{HasCleanDisk, IsUnchanged, Survives};
-ghost use Rattle.store_sql_create.specs.Schema.{command_tree, desk_tree, imported_tree, panel_tree, place_tree, shown_tree};
+ghost use Rattle.store_sql_rows.specs.Schema.{command_tree, desk_tree, imported_tree, panel_tree, place_tree, shown_tree};
 ghost use Rattle.store_sql_rows.specs.Looking.{Rests};
 ghost use Rattle.store_sql_rows.specs.Ours.{AreOurs, AreOwn, IsOne, kept_in};
 ghost use Rattle.store_sql.specs.Fitting.{IsFitting};

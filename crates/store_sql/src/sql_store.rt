@@ -2,7 +2,7 @@
 ghost use Rattle.std.specs.Prelude.{◌≡◌, ◌↔◌, ◌⊎◌, IfErr, IfOk, IsTrue, false};
 ghost use Rattle.sqlite.specs.Held.{state};
 ghost use Rattle.sqlite.specs.State.{HasCleanDisk};
-ghost use Rattle.store_sql_create.specs.Creating.{IsAsBefore};
+ghost use Rattle.store_sql_rows.specs.Creating.{IsAsBefore};
 ghost use Rattle.store_sql.specs.Opening.{IsBare, IsKnown};
 ghost use Rattle.store.specs.Tables.{no_tables};
 ghost use Rattle.store.specs.Standing.{sound};
@@ -11,7 +11,12 @@ ghost use Rattle.store_sql.specs.Standing.{IsFit, standing_of};
 ghost use Rattle.store.specs.declared.open_fault.OpenFault.TheVariants.{Failed, NoMemory, UnknownTables};
 
 use crate::committing::commit_change;
+use crate::entries::entries_of;
+use crate::finding::{last_tick, next_of, shown_by};
 use crate::making::{is_bare, make};
+use crate::names::names_of;
+use crate::placing::array_of;
+use crate::rows::{command_of, commands_run};
 use crate::session::Session;
 use crate::taking::take;
 use dates::Entry;
@@ -20,9 +25,6 @@ use sqlite::{Alter, Connection};
 use std::alloc::Global;
 use std::marker::Model;
 use store::{Change, Names, OpenFault, Store, StoreFault};
-use store_sql_reads::{
-    array_of, command_of, commands_run, entries_of, last_tick, names_of, next_of, shown_by,
-};
 use store_sql_rows::RowNumbers;
 
 /// A store that keeps its tables in a database of SQLite. It fails for lack of memory, and where the device or the

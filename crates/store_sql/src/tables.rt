@@ -1,7 +1,7 @@
 //! Whether the rows of each table are a store's own.
 ghost use Rattle.std.specs.Prelude.{◌≡◌, false, IsTrue, [], ◌∷◌};
 ghost use Rattle.sqlite.specs.Held.{state};
-ghost use Rattle.store_sql_create.specs.Schema.{command_tree, desk_tree, imported_tree, panel_tree, place_tree, shown_tree};
+ghost use Rattle.store_sql_rows.specs.Schema.{command_tree, desk_tree, imported_tree, panel_tree, place_tree, shown_tree};
 ghost use Rattle.store_sql_rows.specs.Ours.{AreOwn, IsOne};
 ghost use Rattle.store_sql.specs.Asking.{Asks, Joins};
 ghost use Rattle.store_sql.specs.Fitting.{AreNumbered, IsAlone};

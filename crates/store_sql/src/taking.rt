@@ -2,7 +2,7 @@
 ghost use Rattle.std.specs.Prelude.{◌≡◌, ◌↔◌, ◌⊎◌, IfErr, IfOk, IsTrue, OnErr, OnOk, false};
 ghost use Rattle.sqlite.specs.Held.{state};
 ghost use Rattle.sqlite.specs.State.{HasCleanDisk, IsUnchanged, Survives};
-ghost use Rattle.store_sql_create.specs.Creating.{IsAsBefore};
+ghost use Rattle.store_sql_rows.specs.Creating.{IsAsBefore};
 ghost use Rattle.store_sql_rows.specs.Looking.{Rests};
 ghost use Rattle.store_sql.specs.Opening.{IsFaultOf, IsFirst, IsFound, IsJudged, IsKnown, IsMigrated, IsRaised, IsSettled, IsShaped, IsTaken, as_version, is_sql};
 ghost use Rattle.store_sql.specs.declared.refusal.Refusal.TheVariants.{NotOurs};
@@ -14,8 +14,7 @@ use crate::refusal::Refusal;
 use crate::version::version_of;
 use sqlite::{Alter, Connection, Error};
 use std::alloc::Global;
-use store_sql_create::{VERSION, has_desk_schema};
-use store_sql_rows::ReadFault;
+use store_sql_rows::{ReadFault, VERSION, has_desk_schema};
 
 // The version before this one, with rows that this one drops.
 const FIRST_VERSION: i64 = 1;

@@ -6,7 +6,7 @@ ghost use Rattle.sqlite.specs.State.{HasCleanDisk, Survives};
 ghost use Rattle.sqlite_value.specs.Order.{Row as Cells, column};
 ghost use Rattle.store_sql_rows.specs.Looking.{Finds};
 ghost use Rattle.store_sql_rows.specs.Ours.{IsOne, IsOurs};
-ghost use Rattle.store_sql_reads.specs.Asking.{Asks};
+ghost use Rattle.store_sql.specs.Leaving.{Asks};
 ghost use Rattle.store_sql.specs.Opening.{version_in, version_of};
 ghost use Rattle.store_sql_rows.specs.declared.read_fault.ReadFault.TheVariants.{BadRow};
 

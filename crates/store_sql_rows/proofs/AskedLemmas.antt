@@ -17,7 +17,7 @@ use Rattle.sqlite.specs.State.{ExecutesInside, FailsToQuery, FailsToShow, IsNotR
 use Rattle.sqlite.specs.Effect.{Reads}
 use Rattle.sqlite.proofs.Callers.{command_of, reads_as, runs_as}
 use Rattle.sqlite_tied.specs.Compute.{everything}
-use Rattle.store_sql_create.specs.Schema.{desk_schema}
+use Rattle.store_sql_rows.specs.Schema.{desk_schema}
 use Rattle.store_sql_rows.specs.Looking.{IsCommand, ShowsInside}
 use Rattle.store_sql_rows.specs.Ours.{IsInside}
 use Rattle.store_sql_rows.proofs.RestLemmas.{shown_unchanged}

@@ -28,7 +28,7 @@ use Rattle.sqlite.specs.Given.{IsPlain}
 use Rattle.sqlite.specs.Listing.{understood}
 use Rattle.sqlite.specs.State.{ExecutesInside, State}
 use Rattle.sqlite.proofs.Callers.{command_of}
-use Rattle.store_sql_create.specs.Schema.{desk_schema}
+use Rattle.store_sql_rows.specs.Schema.{desk_schema}
 use Rattle.store_sql_rows.specs.Meanings.{passes, plain_query, selection, shows}
 use Rattle.store_sql_rows.specs.Looking.{Finds, ShowsInside, Stays}
 use Rattle.store_sql_rows.specs.Ours.{AreOwn, Changes, GainsAll, IsInside, IsOurs, Remakes, is_between, kept_in}

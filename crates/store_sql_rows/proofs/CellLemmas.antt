@@ -1,6 +1,6 @@
 -- What a cell says to a comparison.
 use Rattle.std.proofs.Common.{◌≡◌, ℕ, ℤ, pos, negsuc, Bool, true, false, cond, not, ◌==◌, nat_lt, ◌&&◌, Option, None, Some, List, bytes_eq, refl, sym, ap, subst, ◌∙◌, IsTrue, true≢false}
-use Rattle.std.specs.Ordering.{int_cmp, is_eq, is_ge, is_gt, is_lt}
+use Rattle.std.specs.Ordering.{int_cmp, is_eq, is_ge, is_lt}
 use Rattle.std.specs.declared.cmp.Ordering.TheVariants.{Less, Equal, Greater}
 use Rattle.std.proofs.lemmas.Bool.Decides.{Decides-eqb, Decides-int_eq}
 use Rattle.std.proofs.lemmas.Slice.Eq.{bytes_eq-Decides}
@@ -131,10 +131,6 @@ and_true false = refl
 pub bound_cell : (n : Option ℤ) → bound_value (cell_of n) ≡ cell_of n
 bound_cell None = refl
 bound_cell (Some n) = refl
-
-is_gt_cond : (b : Bool) → is_gt (cond b Less Equal) ≡ false
-is_gt_cond true = refl
-is_gt_cond false = refl
 
 is_ge_cond : (a b : Bool) → is_ge (cond a Less (cond b Greater Equal)) ≡ not a
 is_ge_cond true b = refl

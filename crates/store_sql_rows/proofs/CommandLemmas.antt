@@ -23,7 +23,7 @@ use Rattle.sqlite_sql.specs.Term.{Term, lit, col}
 use Rattle.sqlite.specs.declared.error.Error.{Error}
 use Rattle.sqlite.specs.Effect.{Database}
 use Rattle.sqlite.specs.State.{ExecutesInside, Shown, State}
-use Rattle.store_sql_create.specs.Schema.{column_of, command_table, command_tree}
+use Rattle.store_sql_rows.specs.Schema.{column_of, command_table, command_tree}
 use Rattle.store_sql_rows.specs.Meanings.{compared_with, given, passes}
 use Rattle.store_sql_rows.specs.Ours.{Adds, Changes, Exchanges, IsInside, IsOurs, Loses}
 use Rattle.store_sql_rows.specs.Slot.{On, command_slot}

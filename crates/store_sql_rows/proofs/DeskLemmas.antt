@@ -19,7 +19,7 @@ use Rattle.sqlite.specs.declared.error.Error.{Error}
 use Rattle.sqlite.specs.Given.{IsPlain}
 use Rattle.sqlite.specs.Listing.{understood}
 use Rattle.sqlite.specs.State.{Executes, ExecutesInside, Shown, State}
-use Rattle.store_sql_create.specs.Schema.{desk_schema, desk_table, desk_tree}
+use Rattle.store_sql_rows.specs.Schema.{desk_schema, desk_table, desk_tree}
 use Rattle.store_sql_rows.specs.Looking.{Finds}
 use Rattle.store_sql_rows.specs.Meanings.{passes, plain_query, shows}
 use Rattle.store_sql_rows.specs.Ours.{AreOurs, Changes, IsInside, IsOurs, SetsDesk, kept_in}

@@ -7,7 +7,7 @@ use Rattle.sqlite.specs.Given.{IsPlain}
 use Rattle.sqlite.specs.Listing.{reads_listing, understood}
 use Rattle.sqlite.proofs.Callers.{command_of}
 use Rattle.sqlite_tied.specs.Compute.{everything}
-use Rattle.store_sql_create.specs.Schema.{desk_schema, desk_tree}
+use Rattle.store_sql_rows.specs.Schema.{desk_schema, desk_tree}
 use Rattle.store_sql_rows.specs.Meanings.{plain_query, selection}
 
 abbrev pub set_last_text : List ℕ

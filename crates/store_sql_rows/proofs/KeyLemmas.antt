@@ -22,7 +22,7 @@ use Rattle.sqlite_rules.proofs.ListLemmas.{some_from, test_has}
 use Rattle.sqlite_rules.proofs.RuleLemmas.{keeps_at}
 use Rattle.sqlite_rules.proofs.TableLemmas.{int_is}
 use Rattle.sqlite.specs.Effect.{Database}
-use Rattle.store_sql_create.specs.Schema.{desk_schema}
+use Rattle.store_sql_rows.specs.Schema.{desk_schema}
 use Rattle.store_sql_rows.specs.Ours.{AreOwn, IsOurs}
 use Rattle.store_sql_rows.proofs.SlotLemmas.{not_true}
 use Rattle.store_sql_rows.proofs.TypeLemmas.{ruled}

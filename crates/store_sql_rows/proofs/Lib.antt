@@ -46,3 +46,7 @@ pub mod TogetherLemmas
 pub mod TypeLemmas
 pub mod WriteLemmas
 pub mod UnsoundLemmas
+pub mod CreateLemmas
+pub mod CreateTexts
+pub mod Indexes
+pub mod Items

@@ -16,7 +16,7 @@ use Rattle.sqlite_sql.specs.Term.{lit, col}
 use Rattle.sqlite.specs.declared.error.Error.{Error}
 use Rattle.sqlite.specs.Effect.{Database}
 use Rattle.sqlite.specs.State.{ExecutesInside, Shown, State}
-use Rattle.store_sql_create.specs.Schema.{column_of, panel_table, panel_tree}
+use Rattle.store_sql_rows.specs.Schema.{column_of, panel_table, panel_tree}
 use Rattle.store_sql_rows.specs.Meanings.{given, passes}
 use Rattle.store_sql_rows.specs.Ours.{Adds, Changes, IsInside, IsOurs, Rewrites, RewritesAt}
 use Rattle.store_sql_rows.specs.Slot.{On, panel_slot}

@@ -14,7 +14,7 @@ use Rattle.sqlite_trees.specs.Tree.{rowid}
 use Rattle.sqlite.specs.Given.{IsPlain}
 use Rattle.sqlite.specs.Listing.{understood}
 use Rattle.sqlite.specs.State.{State}
-use Rattle.store_sql_create.specs.Schema.{desk_schema}
+use Rattle.store_sql_rows.specs.Schema.{desk_schema}
 use Rattle.store_sql_rows.specs.Meanings.{shows}
 use Rattle.store_sql_rows.specs.Ours.{IsInside}
 use Rattle.store_sql_rows.specs.Slot.{Slot}

@@ -15,7 +15,7 @@ use Rattle.sqlite_rules.proofs.ListLemmas.{all_has}
 use Rattle.sqlite_rules.proofs.TableLemmas.{int_is}
 use Rattle.sqlite_trees.specs.Tree.{has_rowid, rowid}
 use Rattle.sqlite.specs.Effect.{Database}
-use Rattle.store_sql_create.specs.Schema.{column_of, place_table, place_tree}
+use Rattle.store_sql_rows.specs.Schema.{column_of, place_table, place_tree}
 use Rattle.store_sql_rows.specs.Meanings.{given, passes}
 use Rattle.store_sql_rows.specs.Ours.{IsOurs}
 use Rattle.store_sql_rows.proofs.BetweenLemmas.{keys_shown, passes_between, remakes, tied_between}

@@ -12,7 +12,7 @@ use Rattle.sqlite.specs.Listing.{reads_listing, understood}
 use Rattle.sqlite.specs.State.{CommitsShowing, FailsToQuery, FailsToShow, HasCleanDisk, IsNotRun, IsRolledBack, IsUnchanged, Shown, ShowsRows, State, Survives}
 use Rattle.sqlite.proofs.Callers.{command_of, never_commits, reads_as}
 use Rattle.sqlite.proofs.StateLemmas.{survives_weaker}
-use Rattle.store_sql_create.specs.Schema.{desk_schema}
+use Rattle.store_sql_rows.specs.Schema.{desk_schema}
 use Rattle.store_sql_rows.specs.Looking.{Finds, FindsLeast, Leaves, Reads, Rests, is_from_text}
 use Rattle.store_sql_rows.specs.Meanings.{compared_with, least, passes, selection, shows}
 use Rattle.sqlite_rules.specs.Lists.{Has}

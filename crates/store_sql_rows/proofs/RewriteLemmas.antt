@@ -20,7 +20,7 @@ use Rattle.sqlite.specs.Given.{IsPlain}
 use Rattle.sqlite.specs.Listing.{understood}
 use Rattle.sqlite.specs.State.{ExecutesInside, Shows, State}
 use Rattle.sqlite.proofs.Callers.{command_of}
-use Rattle.store_sql_create.specs.Schema.{desk_schema}
+use Rattle.store_sql_rows.specs.Schema.{desk_schema}
 use Rattle.store_sql_rows.specs.Meanings.{passes, plain_query, shows}
 use Rattle.store_sql_rows.specs.Ours.{AreOwn, Changes, IsInside, Rewrites, RewritesAt, at_number}
 use Rattle.store_sql_rows.specs.Slot.{On, Slot}

@@ -1,5 +1,5 @@
 -- What a statement in a transaction keeps.
-use Rattle.std.proofs.Common.{◌≡◌, ◌∙◌, inl, inr, ℕ, List, IfOk, IsTrue, true, false, Ok, Err, Result, refl, sym, subst}
+use Rattle.std.proofs.Common.{◌≡◌, ◌∙◌, inl, inr, ℕ, List, IfOk, IsTrue, true, false, Ok, Err, Result, subst}
 use Rattle.std.proofs.lemmas.Bool.{cases_Bool}
 use Rattle.sqlite_schema.specs.declared.schema.Constraint.TheVariants.{Unique}
 use Rattle.sqlite_value.specs.Order.{Row}
@@ -27,9 +27,6 @@ inside_keeps sql params old new (Ok count) h = record { was_open = λ _. h.1.was
 inside_keeps sql params old new (Err e) (inl h) =
     elim h.1 [ inl same ↦ unchanged_keeps old new same | inr back ↦ rolled_keeps old new back ]
 inside_keeps sql params old new (Err e) (inr h) = unchanged_keeps old new h.2
-
-pub same_keeps : (old new : State) → new ≡ old → KeepsCommit old new
-same_keeps old new same = subst (KeepsCommit old) (sym same) (record { was_open = λ stands. stands; committed = λ _. refl })
 
 -- a statement that did this, stays on its connection and commits nothing
 pub moves_made : {S A : Type 0} {g : Ghosts S} {Does : A → State → State → Type 0} {old new : MutBor (Held S)} {r : Result A Error}

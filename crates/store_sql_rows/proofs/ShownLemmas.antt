@@ -19,7 +19,7 @@ use Rattle.sqlite_sql.specs.Term.{lit, col}
 use Rattle.sqlite.specs.declared.error.Error.{Error}
 use Rattle.sqlite.specs.Effect.{Database}
 use Rattle.sqlite.specs.State.{ExecutesInside, Shown, State}
-use Rattle.store_sql_create.specs.Schema.{column_of, shown_table, shown_tree}
+use Rattle.store_sql_rows.specs.Schema.{column_of, shown_table, shown_tree}
 use Rattle.store_sql_rows.specs.Meanings.{given, passes}
 use Rattle.store_sql_rows.specs.Ours.{Adds, Changes, IsInside, IsOurs, Loses, Remakes, Rewrites, RewritesAt, is_between}
 use Rattle.store_sql_rows.specs.Slot.{On, shown_slot}

@@ -7,7 +7,7 @@ use Rattle.sqlite_sql.specs.declared.ops.CompareOp.TheVariants.{Ge}
 use Rattle.sqlite_sql.specs.Term.{Term, lit, col}
 use Rattle.sqlite.specs.Listing.{understood}
 use Rattle.sqlite_tied.specs.Compute.{everything}
-use Rattle.store_sql_create.specs.Schema.{shown_tree}
+use Rattle.store_sql_rows.specs.Schema.{shown_tree}
 use Rattle.store_sql_rows.specs.Meanings.{compared_with, deletion, given, least, plain_query, selection}
 use Rattle.store_sql_rows.proofs.Texts.{Runs, between}
 

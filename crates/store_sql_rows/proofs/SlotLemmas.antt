@@ -20,7 +20,7 @@ use Rattle.sqlite.specs.Given.{IsPlain}
 use Rattle.sqlite.specs.Listing.{understood}
 use Rattle.sqlite.specs.State.{ExecutesInside, Shows, State}
 use Rattle.sqlite.proofs.Callers.{command_of}
-use Rattle.store_sql_create.specs.Schema.{command_tree, desk_schema, desk_tree, imported_tree, keyed_table, panel_tree, place_tree, shown_tree}
+use Rattle.store_sql_rows.specs.Schema.{command_tree, desk_schema, desk_tree, imported_tree, keyed_table, panel_tree, place_tree, shown_tree}
 use Rattle.store_sql_rows.specs.Meanings.{deletion, passes}
 use Rattle.store_sql_rows.specs.Ours.{AreOurs, AreOwn, Changes, Gains, HasOneMore, IsInside, IsOne, Loses, kept_in}
 use Rattle.store_sql_rows.specs.Slot.{On, Slot, command_slot, imported_slot, panel_slot, place_slot, shown_slot}

@@ -1,5 +1,5 @@
 -- A query whose rows are read one at a time.
-use Rattle.std.proofs.Common.{◌≡◌, ◌++◌, false, ℕ, List, [], ◌∷◌, Result, Ok, Err, OnErr, refl, sym, ap, ◌∙◌, subst, arith, true≢false}
+use Rattle.std.proofs.Common.{◌≡◌, ◌++◌, false, ℕ, List, ◌∷◌, Result, Ok, Err, OnErr, refl, sym, ap, ◌∙◌, subst, arith, true≢false, []}
 use Rattle.std.specs.Result.{IsErr}
 use Rattle.sqlite_trees.specs.declared.store.Store.{Ghosts}
 use Rattle.sqlite_value.specs.Order.{Row}
@@ -14,7 +14,7 @@ use Rattle.sqlite_schema.specs.declared.command.Command.{Command}
 use Rattle.sqlite.specs.State.{Begins, CommitsShowing, HasCleanDisk, IsUnchanged, Shown, State, Survives}
 use Rattle.sqlite.proofs.Callers.{begins_as, begun_plain, command_of, reads_as, unchanged_then}
 use Rattle.sqlite.proofs.StateLemmas.{survives_then}
-use Rattle.store_sql_create.specs.Schema.{desk_schema}
+use Rattle.store_sql_rows.specs.Schema.{desk_schema}
 use Rattle.store_sql_rows.specs.Looking.{IsCommand, Leaves, Rests, last_shown, number_shown}
 use Rattle.store_sql_rows.specs.Ours.{IsOurs}
 use Rattle.store_sql_rows.proofs.RestLemmas.{fails_rests, look_survives, ours_survives, plain_here, rests_unchanged}
@@ -24,14 +24,6 @@ pub record Stays (old now : State) : Type 0 where
   pub mode : old.in_transaction ≡ false → now.in_transaction ≡ false
   pub same : HasCleanDisk now → IsOurs old.now → IsUnchanged old now
   pub survives : Survives old now (λ _. IsOurs old.now → ⊥)
-
-pub leaves_ok : {A : Type 0} (old now : State) (x : A) → Stays old now → Leaves old now (Ok x)
-leaves_ok old now x stays = record {
-  mode = stays.mode;
-  same = stays.same;
-  rests = λ clean ours. rests_unchanged old now (stays.same clean ours);
-  survives = stays.survives;
-}
 
 pub leaves_err : {A : Type 0} (old now : State) (r : Result A Error) → IsErr r → Stays old now → Leaves old now r
 leaves_err old now (Ok x) failed stays = absurd (true≢false (sym failed))

@@ -1,10 +1,10 @@
 -- What the tables of rows tell after a change of the rows, and what the rows of a key tell of the tables.
-use Rattle.std.proofs.Common.{◌≡◌, ℕ, ◌≤◌, true, false, ◌&&◌, ◌==◌, List, [], ◌∷◌, Option, Some, None, is_some, unwrap_or, filter, filter_map}
+use Rattle.std.proofs.Common.{◌≡◌, ℕ, ◌≤◌, true, false, ◌&&◌, ◌==◌, List, ◌∷◌, Option, Some, None, is_some, unwrap_or, filter, filter_map, []}
 use Rattle.std.proofs.Common.{ℤ, Contains, refl, sym, ap, ◌∙◌, arith, IsTrue}
 use Rattle.std.specs.FinMap.{get, empty, get-empty}
 use Rattle.std.specs.Ordering.{nat_cmp}
 use Rattle.std.specs.Str.{bytes_eq}
-use Rattle.std.proofs.lemmas.Bool.{and_parts, and_from, both_ways, false_from_ne_true, ne_eqb, eqb-true, eq-eqb}
+use Rattle.std.proofs.lemmas.Bool.{and_parts, and_from, ne_eqb, eqb-true, eq-eqb}
 use Rattle.dates.specs.Entry.{spelling}
 use Rattle.points.specs.PriorityArray.{HasSixteenPlaces}
 use Rattle.sqlite_value.specs.Order.{Row, column}
@@ -28,7 +28,7 @@ pub use Rattle.store_sql_rows.proofs.ReadCellLemmas.{reading_spelled}
 use Rattle.store_sql_rows.proofs.ReadCellLemmas.{same-text, text-same, panel-agrees, command-agrees, lower-agrees, place-agrees, place-parts, schedule-agrees, entry-agrees}
 use Rattle.store_sql_rows.proofs.FoldLemmas.{with_each-unseen}
 use Rattle.store_sql_rows.proofs.KeepsLemmas.{all_shown_keep, command_keeps, commands_keep, desk_keeps, imported_keeps, next_keeps, place_keeps, places_keep, shown_keeps}
-use Rattle.store_sql_rows.proofs.StoredRowLemmas.{bad-row, here-row, item-goes, lost, no-row, one-row, put-row, stand-kept, two-rows}
+use Rattle.store_sql_rows.proofs.StoredRowLemmas.{here-row, item-goes, lost, no-row, one-row, put-row, stand-kept}
 use Rattle.store_sql_rows.proofs.TableLemmas.{next-either, next-absorb, next-commute, next-at, shown-either, shown-absorb, shown-commute, shown-none, shown-at}
 use Rattle.store_sql_rows.proofs.TableLemmas.{row-either, row-absorb, row-commute, row-at, is_lower, lower-absorb, lower-commute, lower-none}
 use Rattle.store_sql_rows.proofs.TableLemmas.{place-either, place-absorb, place-commute, place-none, place-at, place-other}
@@ -286,23 +286,11 @@ one_next panel kept row item only says =
     (λ y t here. next-at panel y t true here)
     kept.panel row item only says
 
-pub bad_next : (kept : Kept) (row : Row) → Contains kept.panel row → next_said row ≡ None → is_sound_in kept ≡ false
-bad_next kept row here none =
-    false_from_ne_true _ (λ is. both_ways _ (bad-row next_said same_panel kept.panel row here none) (sound-parts kept is).panel)
-
 pub alike-text : (key a b : Text) → bytes_eq key a ≡ true → bytes_eq key b ≡ true → bytes_eq a b ≡ true
 alike-text key a b first second = text-same a b (sym (same-text key a first) ∙ same-text key b second)
 
 pub alike-number : (key m n : ℕ) → (key == m) ≡ true → (key == n) ≡ true → (m == n) ≡ true
 alike-number key m n first second = eq-eqb m n (sym (eqb-true key m first) ∙ eqb-true key n second)
-
-pub two_next : (panel : Text) (kept : Kept) (a b : Row) (more : List Row) → filter (of_panel panel) kept.panel ≡ a ∷ b ∷ more
-    → is_sound_in kept ≡ false
-two_next panel kept a b more two =
-    false_from_ne_true _ (λ is. both_ways _ (two-rows next_said same_panel (of_panel panel) (λ y. bytes_eq panel y.panel)
-    (panel-agrees panel)
-    (λ x y first second. alike-text panel x.panel y.panel first second)
-    kept.panel a b more two) (sound-parts kept is).panel)
 
 -- ---- reads of `command`
 
@@ -327,23 +315,6 @@ one_command panel number kept row item only says =
     (λ y t here. row-at panel number y t true here)
     kept.command row item only says
 
-pub bad_command : (kept : Kept) (row : Row) → Contains kept.command row → command_said row ≡ None → is_sound_in kept ≡ false
-bad_command kept row here none =
-    false_from_ne_true _ (λ is. both_ways _ (bad-row command_said same_command kept.command row here none) (sound-parts kept is).command)
-
-pub two_command : (panel : Text) (number : ℕ) (kept : Kept) (a b : Row) (more : List Row)
-    → filter (of_command panel number) kept.command ≡ a ∷ b ∷ more
-    → is_sound_in kept ≡ false
-two_command panel number kept a b more two =
-    false_from_ne_true _ (λ is. both_ways _ (two-rows command_said same_command (of_command panel number)
-    (λ y. bytes_eq panel y.panel && number == y.number)
-    (command-agrees panel number)
-    (λ x y first second.
-    let one = and_parts (bytes_eq panel x.panel) (number == x.number) first in
-    let other = and_parts (bytes_eq panel y.panel) (number == y.number) second in
-    and_from _ _ (alike-text panel x.panel y.panel one.0 other.0) (alike-number number x.number y.number one.1 other.1))
-    kept.command a b more two) (sound-parts kept is).command)
-
 -- ---- reads of `place`
 
 pub no_place : (point : Text) (priority : ℕ) (kept : Kept) → filter (of_place point priority) kept.place ≡ []
@@ -367,23 +338,6 @@ one_place point priority kept row item only says =
     (λ y. y.value)
     (λ y t here. place-at point priority y t true here)
     kept.place row item only says
-
-pub bad_place : (kept : Kept) (row : Row) → Contains kept.place row → place_said row ≡ None → is_sound_in kept ≡ false
-bad_place kept row here none =
-    false_from_ne_true _ (λ is. both_ways _ (bad-row place_said same_place kept.place row here none) (sound-parts kept is).place)
-
-pub two_place : (point : Text) (priority : ℕ) (kept : Kept) (a b : Row) (more : List Row)
-    → filter (of_place point priority) kept.place ≡ a ∷ b ∷ more
-    → is_sound_in kept ≡ false
-two_place point priority kept a b more two =
-    false_from_ne_true _ (λ is. both_ways _ (two-rows place_said same_place (of_place point priority)
-    (λ y. bytes_eq point y.point && priority == y.priority)
-    (place-agrees point priority)
-    (λ x y first second.
-    let one = and_parts (bytes_eq point x.point) (priority == x.priority) first in
-    let other = and_parts (bytes_eq point y.point) (priority == y.priority) second in
-    and_from _ _ (alike-text point x.point y.point one.0 other.0) (alike-number priority x.priority y.priority one.1 other.1))
-    kept.place a b more two) (sound-parts kept is).place)
 
 -- no item is of a priority outside 1 to 16
 none-outside : (q : ℕ) → ((n : ℕ) → 1 ≤ n → n ≤ 16 → (q == n) ≡ false) → (rows : List Row)
@@ -426,18 +380,6 @@ one_shown schedule kept row item only says =
     (λ y t here. shown-at schedule y t true here)
     kept.shown row item only says
 
-pub bad_shown : (kept : Kept) (row : Row) → Contains kept.shown row → shown_said row ≡ None → is_sound_in kept ≡ false
-bad_shown kept row here none =
-    false_from_ne_true _ (λ is. both_ways _ (bad-row shown_said same_schedule kept.shown row here none) (sound-parts kept is).shown)
-
-pub two_shown : (schedule : Text) (kept : Kept) (a b : Row) (more : List Row) → filter (of_schedule schedule) kept.shown ≡ a ∷ b ∷ more
-    → is_sound_in kept ≡ false
-two_shown schedule kept a b more two =
-    false_from_ne_true _ (λ is. both_ways _ (two-rows shown_said same_schedule (of_schedule schedule)
-    (λ y. bytes_eq schedule y.schedule) (schedule-agrees schedule)
-    (λ x y first second. alike-text schedule x.schedule y.schedule first second)
-    kept.shown a b more two) (sound-parts kept is).shown)
-
 -- ---- reads of `imported`
 
 pub here_imported : (kept : Kept) (row : Row) (item : ImportedEntry) → Contains kept.imported row → imported_said row ≡ Some item
@@ -455,31 +397,11 @@ not_imported calendar text kept none =
     (λ y t other. entry-at calendar text y t false other)
     kept.imported none
 
-pub bad_imported : (kept : Kept) (row : Row) → Contains kept.imported row → imported_said row ≡ None → is_sound_in kept ≡ false
-bad_imported kept row here none =
-    false_from_ne_true _ (λ is. both_ways _ (bad-row imported_said same_entry kept.imported row here none) (sound-parts kept is).imported)
-
-pub two_imported : (calendar text : Text) (kept : Kept) (a b : Row) (more : List Row)
-    → filter (of_entry calendar text) kept.imported ≡ a ∷ b ∷ more
-    → is_sound_in kept ≡ false
-two_imported calendar text kept a b more two =
-    false_from_ne_true _ (λ is. both_ways _ (two-rows imported_said same_entry (of_entry calendar text)
-    (λ y. bytes_eq calendar y.calendar && bytes_eq text (spelling y.entry)) (entry-agrees calendar text)
-    (λ x y first second.
-    let one = and_parts (bytes_eq calendar x.calendar) (bytes_eq text (spelling x.entry)) first in
-    let other = and_parts (bytes_eq calendar y.calendar) (bytes_eq text (spelling y.entry)) second in
-    and_from _ _ (alike-text calendar x.calendar y.calendar one.0 other.0)
-    (alike-text text (spelling x.entry) (spelling y.entry) one.1 other.1))
-    kept.imported a b more two) (sound-parts kept is).imported)
-
 -- ---- reads of `desk`
 
 pub one_last : (kept : Kept) (row : Row) (last : Option ℤ) → kept.desk ≡ row ∷ [] → last_said row ≡ Some last
     → (tables_in kept).last_tick ≡ last
 one_last kept row last one says = ap last_in one ∙ ap (λ o. unwrap_or o None) says
-
-pub bad_last : (kept : Kept) (row : Row) → kept.desk ≡ row ∷ [] → last_said row ≡ None → is_sound_in kept ≡ false
-bad_last kept row one none = false_from_ne_true _ (λ is. both_ways _ (ap is_desk one ∙ ap is_some none) (sound-parts kept is).desk)
 
 -- ---- tables of no rows
 

@@ -6,7 +6,7 @@ use Rattle.sqlite_sql.specs.Term.{Term}
 use Rattle.sqlite.specs.Given.{IsPlain}
 use Rattle.sqlite.specs.Listing.{reads_listing, understood}
 use Rattle.sqlite.proofs.Callers.{command_of}
-use Rattle.store_sql_create.specs.Schema.{desk_schema}
+use Rattle.store_sql_rows.specs.Schema.{desk_schema}
 use Rattle.store_sql_rows.specs.Meanings.{compared_with}
 
 -- the text runs this command, whose parts are plain, and reads no listing of the tables

@@ -1,7 +1,6 @@
 -- What it makes of the tables that rows are made anew together: what the items of their keys make, one after the other.
-use Rattle.std.proofs.Common.{◌≡◌, inl, inr, ℕ, suc, ◌+◌, ◌<◌, ◌≤◌, length, get_or, add-one, drop-cons, ap₂, Bool, true, false, not, List, drop, [], ◌∷◌, filter, map, refl, sym, ap, subst, ◌∙◌, true≢false}
+use Rattle.std.proofs.Common.{◌≡◌, inl, inr, ℕ, suc, ◌+◌, ◌<◌, length, get_or, add-one, drop-cons, ap₂, Bool, true, false, not, List, drop, ◌∷◌, filter, map, refl, sym, ap, subst, ◌∙◌, true≢false, []}
 use Rattle.std.proofs.lemmas.Bool.{cases_Bool}
-use Rattle.std.proofs.lemmas.List.{drop_all}
 use Rattle.std.specs.List.{list_any}
 use Rattle.std.specs.List.Sorted.{IsPermutation}
 use Rattle.std.proofs.lemmas.List.Sorted.{IsPermutation-sym}
@@ -271,9 +270,6 @@ module _ {Item : Type 0} (slot : Slot) (lens : IsLens slot) (of : Item → Row �
 
 -- ---- what an answer shows of items
 
-are_none : {Item : Type 0} {shown : Row → Row} {key : Item → Row} {Is : Item → Type 0} → AreOf shown key Is [] []
-are_none = record { keys = refl; each = λ item h. absurd h }
-
 are_cons : {Item : Type 0} {shown : Row → Row} {key : Item → Row} {Is : Item → Type 0} (row : Row) (item : Item) (list : List Row)
     (items : List Item) → shown row ≡ key item → Is item → AreOf shown key Is list items → AreOf shown key Is (row ∷ list) (item ∷ items)
 are_cons {Is} row item list items same is rest = record {
@@ -291,7 +287,3 @@ module _ {Item : Type 0} {shown : Row → Row} {key : Item → Row} {Is : Item �
       let one : drop i rows ≡ row ∷ drop (suc i) rows = drop-cons rows i row in_rows ∙ ap (λ it. it ∷ drop (suc i) rows) (sym is_row) in
       let other : drop i items ≡ item ∷ drop (suc i) items = drop-cons items i item in_items ∙ ap (λ it. it ∷ drop (suc i) items) (sym is_item) in
       whole (rw (one, other) (are_cons row item (drop (suc i) rows) (drop (suc i) items) same is (rw add-one at rest)))
-
-  pub are_all : (i : ℕ) → length rows ≤ i → length items ≤ i
-      → (AreOf shown key Is (drop i rows) (drop i items) → AreOf shown key Is rows items) → AreOf shown key Is rows items
-  are_all i past_rows past_items whole = whole (rw (drop_all i rows past_rows, drop_all i items past_items) are_none)

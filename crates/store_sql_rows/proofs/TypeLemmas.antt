@@ -12,7 +12,7 @@ use Rattle.sqlite_schema.specs.declared.schema.Constraint.TheVariants.{Datatype,
 use Rattle.sqlite_schema.specs.declared.schema.Kind.{Kind}
 use Rattle.sqlite_schema.specs.Rules.{Keeps, are_present, are_typed, is_of, passes}
 use Rattle.sqlite.specs.Effect.{Database}
-use Rattle.store_sql_create.specs.Schema.{column_of, desk_schema}
+use Rattle.store_sql_rows.specs.Schema.{column_of, desk_schema}
 use Rattle.store_sql_rows.specs.Ours.{IsOurs}
 
 pub ruled : (rule : Constraint) (db : Database) → IsOurs db → Keeps rule desk_schema db.trees

@@ -22,7 +22,7 @@ use Rattle.sqlite.specs.Listing.{understood}
 use Rattle.sqlite.specs.Rows.{Outcome, Part, Task, Written}
 use Rattle.sqlite.specs.State.{State, Writes, mode_of, Executes}
 use Rattle.sqlite.proofs.Callers.{command_of, one_step, runs_as, statement_of}
-use Rattle.store_sql_create.specs.Schema.{desk_schema, keyed_table}
+use Rattle.store_sql_rows.specs.Schema.{desk_schema, keyed_table}
 use Rattle.store_sql_rows.specs.Meanings.{deletion, passes, plain_query, shows}
 use Rattle.store_sql_rows.proofs.AnswerLemmas.{plain_program}
 

@@ -8,3 +8,8 @@ pub mod Slot
 pub mod Steps
 pub mod Stored
 pub mod Together
+pub mod Creating
+pub mod Making
+pub mod Recognised
+pub mod Schema
+pub mod Texts

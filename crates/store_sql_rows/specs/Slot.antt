@@ -2,7 +2,7 @@
 use Rattle.std.specs.Prelude.{◌≡◌, ℕ, List, [], ◌∷◌}
 use Rattle.sqlite_schema.specs.declared.schema.Table.{Table}
 use Rattle.sqlite_value.specs.Order.{Row}
-use Rattle.store_sql_create.specs.Schema.{command_table, imported_table, panel_table, place_table, shown_table}
+use Rattle.store_sql_rows.specs.Schema.{command_table, imported_table, panel_table, place_table, shown_table}
 use Rattle.store_sql_rows.specs.Stored.{Kept}
 
 pub record Slot : Type 0 where

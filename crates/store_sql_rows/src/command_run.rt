@@ -7,7 +7,7 @@ ghost use Rattle.sqlite.specs.State.{HasCleanDisk};
 ghost use Rattle.sqlite.specs.Values.{bound};
 ghost use Rattle.sqlite_schema.specs.declared.command.Command.{Command};
 ghost use Rattle.sqlite_value.specs.Order.{column};
-ghost use Rattle.store_sql_create.specs.Schema.{desk_schema};
+ghost use Rattle.store_sql_rows.specs.Schema.{desk_schema};
 ghost use Rattle.store_sql_rows.specs.Cells.{is_text};
 ghost use Rattle.store_sql_rows.specs.Looking.{FindsRun, IsCommand, IsReadRun, Leaves, Reads, is_from, number_shown};
 ghost use Rattle.store_sql_rows.specs.Ours.{IsOurs};

@@ -5,7 +5,7 @@ ghost use Rattle.sqlite.specs.Held.{state};
 ghost use Rattle.sqlite.specs.Listing.{reads_listing, understood};
 ghost use Rattle.sqlite.specs.State.{HasCleanDisk, IsUnchanged, KeepsCommit, Shown, Survives};
 ghost use Rattle.sqlite.specs.Values.{bound};
-ghost use Rattle.store_sql_create.specs.Schema.{desk_schema};
+ghost use Rattle.store_sql_rows.specs.Schema.{desk_schema};
 ghost use Rattle.store_sql_rows.specs.Looking.{Leaves, Rests, ShowsInside};
 ghost use Rattle.store_sql_rows.specs.Ours.{IsInside};
 

@@ -6,3 +6,7 @@ pub mod PlanLemmas
 pub mod RunLemmas
 pub mod TakenLemmas
 pub mod VerdictLemmas
+pub mod BetweenLemmas
+pub mod ParkedLemmas
+pub mod RowExamples
+pub mod WalkLemmas

@@ -7,3 +7,8 @@ pub mod Taken
 pub mod Verdict
 pub mod View
 pub mod Window
+pub mod Between
+pub mod StraightenedLaws
+pub mod Parked
+pub mod Straight
+pub mod Straightened

@@ -11,6 +11,10 @@
 //! shows, `specs/Plan.antt` what a plan says, by the definitions of what was accepted (`specs/Taken.antt`)
 //! and of what is acted on (`specs/Applied.antt`). The laws are what these definitions are good for. The
 //! numbering is this profile's own.
+//!
+//! The straight list is what a perfect network would have brought. What one ask becomes there is
+//! `specs/Straightened.antt`: a command for each number that the front passes, a skip for each run of numbers that
+//! were given up (`straight_laws`).
 #![tactic(auto)]
 
 pub use laws::{
@@ -23,6 +27,7 @@ pub use plan::Plan;
 pub use planning::{plan_command, plan_skip};
 pub use points::LAST_NUMBER;
 pub use run_needed::{RunNeeded, run_for_command, run_for_skip};
+pub use straight_laws::{straightened_by_contents, walk_stays_straight};
 pub use verdict::Verdict;
 
 /// How many numbers a panel may use from its next one on: the next one itself, and the 63 after it.
@@ -38,4 +43,5 @@ mod panel_view;
 mod plan;
 mod planning;
 mod run_needed;
+mod straight_laws;
 mod verdict;

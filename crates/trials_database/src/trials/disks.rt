@@ -9,7 +9,7 @@ use std::fmt::Write;
 use std::io;
 use std::test::Fail;
 use store::{OpenFault, Store, StoreFault};
-use store_remembered::Remembered;
+use store_cache::Remembered;
 use store_sql::SqlStore;
 
 /// After so many pages the log is copied into the database file: few, so that it happens in the midst of a script.

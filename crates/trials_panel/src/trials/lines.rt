@@ -1,7 +1,7 @@
 //! The lines of a journal, and the replies of the desk as `docs/PANELS.md` has them.
 use crate::trials::panels::content;
 use deliveries::Reply;
-use panel_journal::{Entry, content_of, entry_of, line_of, reply_of};
+use panel::{Entry, content_of, entry_of, line_of, reply_of};
 use points::{Answer, Name, Rule};
 use std::alloc::Global;
 use std::process::Abort;

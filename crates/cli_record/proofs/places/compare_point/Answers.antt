@@ -2,7 +2,7 @@ use Rattle.std.proofs.Common.{◌≡◌, ◌∙◌, ◌++◌, ◌-◌, ap, arith
 use Rattle.std.specs.FinMap.{get}
 use Rattle.std.specs.List.{flat_map, range_with_len}
 use Rattle.points.specs.PriorityArray.{Places}
-use Rattle.desk_suiting.proofs.PlaceLemmas.{part-more}
+use Rattle.desk_adopt.proofs.PlaceFindings.{part-more}
 use Rattle.cli_record.specs.declared.difference.Difference.TheVariants.{Place}
 use Rattle.cli_record.specs.Differences.{of_places, of_value}
 use Rattle.cli_record.specs.Unless.{unless}

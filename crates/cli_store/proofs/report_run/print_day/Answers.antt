@@ -1,6 +1,6 @@
 use Rattle.std.proofs.Common.{◌≡◌, ◌∙◌, ap, sym, subst}
 use Rattle.std.specs.Io.KnownBytes.{Appends}
-use Rattle.desk_reports.specs.DayReport.{report_text}
+use Rattle.desk.specs.DayReport.{report_text}
 use Rattle.deliveries.specs.Tables.{tables}
 use Rattle.desk_settling.specs.Calendars.{Tells}
 use Rattle.store.specs.Standing.{Content}

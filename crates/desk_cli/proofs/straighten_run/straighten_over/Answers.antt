@@ -1,5 +1,5 @@
 use Rattle.std.proofs.Common.{◌≡◌, ◌∙◌, Err, Ok, OnOk, Result, ap, inl}
-use Rattle.deliveries_straight.specs.StraightList.{straight_list}
+use Rattle.deliveries.specs.StraightList.{straight_list}
 use Rattle.cli_common.proofs.PrintedLemmas.{Keeps-same}
 use Rattle.desk_cli.proofs.StraightenLemmas.{straightens_start, straightens_whole}
 use Rattle.desk_cli.proofs.straighten_run.straighten_over.Goals as goal

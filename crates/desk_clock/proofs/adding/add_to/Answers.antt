@@ -5,7 +5,7 @@ use Rattle.building.specs.Building.{Building as a_building}
 use Rattle.deliveries.specs.Machine.{is_known}
 use Rattle.desk_clock.specs.Knowing.{Knows, has_in_file, in_file, is_read}
 use Rattle.desk_clock.proofs.KnowingLemmas.{adds-item, adds-nothing, known-once}
-use Rattle.store_memory_tables.specs.Held.{imported_of}
+use Rattle.store_memory.specs.Held.{imported_of}
 use Rattle.desk_settling.specs.Calendars.{Tells, with_items}
 use Rattle.store.specs.declared.change.ImportedEntry.{ImportedEntry}
 use Rattle.desk_clock.proofs.adding.add_to.Given as given

@@ -3,7 +3,7 @@ use Rattle.std.specs.Str.{bytes_eq}
 use Rattle.dates.specs.Entry.{spelling}
 use Rattle.desk_clock.specs.Knowing.{in_file, is_read}
 use Rattle.desk_clock.proofs.KnowingLemmas.{add-knows}
-use Rattle.store_memory_tables.specs.Held.{imported_of}
+use Rattle.store_memory.specs.Held.{imported_of}
 use Rattle.points.specs.Texts.{Text}
 use Rattle.desk_clock.proofs.known.add.Goals as goal
 

@@ -7,9 +7,9 @@ use Rattle.std.specs.Str.{bytes_eq}
 use Rattle.desk_clock.specs.Knowing.{has_in_file, in_file, is_read}
 use Rattle.desk_clock.proofs.KnowingLemmas.{kept-both, read-knows, read-one}
 use Rattle.dates.specs.Entry.{spelling}
-use Rattle.store_memory_tables.proofs.EntryLemmas.{texts-any}
-use Rattle.store_memory_tables.proofs.HeldLemmas.{by_bytes}
-use Rattle.store_memory_tables.specs.Held.{imported_of}
+use Rattle.store_memory.proofs.EntryLemmas.{texts-any}
+use Rattle.store_memory.proofs.HeldLemmas.{by_bytes}
+use Rattle.store_memory.specs.Held.{imported_of}
 use Rattle.desk_clock.proofs.known.read_once.Goals as goal
 
 pub returns-clause-knows : goal.returns-clause-knows

@@ -2,7 +2,7 @@ use Rattle.std.proofs.Common.{◌≡◌, ◌++◌, None, List, drop}
 use Rattle.desk_settling.specs.Calendars.{Tells, with_items}
 use Rattle.store.specs.Standing.{Reads}
 use Rattle.points.specs.Texts.{Text}
-use Rattle.deliveries_straight.specs.Cut.{added_rows}
+use Rattle.deliveries.specs.Cut.{added_rows}
 use Rattle.desk_clock.specs.Knowing.{Knows}
 use Rattle.desk_straighten.proofs.new_rows.rows_that_add.Given as goal
 

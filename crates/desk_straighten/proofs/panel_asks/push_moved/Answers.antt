@@ -4,8 +4,8 @@ use Rattle.store_memory.specs.Memory.{standing_of}
 use Rattle.points.specs.declared.numbered_row.NumberedRow.{NumberedRow}
 use Rattle.points.specs.Run.{rows_between}
 use Rattle.window.specs.Drain.{contents_of}
-use Rattle.window_straight.specs.Between.{asks_between}
-use Rattle.deliveries_straight.specs.StraightList.{sent}
+use Rattle.window.specs.Between.{asks_between}
+use Rattle.deliveries.specs.StraightList.{sent}
 use Rattle.desk_straighten.proofs.StoreLemmas.{ReadsRun, ReadsRun-held, next-greatest}
 use Rattle.desk_straighten.proofs.panel_asks.push_moved.Goals as goal
 

@@ -3,7 +3,7 @@ use Rattle.deliveries.specs.declared.delivery.Delivery.{Delivery}
 use Rattle.deliveries.specs.declared.delivery.Delivery.TheVariants.{Command}
 use Rattle.deliveries.specs.Delivered.{Holds}
 use Rattle.store_memory.specs.Memory.{standing_of}
-use Rattle.deliveries_straight.specs.StraightList.{sent}
+use Rattle.deliveries.specs.StraightList.{sent}
 use Rattle.desk_straighten.proofs.StoreLemmas.{before-after, next-held, on_ok, straightened-held, straightened_by-command}
 use Rattle.desk_straighten.proofs.panel_asks.straighten_command.Goals as goal
 

@@ -1,7 +1,7 @@
 use Rattle.std.proofs.Common.{◌≡◌, ◌++◌, drop, map}
 use Rattle.window.specs.Drain.{contents_of}
-use Rattle.deliveries_straight.specs.StraightList.{sent}
-use Rattle.window_straight.specs.Parked.{command_of}
+use Rattle.deliveries.specs.StraightList.{sent}
+use Rattle.window.specs.Parked.{command_of}
 use Rattle.desk_straighten.proofs.parked_commands.push_commands.Given as goal
 
 abbrev pub invariant-loop-entry : goal.invariant-loop-entry

@@ -6,8 +6,8 @@ use Rattle.points.specs.Run.{IsRun}
 use Rattle.points.specs.declared.numbered_row.TheConstants.{LAST_NUMBER}
 use Rattle.window.specs.Drain.{contents_of}
 use Rattle.window.specs.Window.{window}
-use Rattle.deliveries_straight.specs.StraightList.{sent}
-use Rattle.window_straight.specs.Parked.{command_of}
+use Rattle.deliveries.specs.StraightList.{sent}
+use Rattle.window.specs.Parked.{command_of}
 use Rattle.desk_straighten.proofs.StoreLemmas.{ReadsParked, ReadsParked-held, next-greatest, window-is}
 use Rattle.desk_straighten.proofs.parked_commands.push_parked.Goals as goal
 

@@ -1,7 +1,7 @@
 use Rattle.std.proofs.Common.{◌≡◌, ◌++◌, drop, map}
 use Rattle.window.specs.Drain.{contents_of}
-use Rattle.window_straight.specs.Between.{asks_between}
-use Rattle.deliveries_straight.specs.StraightList.{sent}
+use Rattle.window.specs.Between.{asks_between}
+use Rattle.deliveries.specs.StraightList.{sent}
 use Rattle.desk_straighten.proofs.runs.push_run.Given as goal
 
 abbrev pub invariant-loop-entry : goal.invariant-loop-entry

@@ -6,11 +6,11 @@ use Rattle.deliveries.specs.Delivered.{Holds}
 use Rattle.store_memory.specs.Memory.{standing_of}
 use Rattle.points.specs.declared.panel.Panel.{Panel}
 use Rattle.store.specs.Standing.{sound}
-use Rattle.deliveries_straight.specs.StraightList.{parked_of, straight_list, straightened_after}
+use Rattle.deliveries.specs.StraightList.{parked_of, straight_list, straightened_after}
 use Rattle.deliveries.proofs.EmptyLemmas.{tables-none}
 use Rattle.desk_straighten.proofs.LoopLemmas.{panels-more, straightened-more, taken-more}
-use Rattle.deliveries_straight.specs.StraightLaws.{IsStraightOf}
-use Rattle.deliveries_straight.proofs.TablesSame.{no-tolerance, same-machine, same-tables}
+use Rattle.deliveries.specs.StraightLaws.{IsStraightOf}
+use Rattle.deliveries.proofs.TablesSame.{no-tolerance, same-machine, same-tables}
 use Rattle.desk_straighten.proofs.straightening.straight_list.Goals as goal
 
 pub loop-delivery-init : goal.loop-delivery-init

@@ -2,7 +2,7 @@ use Rattle.std.proofs.Common.{◌≡◌, ◌++◌, [], take}
 use Rattle.std.specs.List.{flat_map}
 use Rattle.deliveries.specs.Delivered.{Holds}
 use Rattle.store_memory.specs.Memory.{standing_of}
-use Rattle.deliveries_straight.specs.StraightList.{parked_of, straightened_after}
+use Rattle.deliveries.specs.StraightList.{parked_of, straightened_after}
 use Rattle.desk_straighten.proofs.straightening.straight_list.Given as goal
 
 -- the first deliveries are run, and what they became is collected

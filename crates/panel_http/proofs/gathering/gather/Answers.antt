@@ -1,6 +1,6 @@
 use Rattle.std.proofs.Common.{◌≡◌, subst}
-use Rattle.panel_http_requests.specs.Requests.{IsRequest}
-use Rattle.panel_http_requests.specs.Whole.{IsWhole}
+use Rattle.panel_http.specs.Requests.{IsRequest}
+use Rattle.panel_http.specs.Whole.{IsWhole}
 use Rattle.panel_http.proofs.gathering.gather.Goals as goal
 
 pub returns-in-Asks-clause-asks : goal.returns-in-Asks-clause-asks

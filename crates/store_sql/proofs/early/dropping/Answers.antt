@@ -3,7 +3,7 @@ use Rattle.store_sql_rows.specs.Ours.{kept_in}
 use Rattle.std.proofs.Common.{rules}
 use Rattle.store_sql_rows.specs.Stored.{tables_in}
 use Rattle.store_sql.proofs.EarlyLemmas.{drops_early}
-use Rattle.store_sql_reads.proofs.ReadLemmas.{answers_ok, read_first, read_then, refused_first, refused_then}
+use Rattle.store_sql.proofs.ReadLemmas.{answers_ok, read_first, read_then, refused_first, refused_then}
 use Rattle.store_sql_rows.proofs.UnsoundLemmas.{unsound}
 use Rattle.store_sql.proofs.early.dropping.Goals as goal
 

@@ -3,7 +3,7 @@ use Rattle.std.proofs.lemmas.List.{drop_all}
 use Rattle.sqlite.specs.Held.{state}
 use Rattle.store.specs.declared.change.RowsBelow.{RowsBelow}
 use Rattle.store_sql_rows.specs.Ours.{kept_in}
-use Rattle.store_sql_reads.proofs.ReadLemmas.{answers_failed, answers_ok, read_as, read_none, read_then, refused_then}
+use Rattle.store_sql.proofs.ReadLemmas.{answers_failed, answers_ok, read_as, read_none, read_then, refused_then}
 use Rattle.store_sql_rows.specs.Stored.{tables_in}
 use Rattle.store_sql.proofs.EarlyLemmas.{far_more}
 use Rattle.store_sql_rows.proofs.UnsoundLemmas.{unsound}

@@ -1,6 +1,6 @@
 use Rattle.std.specs.Prelude.{◌≡◌, ◌++◌, map, drop}
 use Rattle.sqlite.specs.Held.{state}
-use Rattle.store_sql_reads.specs.Asking.{HasRead}
+use Rattle.store_sql.specs.Leaving.{HasRead}
 use Rattle.store_sql_rows.specs.Stored.{tables_in}
 use Rattle.store_sql.specs.Opening.{early_rows}
 use Rattle.store_sql.proofs.early.early_of.Given as goal

@@ -1,5 +1,5 @@
 use Rattle.sqlite.specs.Held.{state}
-use Rattle.store_sql_create.proofs.CreateLemmas.{execution_keeps}
+use Rattle.store_sql_rows.proofs.CreateLemmas.{execution_keeps}
 use Rattle.store_sql_rows.proofs.DeskTexts.{set_version_text}
 use Rattle.store_sql_rows.proofs.RunLemmas.{moves_made}
 use Rattle.store_sql.proofs.VersionLemmas.{sets_version}

@@ -1,6 +1,6 @@
 use Rattle.std.specs.Prelude.{[], ◌∷◌}
 use Rattle.sqlite.specs.Held.{state}
-use Rattle.store_sql_create.specs.Schema.{command_tree}
+use Rattle.store_sql_rows.specs.Schema.{command_tree}
 use Rattle.store_sql_rows.specs.Ours.{AreOwn}
 use Rattle.store_sql.specs.Asking.{FindsNone, Joins}
 use Rattle.store_sql.specs.Own.{TellsOf}

@@ -1,6 +1,6 @@
 use Rattle.std.proofs.Common.{◌∙◌}
 use Rattle.sqlite.specs.Held.{state}
-use Rattle.store_sql_create.specs.Schema.{desk_tree}
+use Rattle.store_sql_rows.specs.Schema.{desk_tree}
 use Rattle.store_sql_rows.proofs.DeskTexts.{find_text}
 use Rattle.store_sql.specs.Fitting.{IsAlone}
 use Rattle.store_sql.specs.Own.{TellsOf}

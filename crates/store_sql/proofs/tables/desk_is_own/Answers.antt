@@ -1,5 +1,5 @@
 use Rattle.sqlite.specs.Held.{state}
-use Rattle.store_sql_create.specs.Schema.{desk_tree}
+use Rattle.store_sql_rows.specs.Schema.{desk_tree}
 use Rattle.store_sql_rows.specs.Ours.{IsOne}
 use Rattle.store_sql.specs.Asking.{Joins}
 use Rattle.store_sql.specs.Fitting.{AreNumbered, IsAlone}

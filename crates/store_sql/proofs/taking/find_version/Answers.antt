@@ -2,7 +2,7 @@ use Rattle.std.proofs.Common.{◌≡◌, ◌⊎◌, subst, sym, true, IfErr, IfO
 use Rattle.sqlite.specs.Held.{state}
 use Rattle.store_sql.specs.declared.refusal.Refusal.TheVariants.{NotOurs}
 use Rattle.store_sql.specs.Opening.{IsFound, is_sql}
-use Rattle.store_sql_reads.proofs.ReadLemmas.{clean_before}
+use Rattle.store_sql.proofs.ReadLemmas.{clean_before}
 use Rattle.store_sql.proofs.OpenLemmas.{faults_reported, found_reported, known_reported}
 use Rattle.store_sql.proofs.taking.find_version.Goals as goal
 

@@ -1,6 +1,6 @@
 use Rattle.std.proofs.Common.{[], ◌∷◌, codes}
 use Rattle.sqlite.specs.Held.{state}
-use Rattle.store_sql_create.specs.Schema.{imported_tree}
+use Rattle.store_sql_rows.specs.Schema.{imported_tree}
 use Rattle.store_sql_rows.proofs.ImportedLemmas.{imported_cells}
 use Rattle.store_sql_rows.proofs.ImportedTexts.{next_name_runs, next_name_text}
 use Rattle.store_sql_rows.proofs.RestLemmas.{least_name, reads_made}

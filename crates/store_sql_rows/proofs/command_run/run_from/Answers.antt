@@ -2,7 +2,7 @@ use Rattle.sqlite.specs.Held.{state}
 use Rattle.store_sql_rows.proofs.CommandLemmas.{run_ok}
 use Rattle.store_sql_rows.proofs.CommandTexts.{run_runs, run_text}
 use Rattle.sqlite.specs.Listing.{understood}
-use Rattle.store_sql_create.specs.Schema.{desk_schema}
+use Rattle.store_sql_rows.specs.Schema.{desk_schema}
 use Rattle.store_sql_rows.proofs.RestLemmas.{reads_made}
 use Rattle.store_sql_rows.proofs.StepwiseLemmas.{is_command}
 use Rattle.store_sql_rows.proofs.command_run.run_from.Goals as goal

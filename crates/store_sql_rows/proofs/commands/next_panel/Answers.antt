@@ -1,6 +1,6 @@
 use Rattle.std.proofs.Common.{[], ◌∷◌, codes}
 use Rattle.sqlite.specs.Held.{state}
-use Rattle.store_sql_create.specs.Schema.{command_tree}
+use Rattle.store_sql_rows.specs.Schema.{command_tree}
 use Rattle.store_sql_rows.proofs.CommandLemmas.{command_cells}
 use Rattle.store_sql_rows.proofs.CommandTexts.{next_panel_runs, next_panel_text}
 use Rattle.store_sql_rows.proofs.RestLemmas.{least_name, reads_made}

@@ -1,6 +1,6 @@
 use Rattle.std.proofs.Common.{[], ◌∷◌, codes}
 use Rattle.sqlite.specs.Held.{state}
-use Rattle.store_sql_create.specs.Schema.{place_tree}
+use Rattle.store_sql_rows.specs.Schema.{place_tree}
 use Rattle.store_sql_rows.proofs.PlaceLemmas.{place_cells}
 use Rattle.store_sql_rows.proofs.PlaceTexts.{next_point_runs, next_point_text}
 use Rattle.store_sql_rows.proofs.RestLemmas.{least_name, reads_made}

@@ -1,6 +1,6 @@
 use Rattle.std.proofs.Common.{[], ◌∷◌, codes}
 use Rattle.sqlite.specs.Held.{state}
-use Rattle.store_sql_create.specs.Schema.{shown_tree}
+use Rattle.store_sql_rows.specs.Schema.{shown_tree}
 use Rattle.store_sql_rows.proofs.ShownLemmas.{shown_cells}
 use Rattle.store_sql_rows.proofs.ShownTexts.{next_name_runs, next_name_text}
 use Rattle.store_sql_rows.proofs.RestLemmas.{least_name, reads_made}

@@ -1,7 +1,7 @@
 use Rattle.std.proofs.Common.{◌≡◌, List, arith, sym, subst}
 use Rattle.std.proofs.lemmas.Grind.{common_steps}
 use Rattle.deliveries.specs.declared.delivery.Delivery.{Delivery}
-use Rattle.panel_laws.specs.Life.{WereSent}
+use Rattle.panel.specs.Life.{WereSent}
 use Rattle.panel.specs.Due.{due}
 use Rattle.panel.specs.Run.{life}
 use Rattle.panel.proofs.SentLemmas.{due-sent}

@@ -2,7 +2,7 @@ use Rattle.std.proofs.Common.{◌≡◌, ◌<◌, Some, sym, subst, ap₂, ◌�
 use Rattle.std.specs.List.{All}
 use Rattle.std.proofs.lemmas.List.Elements.{All-filter}
 use Rattle.window.specs.declared.numbered_content.NumberedContent.{NumberedContent}
-use Rattle.panel_laws.specs.Means.{ended_by}
+use Rattle.panel.specs.Means.{ended_by}
 use Rattle.panel.specs.Run.{entry_of, in_flight}
 use Rattle.panel.proofs.StepLemmas.{skip_after-same}
 use Rattle.panel.proofs.UpheldLemmas.{true-if-found}

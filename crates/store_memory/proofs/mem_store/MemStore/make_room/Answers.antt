@@ -1,6 +1,6 @@
-use Rattle.store_memory_tables.specs.Held.{imported_of, places_of, shown_of}
-use Rattle.store_memory_tables.proofs.HeldLemmas.{OnOk-then}
-use Rattle.store_memory_tables.proofs.PanelLemmas.{Grows-then}
+use Rattle.store_memory.specs.Held.{imported_of, places_of, shown_of}
+use Rattle.store_memory.proofs.HeldLemmas.{OnOk-then}
+use Rattle.store_memory.proofs.PanelLemmas.{Grows-then}
 use Rattle.store_memory.proofs.mem_store.MemStore.make_room.Goals as goal
 
 pub returns-in_err-make_room_for_nexts-clause-same : goal.returns-in_err-make_room_for_nexts-clause-same

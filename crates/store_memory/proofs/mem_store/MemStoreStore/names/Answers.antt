@@ -1,9 +1,9 @@
-use Rattle.store_memory_tables.specs.Held.{array_at, calendar_at, shown_slot, stands_calendar, stands_panel, stands_point, table_at}
+use Rattle.store_memory.specs.Held.{array_at, calendar_at, shown_slot, stands_calendar, stands_panel, stands_point, table_at}
 use Rattle.store.specs.Listed.{HasCalendar, HasPanel, HasPoint, HasSchedule}
 use Rattle.store_memory.specs.Memory.{tables_of}
-use Rattle.store_memory_tables.specs.Slots.{IsStanding}
-use Rattle.store_memory_tables.proofs.StandLemmas.{calendar_stands, panel_stands, point_stands}
-use Rattle.store_memory_tables.proofs.TextLemmas.{AreTexts-by, standing_some}
+use Rattle.store_memory.specs.Slots.{IsStanding}
+use Rattle.store_memory.proofs.StandLemmas.{calendar_stands, panel_stands, point_stands}
+use Rattle.store_memory.proofs.TextLemmas.{AreTexts-by, standing_some}
 use Rattle.std.proofs.Common.{is_some}
 use Rattle.store_memory.proofs.mem_store.MemStoreStore.names.Goals as goal
 

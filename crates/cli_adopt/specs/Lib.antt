@@ -1,2 +1,0 @@
-pub mod AdoptionRun
-pub mod Renamings

@@ -1,5 +1,0 @@
-pub mod CutLemmas
-pub mod InTurn
-pub mod MachineSame
-pub mod RiseLemmas
-pub mod TablesSame

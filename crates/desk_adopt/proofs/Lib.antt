@@ -1,0 +1,8 @@
+pub mod ItemLemmas
+pub mod PlaceLemmas
+pub mod RowLemmas
+pub mod SuitLemmas
+mod RenamingLemmas
+pub mod PlaceFindings
+pub mod ReadLemmas
+pub mod SurveyLemmas

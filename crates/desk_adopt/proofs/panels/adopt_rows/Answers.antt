@@ -1,0 +1,39 @@
+use Rattle.std.proofs.Common.{◌∙◌, ◌++◌, List, ap, arith, cond, filter, map, subst}
+use Rattle.std.specs.Str.{bytes_eq}
+use Rattle.desk_adopt.specs.Adopted.{is_remembered, no_rows, remembered_row}
+use Rattle.desk_adopt.specs.Items.{or_else, row_for}
+use Rattle.desk_adopt.proofs.ItemLemmas.{with_each-append}
+use Rattle.desk_adopt.proofs.RowLemmas.{rows-put}
+use Rattle.points.specs.declared.numbered_row.NumberedRow.{NumberedRow}
+use Rattle.points.specs.Run.{IsRun, Rows}
+use Rattle.store.specs.Change.{with_each, with_row}
+use Rattle.store.specs.declared.change.KeptRow.{KeptRow}
+use Rattle.store.specs.Standing.{Content}
+use Rattle.points.specs.Texts.{Text}
+use Rattle.store.proofs.ReadLemmas.{kept-read}
+use Rattle.desk_adopt.proofs.panels.adopt_rows.Goals as goal
+
+pub returns-clause-kept : goal.returns-clause-kept
+returns-clause-kept g c = λ honest q n.
+    let first = g.S.Store.standing c.args.store.now in
+    let second = g.S.Store.standing c.panel_next.new.self in
+    let before = c.in_ok-run.ensures.reads.goes.honest honest in
+    let same = kept-read first second c.in_ok-next.ensures.reads before in
+    let panel = c.args.panel.now in
+    let former = c.args.former.now in
+    let rows = first.content.tables.row former in
+    let next = c.in_ok-next.next in
+    let run = c.in_ok-run.run'.items in
+    let is = subst (λ (content : Content). IsRun (content.tables.row former) c.min-from.result c.past_remembered-upto.result run) same
+    (c.in_ok-run.ensures.value honest) in
+    let old = c.args.rows.now.items in
+    let table = with_each with_row old (λ _. no_rows) in
+    let chosen = λ (list : List NumberedRow). map (row_for panel) (filter (λ it. is_remembered next it.number) list) in
+    let put = c.in_ok-keep_rows.ensures ∙ ap (λ (list : List NumberedRow). old ++ chosen list) (c.as_slice.ensures.value ∙ is.is_between) in
+    ap (λ (list : List KeptRow). with_each with_row list (λ _. no_rows) q n) put
+    ∙ ap (λ (f : Text → Rows). f q n) (with_each-append with_row old (chosen _) (λ _. no_rows))
+    ∙ rows-put panel next c.min-from.result is.end rows table (λ number remembered.
+    let below = c.past_remembered-upto.ensures number remembered in
+    let above = c.first_remembered.ensures number remembered in
+    (omega (arith, c.min-from.ensures, above), omega (arith, below, is.reaches))) q n
+    ∙ ap (λ m. cond (bytes_eq panel q) (or_else (remembered_row m rows n) (table q n)) (table q n)) (c.in_ok-next.ensures.value before)

@@ -1,0 +1,10 @@
+pub mod Adopted
+pub mod Faults
+pub mod Items
+pub mod NoteLine
+pub mod Notes
+pub mod Renamed
+pub mod Sections
+pub mod Findings
+pub mod FindingLine
+pub mod Surveyed

@@ -1,5 +1,0 @@
-pub mod ItemLemmas
-pub mod PlaceLemmas
-pub mod RowLemmas
-pub mod SuitLemmas
-mod RenamingLemmas

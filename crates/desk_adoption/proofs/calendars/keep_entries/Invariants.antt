@@ -1,7 +1,0 @@
-use Rattle.std.proofs.Common.{◌≡◌, ◌++◌, map, take}
-use Rattle.store_memory_tables.specs.Items.{item_for}
-use Rattle.desk_adoption.proofs.calendars.keep_entries.Given as goal
-
--- the entries so far
-abbrev pub invariant-loop-entry : goal.invariant-loop-entry
-invariant-loop-entry l = l.items.items ≡ l.initial.items.items ++ map (item_for l.calendar) (take l.entry-index l.entries)

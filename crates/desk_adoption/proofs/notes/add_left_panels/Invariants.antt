@@ -1,8 +1,0 @@
-use Rattle.std.proofs.Common.{◌≡◌, ◌++◌, take}
-use Rattle.std.specs.List.{flat_map}
-use Rattle.desk_adoption.specs.Notes.{left_panel}
-use Rattle.desk_adoption.proofs.notes.add_left_panels.Given as goal
-
--- what stays behind so far
-abbrev pub invariant-loop-old : goal.invariant-loop-old
-invariant-loop-old l = l.left.items ≡ l.initial.left.items ++ flat_map (left_panel l.section) (take l.old-index l.section.stand.items)

@@ -1,8 +1,0 @@
-use Rattle.std.proofs.Common.{◌≡◌, take}
-use Rattle.std.specs.List.{flat_map}
-use Rattle.desk_adoption.specs.Notes.{unless_counting}
-use Rattle.desk_adoption.proofs.notes.unused_of.Given as goal
-
--- those so far
-abbrev pub invariant-loop-renaming : goal.invariant-loop-renaming
-invariant-loop-renaming l = l.unused.items ≡ flat_map (unless_counting l.sections) (take l.renaming-index l.renamings)

@@ -1,7 +1,0 @@
-use Rattle.std.proofs.Common.{◌≡◌, filter, take}
-use Rattle.desk_adoption.specs.Sections.{counts}
-use Rattle.desk_adoption.proofs.sections.counting.Given as goal
-
--- those so far
-abbrev pub invariant-loop-renaming : goal.invariant-loop-renaming
-invariant-loop-renaming l = l.counting.items ≡ filter (counts l.has l.stand) (take l.renaming-index l.renamings)

@@ -1,6 +1,0 @@
-pub mod LawLemmas
-pub mod EventLemmas
-pub mod RunLemmas
-pub mod SettleLemmas
-pub mod TurnLemmas
-pub mod NextLemmas

@@ -1,5 +1,0 @@
-use Rattle.desk_authors.proofs.LawLemmas.{author-value}
-use Rattle.desk_authors.proofs.laws.place_has_its_authors_value.Goals as goal
-
-pub returns : goal.returns
-returns c = author-value

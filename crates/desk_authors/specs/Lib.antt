@@ -1,5 +1,0 @@
-pub mod Settling
-pub mod Authors
-pub mod Turns
-pub mod Laws
-pub mod NextChanges

@@ -1,0 +1,60 @@
+-- The text of a point, printed whole or in part.
+use Rattle.std.proofs.Common.{◌≡◌, ℕ, ℤ, List, [], Ok, Option, Some, ap, subst, ◌∙◌, inl, inr, ⊎_elim}
+use Rattle.std.specs.Io.KnownBytes.{Appends, Keeps}
+use Rattle.building.specs.Building.{Building, contents_of}
+use Rattle.building.specs.BuildingFile.{building_of}
+use Rattle.deliveries.specs.declared.delivery.Delivery.{Delivery}
+use Rattle.desk_cli.specs.ListLines.{Collects}
+use Rattle.desk_cli.specs.Replay.{lines_of, lines_until}
+use Rattle.desk_cli.proofs.StopLemmas.{Keeps-Keeps}
+use Rattle.points.specs.Beginnings.{AppendsStart}
+use Rattle.cli_common.proofs.PrintedLemmas.{Appends-Keeps, start-Keeps}
+use Rattle.points.specs.declared.point.Point.{Point}
+use Rattle.desk_cli.specs.Why.{Asks, Explains, ExplainsNoMore, explanation, point_of}
+
+-- what a run has found before it prints
+pub record Found (file list word : List ℕ) (until : Option ℤ) (b : Building) (point : Point) (deliveries : List Delivery)
+    (text : List ℕ) : Type 0 where
+  pub building_is : building_of file ≡ Ok (contents_of b)
+  pub point_is : point_of b word ≡ Some point
+  pub collects : Collects b (lines_until b until (lines_of list)) [] deliveries
+  pub text_is : text ≡ explanation b deliveries point
+
+abbrev asks : (file list word : List ℕ) (until : Option ℤ) (b : Building) (point : Point) (deliveries : List Delivery) (text : List ℕ)
+    → Found file list word until b point deliveries text → Asks file list word until
+asks file list word until b point deliveries text found = record {
+  building = b;
+  point = point;
+  read = found.collects.read;
+  building_is = found.building_is;
+  point_is = found.point_is;
+  read_is = found.collects.read_is;
+}
+
+pub explains_whole : (file list word : List ℕ) (until : Option ℤ) (b : Building) (point : Point) (deliveries : List Delivery)
+    (text : List ℕ) (old mid new : Option (List ℕ)) → Found file list word until b point deliveries text
+    → Appends old mid text → Keeps mid new → Explains file list word until old new
+explains_whole file list word until b point deliveries text old mid new found printed kept = (
+  asks file list word until b point deliveries text found,
+  subst (λ (shown : List ℕ). Appends old new shown)
+      (found.text_is ∙ ap (λ (ds : List Delivery). explanation b ds point) found.collects.added)
+      (Appends-Keeps old mid new text printed kept),
+)
+
+pub explains_start : (file list word : List ℕ) (until : Option ℤ) (b : Building) (point : Point) (deliveries : List Delivery)
+    (text : List ℕ) (old mid new : Option (List ℕ)) → Found file list word until b point deliveries text
+    → AppendsStart old mid text → Keeps mid new → ExplainsNoMore file list word until old new
+explains_start file list word until b point deliveries text old mid new found printed kept = inr (
+  asks file list word until b point deliveries text found,
+  subst (λ (shown : List ℕ). AppendsStart old new shown)
+      (found.text_is ∙ ap (λ (ds : List Delivery). explanation b ds point) found.collects.added)
+      (start-Keeps old mid new text printed kept),
+)
+
+-- what is printed stays printed
+pub explains-Keeps : (file list word : List ℕ) (until : Option ℤ) (old mid new : Option (List ℕ))
+    → ExplainsNoMore file list word until old mid → Keeps mid new → ExplainsNoMore file list word until old new
+explains-Keeps file list word until old mid new printed kept = ⊎_elim
+    (λ nothing. inl (Keeps-Keeps old mid new nothing kept))
+    (λ some. inr (some.0, start-Keeps old mid new _ some.1 kept))
+    printed

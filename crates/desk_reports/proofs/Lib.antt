@@ -1,4 +1,0 @@
-pub mod AskedLemmas
-pub mod ReportLemmas
-pub mod SegmentLemmas
-pub mod WeekdayLemmas

@@ -1,3 +1,0 @@
-pub mod AskedDay
-pub mod DayReport
-pub mod ReportLines

@@ -1,3 +1,0 @@
-pub mod PlaceLemmas
-pub mod ReadLemmas
-pub mod SurveyLemmas

@@ -1,9 +1,0 @@
-use Rattle.std.proofs.Common.{◌≡◌, ◌++◌, take}
-use Rattle.std.specs.List.{flat_map}
-use Rattle.desk_suiting.specs.Findings.{of_panel}
-use Rattle.desk_suiting.proofs.names.add_panels.Given as goal
-
--- what was found of the panels so far
-abbrev pub invariant-loop-name : goal.invariant-loop-name
-invariant-loop-name l =
-    l.findings.items ≡ l.initial.findings.items ++ flat_map (of_panel l.building) (take l.name-index l.names)

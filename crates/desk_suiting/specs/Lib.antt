@@ -1,3 +1,0 @@
-pub mod Findings
-pub mod FindingLine
-pub mod Surveyed

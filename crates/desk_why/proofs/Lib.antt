@@ -1,0 +1,7 @@
+pub mod LawLemmas
+pub mod EventLemmas
+pub mod RunLemmas
+pub mod SettleLemmas
+pub mod TurnLemmas
+pub mod NextLemmas
+pub mod JoinLemmas

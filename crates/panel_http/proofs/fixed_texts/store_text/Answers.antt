@@ -1,0 +1,8 @@
+use Rattle.std.proofs.Common.{refl}
+use Rattle.std.specs.Fmt.{digits}
+use Rattle.panel_http.specs.Response.{response_text}
+use Rattle.panel_http.proofs.fixed_texts.store_text.Goals as goal
+
+pub returns : goal.returns
+unfolding response_text digits
+returns c = refl

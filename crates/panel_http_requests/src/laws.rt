@@ -1,8 +1,0 @@
-//! Laws of the table of routes.
-
-ghost use Rattle.panel_http_requests.specs.Laws.{EachRouteIsFound};
-
-/// Each of the six routes is found at a target of its form, and no other method has it.
-pub fn each_route_is_found()
-    ensures { EachRouteIsFound }
-{}

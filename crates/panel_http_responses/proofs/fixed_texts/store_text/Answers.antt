@@ -1,8 +1,0 @@
-use Rattle.std.proofs.Common.{refl}
-use Rattle.std.specs.Fmt.{digits}
-use Rattle.panel_http_responses.specs.Response.{response_text}
-use Rattle.panel_http_responses.proofs.fixed_texts.store_text.Goals as goal
-
-pub returns : goal.returns
-unfolding response_text digits
-returns c = refl

@@ -1,8 +1,0 @@
-//! A law of the statuses.
-
-ghost use Rattle.panel_http_responses.specs.Laws.{EachStatusHasItsPhrase};
-
-/// A law: each status that the desk gives is written as its number and its phrase.
-pub fn each_status_has_its_phrase()
-    ensures { EachStatusHasItsPhrase }
-{}

@@ -1,3 +1,0 @@
-pub mod HeardLemmas
-pub mod SameLemmas
-pub mod NextLemmas

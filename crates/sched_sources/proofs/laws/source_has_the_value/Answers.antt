@@ -1,8 +1,0 @@
-use Rattle.sched_sources.proofs.HeardLemmas.{index-is, source-has_value}
-use Rattle.sched_sources.proofs.laws.source_has_the_value.Goals as goal
-
-pub returns-clause-index : goal.returns-clause-index
-returns-clause-index c = index-is
-
-pub returns-clause-value : goal.returns-clause-value
-returns-clause-value c = source-has_value

@@ -1,4 +1,0 @@
-pub mod Sources
-pub mod SourceLaws
-pub mod NextChange
-pub mod NextLaws

@@ -1,0 +1,44 @@
+-- What is known is answered from memory; what the store below answers is known from then on.
+use Rattle.std.proofs.Common.{◌≡◌, None, sym, subst}
+use Rattle.std.specs.Bool.{IsTrue}
+use Rattle.store.specs.Asked.{Judges}
+use Rattle.store.specs.Asked.Asked.{ShownBy}
+use Rattle.store_cache.proofs.RememberLemmas.{answered_is, answered_stands, judged, remembers_more}
+use Rattle.store_cache.specs.Remembering.{Remembers}
+use Rattle.store_cache.proofs.remembered.RememberedStore.shown.Given as given
+use Rattle.store_cache.proofs.remembered.RememberedStore.shown.Goals.{After-keep_shown}
+use Rattle.store_cache.proofs.remembered.RememberedStore.shown.Goals as goal
+
+pub returns-in-Some-clause-value : goal.returns-in-Some-clause-value
+returns-in-Some-clause-value g c =
+    subst (λ s. (g.S.Store.standing s).is_honest → c.in-Some.shown ≡ (g.S.Store.standing s).content.tables.shown c.args.schedule.now) c.self.view_is
+    (λ honest. let before = g.S.Store.standing c.self.inside.below in
+    sym (c.in-Some.ensures before.content.tables before.cannot_stand (c.self.invariant.recalls honest c.if-self.false)).0)
+
+pub returns-in-Some-clause-judges : goal.returns-in-Some-clause-judges
+returns-in-Some-clause-judges g c =
+    subst (λ s. (g.S.Store.standing s).is_honest → Judges (IsTrue ((g.S.Store.standing s).cannot_stand (ShownBy c.args.schedule.now))) None) c.self.view_is
+    (λ honest. let before = g.S.Store.standing c.self.inside.below in
+    judged (before.cannot_stand (ShownBy c.args.schedule.now))
+    (c.in-Some.ensures before.content.tables before.cannot_stand (c.self.invariant.recalls honest c.if-self.false)).1)
+
+-- what the store below has answered is remembered, beside what was
+remembers : (g : given.Over) (c : After-keep_shown g)
+    → Remembers (g.S.Store.standing c.shown-answer.new.self) c.keep_shown.new.self c.is_shut_after-self-inside.result
+remembers g c =
+    let before = g.S.Store.standing c.self.inside.below in
+    remembers_more c.shown-answer.result c.in_ok-shown.shown c.in_ok-shown.was before
+    (g.S.Store.standing c.shown-answer.new.self) c.self.inside.memory c.keep_shown.new.self c.self.inside.is_shut
+    c.is_shut_after-self-inside.result c.self.invariant c.if-self.false c.is_shut_after-self-inside.ensures
+    c.shown-answer.ensures.reads
+    (λ honest recalls. c.keep_shown.ensures before.content.tables before.cannot_stand recalls
+    (sym (answered_is c.shown-answer.result c.in_ok-shown.shown c.in_ok-shown.was (λ it. it ≡ before.content.tables.shown c.args.schedule.now)
+    (c.shown-answer.ensures.value honest)))
+    (answered_stands c.shown-answer.result c.in_ok-shown.shown c.in_ok-shown.was (before.cannot_stand (ShownBy c.args.schedule.now))
+    (c.shown-answer.ensures.judges honest)))
+
+pub invariant_of-self-in_err-keep_shown : goal.invariant_of-self-in_err-keep_shown
+invariant_of-self-in_err-keep_shown g c = remembers g (goal.at.invariant_of-self-in_err-keep_shown g c).After-keep_shown
+
+pub invariant_of-self-2 : goal.invariant_of-self-2
+invariant_of-self-2 g c = remembers g (goal.at.invariant_of-self-2 g c).After-keep_shown

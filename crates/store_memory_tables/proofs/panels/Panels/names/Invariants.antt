@@ -1,7 +1,0 @@
-use Rattle.std.proofs.Common.{◌≡◌, ◌++◌}
-use Rattle.store_memory_tables.specs.Held.{stands_panel}
-use Rattle.store_memory_tables.specs.Slots.{standing_keys}
-use Rattle.store_memory_tables.proofs.panels.Panels.names.Given as goal
-
-abbrev pub invariant-loop-name : goal.invariant-loop-name
-invariant-loop-name l = l.names.items ++ standing_keys stands_panel l.name-iterator ≡ standing_keys stands_panel l.self.tables.entries

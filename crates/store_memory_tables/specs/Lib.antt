@@ -1,4 +1,0 @@
-pub mod Held
-pub mod Items
-pub mod RowSlots
-pub mod Slots

@@ -1,4 +1,0 @@
-pub mod CreateLemmas
-pub mod CreateTexts
-pub mod Indexes
-pub mod Items

@@ -1,6 +1,0 @@
-use Rattle.std.proofs.Common.{rules}
-use Rattle.store_sql_reads.proofs.FoundLemmas.{several_of}
-use Rattle.store_sql_reads.proofs.only.only.Goals as goal
-
-pub returns-clause-several : goal.returns-clause-several
-returns-clause-several c = several_of c.args.rows.items (search rules)

@@ -1,7 +1,0 @@
-use Rattle.std.proofs.Common.{take}
-use Rattle.store_sql_reads.specs.Placing.{AreReported}
-use Rattle.store_sql_reads.proofs.placing.parsed_array.Given as goal
-
--- the array has what the rows so far tell
-abbrev pub invariant-loop-row : goal.invariant-loop-row
-invariant-loop-row l = AreReported (take l.row-index l.row-items) l.array

@@ -1,4 +1,0 @@
-pub mod BetweenLemmas
-pub mod ParkedLemmas
-pub mod RowExamples
-pub mod WalkLemmas

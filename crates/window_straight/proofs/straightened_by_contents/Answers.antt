@@ -1,7 +1,0 @@
-use Rattle.window_straight.proofs.BetweenLemmas.{straightened-asks_between}
-use Rattle.window.proofs.FrontLemmas.{front-take}
-use Rattle.window.specs.Taken.{take}
-use Rattle.window_straight.proofs.straightened_by_contents.Goals as goal
-
-pub returns : goal.returns
-returns c = λ before ask. straightened-asks_between before (take before ask) (front-take before ask)
