@@ -21,7 +21,7 @@ from oracle.slow_desk import present, run_of, straightened
 
 NAME = "refused_calls"
 LIBRARIES = ("building", "dates", "deliveries", "delivery_json", "desk", "desk_straighten", "json", "points", "sched",
-             "sqlite", "store", "store_memory", "store_remembered", "store_sql", "window")
+             "sqlite", "store", "store_cache", "store_memory", "store_sql", "window")
 # The number of the request that is refused, as the program has it.
 REFUSED = 12_000
 # At most so many requests a call makes, with what is looked at between two; and each of which is refused but in a sweep.

@@ -2,7 +2,7 @@
 //!
 //! `panel send ADDRESS NAME JOURNAL` presses each line of the standard input, a command without a number, and prints
 //! its answer; `panel skip ADDRESS NAME JOURNAL` gives up what has no answer yet; `panel status NAME JOURNAL` says how
-//! the panel stands. What is numbered, sent and concluded is `panel`'s; the journal's lines are `panel_journal`'s.
+//! the panel stands. What is numbered, sent and concluded is `panel`'s, and so are the journal's lines.
 #![tactic(auto)]
 
 use crate::fault::Fault;
