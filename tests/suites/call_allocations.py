@@ -1,5 +1,6 @@
 """Refuses requests for memory of single calls: the plans of a command and of a skip, the segments of a day, a straightening,
-and a run of a list and a point over both stores, and over the database with what a run remembers.
+a run of a list and a point over both stores, and over the database with what a run remembers; and over tables in memory 63
+commands that wait with the skip that frees them, and the worked request as it is read, served and served again.
 
 `helpers/refused_calls/main.rattle` makes one again and again. It is compiled once in a copy of the repository, by the kit's `rt try
 --fail-alloc`, which refuses one request of a number; with one more request before the calls it is the one before of a call.
@@ -16,16 +17,16 @@ import tempfile
 
 from helpers import trying
 from helpers.trying import ROOT, Missing, named
-from helpers.worked import BUILDING, HOLIDAY, OTHER, SKIPPED, TICKS, command
-from oracle.slow_desk import present, run_of, straightened
+from helpers.worked import BUILDING, HOLIDAY, OTHER, SKIPPED, TICKS, WAITING, command
+from oracle.slow_desk import Skip, present, run_of, straightened
 
 NAME = "refused_calls"
-LIBRARIES = ("building", "dates", "deliveries", "delivery_json", "desk", "desk_straighten", "json", "points", "sched",
-             "sqlite", "store", "store_cache", "store_memory", "store_sql", "window")
+LIBRARIES = ("building", "dates", "deliveries", "delivery_json", "desk", "desk_record", "desk_straighten", "json",
+             "panel_http", "points", "sched", "sqlite", "store", "store_cache", "store_memory", "store_sql", "window")
 # The number of the request that is refused, as the program has it.
 REFUSED = 12_000
 # At most so many requests a call makes, with what is looked at between two; and each of which is refused but in a sweep.
-REQUESTS = {"plan_command": (2, 1), "plan_skip": (2, 1), "segments": (6, 2), "straighten": (100, 20), "run-memory": (520, 52),
+REQUESTS = {"plan_command": (2, 1), "plan_skip": (2, 1), "segments": (6, 2), "straighten": (100, 20), "run-memory": (300, 30), "run-parked": (600, 60), "request": (200, 5),
             "run-database": (6_000, 750), "run-remembered": (5_000, 625), "point-memory": (1, 1), "point-database": (24, 8),
             "point-remembered": (1, 1)}
 # What needs no memory: a point that is remembered is asked for once before.
@@ -33,6 +34,10 @@ WITHOUT = {"point-memory", "point-remembered"}
 # The commands behind the first three set a place again whose row's number is known, or was noted before a refusal.
 LIST = (*SKIPPED, *TICKS, HOLIDAY, *(command("P1", number, "R101-SET", 8, 1500 + 100 * number) for number in (7, 6, 5, 8, 9, 10)), OTHER)
 NO_MEMORY = {"no memory", "fault S1"}
+PARKED = (*WAITING, Skip("P1", 2))
+# What a request gets: the answer; or, where memory was refused, that, or nothing after it was acted on.
+DONE = '200 {"answer":"done","number":1,"present":2150,"priority":8}'
+NOT_SERVED = {'503 {"answer":"no_memory"}', "no reply"}
 
 
 def copy_of_the_crates(to):
@@ -87,6 +92,10 @@ def wanted_of(call):
     """What a call prints with memory, line for line."""
     if call in PLANNED:
         return PLANNED[call]
+    if call == "request":
+        return [DONE, DONE]
+    if call == "run-parked":
+        return [*run_of(BUILDING, PARKED)[0], "same"]
     if call == "straighten":
         return straightened(BUILDING, LIST).splitlines()
     replies, state = run_of(BUILDING, LIST)
@@ -101,7 +110,9 @@ def some(value):
 
 
 def is_missed(call, lines):
-    """Whether the lines of one call tell the want of memory as they should: alone, or of a run in its place."""
+    """Whether the lines of one call tell the want of memory as they should: alone, or in its place."""
+    if call == "request":
+        return len(lines) == 2 and DONE in lines and not NOT_SERVED.isdisjoint(lines)
     if not call.startswith("run-"):
         return lines in ([each] for each in NO_MEMORY)
     return lines.count("fault S1") == 1 and [line for line in lines if line != "fault S1"] == wanted_of(call)

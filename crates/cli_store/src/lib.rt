@@ -1,11 +1,10 @@
 //! What do `desk tick`, `desk import`, `desk report` and `desk serve` print, and what do they leave?
 //!
 //! Each reads the building of a file and opens a store. `deliver` makes one delivery to a desk over it, a tick or an
-//! import, and prints the reply as a line; `report` prints the report of a day. `serve` listens on an address and holds many
-//! connections at once, in one thread: the request of each is answered (`panel_http`) as soon as it is whole, and no
-//! client holds the others up. A connection is let go 5 seconds after it was taken. Each hands back the store that it
-//! opened, as it stands then, also where a fault ended it; `finish` closes it, and gives the status of the whole run.
-//! `deliver` hands back the disk of its record too, if it keeps one and was answered.
+//! import, and prints the reply as a line; `report` prints the report of a day. `serve` listens on an address and serves
+//! its connections (`cli_serve`). Each hands back the store that it opened, as it stands then, also where a fault ended it;
+//! `finish` closes it, and gives the status of the whole run. `deliver` hands back the disk of its record too, if it keeps
+//! one and was answered.
 #![tactic(auto)]
 
 pub use clock_delivery::ClockDelivery;
@@ -17,14 +16,8 @@ pub use server_run::{Serving, serve};
 
 mod answering;
 mod clock_delivery;
-mod connection;
-mod connections;
 mod delivery_run;
 mod ended;
-mod held;
 mod keeper;
-mod last_response;
-mod machine_clock;
 mod report_run;
 mod server_run;
-mod timed_stream;

@@ -9,11 +9,11 @@ ghost use Rattle.cli_store.specs.Guarded.{IsGuarded};
 ghost use Rattle.cli_store.specs.Listening.{listening_line};
 
 use crate::answering::open_kept;
-use crate::connections::{Connections, EVENTS};
 use crate::ended::{Ended, Stopped};
 use crate::keeper::{Keeper, Opening, Recording, take_up};
 use cli_common::{Input, RunFault, Status, print_whole, read_building};
 use cli_record::BesideFault;
+use cli_serve::{Connections, EVENTS};
 use desk::Desk;
 use desk_record::Recorder;
 use mio::Events;

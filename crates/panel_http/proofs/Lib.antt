@@ -8,10 +8,8 @@ pub mod SectionEndings
 pub mod NumberLemmas
 pub mod ValueLemmas
 pub mod PartLemmas
-mod BodyLemmas
 mod ComeLemmas
 pub mod MethodLemmas
-pub mod RequestLemmas
 mod WholeInputLemmas
 pub mod WholeLemmas
 mod WrittenBodyLemmas

@@ -10,15 +10,12 @@ use Rattle.panel_http.specs.AskedRoute.{route_asked}
 use Rattle.panel_http.specs.Heads.{HasNoHead, IsHead}
 use Rattle.panel_http.specs.Requests.{IsAskedBy, IsRequest}
 use Rattle.panel_http.specs.declared.request.Request.{Request}
-use Rattle.panel_http.proofs.HeadLemmas.{shorter_start}
+use Rattle.panel_http.proofs.HeadLemmas.{overflow_has_none, shorter_start}
 use Rattle.panel_http.proofs.WholeLemmas.{found-head}
 
 -- a beginning has too many fields, and the input begins with it
 pub overflowing-none : (k : ℕ) (input : List ℕ) → RequestOverflows 64 (take k input) → HasNoHead input
-overflowing-none k input over = λ head more found.
-    let many = over (drop k input) head more (found.reads.0, take-append-drop k input ∙ found.reads.1) in
-    let few = found.few in
-    absurd (omega arith)
+overflowing-none k input over = overflow_has_none (take k input) (drop k input) input (sym (take-append-drop k input)) over
 
 -- no head ends in the input's beginning, which is all of it or as long as a head may be
 pub unfinished-none : (k : ℕ) (input : List ℕ) → k ≡ min (length input) 8_192 → HasNoRequest (take k input) → HasNoHead input
@@ -45,7 +42,7 @@ pub head-asks : (E : Type 0) (b : Building) (k : ℕ) (input : List ℕ) (header
     → IfOk reported (IsAskedBy b (route_asked head) (drop spans.len input)))
     → IfOk reported (IsRequest b input)
 head-asks E b k input headers spans reported fits room within is asks =
-    let (head, rest, is_head, parts, left) = found-head input headers (record { spans = spans; filled = k }) fits room within is in
+    let (head, rest, is_head, parts, left) = found-head k input headers spans fits room within is in
     let start = print_request head in
     let ends : length start ≡ spans.len = sym parts.len in
     let after : drop spans.len input ≡ rest = ap (drop spans.len) is_head.reads.1 ∙ drop_at start rest spans.len ends in

@@ -6,11 +6,11 @@ use Rattle.building.specs.Building.{Building}
 use Rattle.httparse.specs.Grammar.{HasNoRequest, RequestHead, print_request}
 use Rattle.httparse.specs.Spans.{IsRequestAt, IsRequestOf, IsRequestWithin, RequestOverflows}
 use Rattle.httparse.specs.declared.spans.HeaderSpan.{HeaderSpan}
+use Rattle.httparse.specs.declared.spans.RequestSpans.{RequestSpans}
 use Rattle.httparse.proofs.GrammarLemmas.{ReadsRequest-append, request_unique}
 use Rattle.panel_http.specs.Heads.{HasNoHead, IsHead}
-use Rattle.panel_http.specs.declared.seen.FoundHead.{FoundHead}
 use Rattle.panel_http.specs.Endings.{MayBegin}
-use Rattle.panel_http.proofs.HeadLemmas.{seen_full, seen_head, seen_refused}
+use Rattle.panel_http.proofs.HeadLemmas.{full_has_none, head_in, overflow_has_none}
 use Rattle.panel_http.specs.BodyLength.{body_length_of}
 use Rattle.panel_http.specs.AskedRoute.{RouteAndLength, of_length, route_asked, with_limit}
 use Rattle.serde_json.specs.Data.{Data}
@@ -59,15 +59,15 @@ none-whole building bytes some never none = record {
 pub refused-whole : (building : Building) (k : ℕ) (bytes : List ℕ) → 0 < length (take k bytes) → 0 < length bytes
     → RequestOverflows 64 (take k bytes) → IsWhole building bytes
 refused-whole building k bytes begun some over = none-whole building bytes some
-    (λ more. (seen_refused (Some (bytes ++ more)) (Some (drop k bytes ++ more)) (take k bytes) (whole_from k bytes more) begun over).1)
-    (seen_refused (Some bytes) (Some (drop k bytes)) (take k bytes) (sym (take-append-drop k bytes)) begun over).1
+    (λ more. overflow_has_none (take k bytes) (drop k bytes ++ more) (bytes ++ more) (whole_from k bytes more) over)
+    (overflow_has_none (take k bytes) (drop k bytes) bytes (sym (take-append-drop k bytes)) over)
 
 -- a beginning of the bytes is as long as a head may be, and has none
 pub full-whole : (building : Building) (k : ℕ) (bytes : List ℕ) → length (take k bytes) ≡ 8_192 → 0 < length bytes
     → HasNoRequest (take k bytes) → IsWhole building bytes
 full-whole building k bytes full some without = none-whole building bytes some
-    (λ more. (seen_full (Some (bytes ++ more)) (Some (drop k bytes ++ more)) (take k bytes) (whole_from k bytes more) full without).1)
-    (seen_full (Some bytes) (Some (drop k bytes)) (take k bytes) (sym (take-append-drop k bytes)) full without).1
+    (λ more. full_has_none (take k bytes) (drop k bytes ++ more) (bytes ++ more) (whole_from k bytes more) full without)
+    (full_has_none (take k bytes) (drop k bytes) bytes (sym (take-append-drop k bytes)) full without)
 
 -- what a head asks of bytes of which it lacks none it asks of more, and the other way
 asks-more : (b : Building) (asked : Result RouteAndLength Refusal) (after more : List ℕ) (request : Request)
@@ -124,17 +124,15 @@ head-steady b bytes rest head some is none = record {
 }
 
 -- the head that the parser found, and how much stands behind it
-pub found-head : (bytes : List ℕ) (headers : List HeaderSpan) (found : FoundHead) → found.filled ≤ 8_192
-    → length headers ≡ 64 → IsRequestWithin (take found.filled bytes) headers found.spans
-    → IsRequestOf (take found.filled bytes) headers found.spans
+pub found-head : (k : ℕ) (bytes : List ℕ) (headers : List HeaderSpan) (spans : RequestSpans) → k ≤ 8_192
+    → length headers ≡ 64 → IsRequestWithin (take k bytes) headers spans → IsRequestOf (take k bytes) headers spans
     → (head : RequestHead) × (rest : List ℕ) × IsHead bytes head rest
-    × IsRequestAt (take found.filled bytes) headers found.spans head × (length bytes - found.spans.len ≡ length rest)
-found-head bytes headers found fits room within is =
-    let seen = seen_head (Some bytes) (Some (drop found.filled bytes)) bytes headers found (sym (take-append-drop found.filled bytes))
-    fits room within is in
-    let sized = ap length seen.is_head.reads.1 ∙ length-append (print_request seen.head) seen.rest in
-    let ends = seen.parts.len in
-    (seen.head, seen.rest, seen.is_head, seen.parts, omega arith)
+    × IsRequestAt (take k bytes) headers spans head × (length bytes - spans.len ≡ length rest)
+found-head k bytes headers spans fits room within is =
+    let (head, rest, is_head, parts) = head_in k bytes headers spans fits room within is in
+    let sized = ap length is_head.reads.1 ∙ length-append (print_request head) rest in
+    let ends = parts.len in
+    (head, rest, is_head, parts, omega arith)
 
 -- ---- bytes that are not whole
 
@@ -315,13 +313,13 @@ by-size b bytes rest head (suc count) some is lacks = record {
         by (inl still) = absurd (cut-not-whole b (bytes ++ more) (rest ++ more) head (head-more bytes more rest head is) still whole)
         by (inr none) = enough (route_asked head) rest more (suc count) lacks none
 
-pub head-lacks : (b : Building) (bytes : List ℕ) (headers : List HeaderSpan) (found : FoundHead) (count : ℕ) → 0 < length bytes
-    → found.filled ≤ 8_192 → length headers ≡ 64 → IsRequestWithin (take found.filled bytes) headers found.spans
-    → IsRequestOf (take found.filled bytes) headers found.spans
-    → ((head : RequestHead) → IsRequestAt (take found.filled bytes) headers found.spans head
-    → count ≡ lacks_of (route_asked head) (length bytes - found.spans.len))
+pub head-lacks : (b : Building) (k : ℕ) (bytes : List ℕ) (headers : List HeaderSpan) (spans : RequestSpans) (count : ℕ)
+    → 0 < length bytes → k ≤ 8_192 → length headers ≡ 64 → IsRequestWithin (take k bytes) headers spans
+    → IsRequestOf (take k bytes) headers spans
+    → ((head : RequestHead) → IsRequestAt (take k bytes) headers spans head
+    → count ≡ lacks_of (route_asked head) (length bytes - spans.len))
     → Lacks b bytes count
-head-lacks b bytes headers found count some fits room within is lacks =
-    let (head, rest, is_head, parts, left) = found-head bytes headers found fits room within is in
+head-lacks b k bytes headers spans count some fits room within is lacks =
+    let (head, rest, is_head, parts, left) = found-head k bytes headers spans fits room within is in
     by-size b bytes rest head count some is_head
     (ap (λ n. lacks_of (route_asked head) n) (sym left) ∙ sym (lacks head parts))

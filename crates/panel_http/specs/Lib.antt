@@ -9,7 +9,6 @@ pub mod Heads
 pub mod BodyLength
 pub mod RouteLaws
 pub mod Routes
-pub mod Bodies
 pub mod AskedRoute
 pub mod RequestBody
 pub mod Requests

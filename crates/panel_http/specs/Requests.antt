@@ -1,8 +1,7 @@
 -- What the bytes of an input ask of the desk of a building.
-use Rattle.std.specs.Prelude.{◌≡◌, ◌<◌, ◌≤◌, ◌↔◌, ◌⊎◌, ℕ, List, [], length, take, Option, Some, None, Result, Ok, Err, ⊤}
+use Rattle.std.specs.Prelude.{◌≡◌, ◌<◌, ◌≤◌, ◌↔◌, ◌⊎◌, ℕ, List, [], length, take, Option, Some, None, Result, Ok, Err}
 use Rattle.jiff_core.specs.declared.civil.date.Date.{Date}
 use Rattle.building.specs.Building.{Building}
-use Rattle.store.specs.Standing.{HasRisen}
 use Rattle.desk.specs.AskedDay.{SpellsDay}
 use Rattle.httparse.specs.Grammar.{RequestHead}
 use Rattle.panel_http.specs.AskedRoute.{RouteAndLength, route_asked}
@@ -15,8 +14,6 @@ use Rattle.panel_http.specs.declared.refusal.Refusal.{Refusal}
 use Rattle.panel_http.specs.declared.refusal.Refusal.TheVariants.{CutBody, NoHead, NotDelivery}
 use Rattle.panel_http.specs.declared.request.Request.{Request}
 use Rattle.panel_http.specs.declared.request.Request.TheVariants.{Point, Refused, Report}
-use Rattle.panel_http.specs.declared.request.Unread.{Unread}
-use Rattle.panel_http.specs.declared.request.Unread.TheVariants.{Lost, NoInput, NoMemory}
 
 -- ---- by the route
 
@@ -63,31 +60,3 @@ pub record IsOfHead (building : Building) (bytes : List ℕ) (request : Request)
 
 abbrev pub IsRequest : Building → List ℕ → Request → Type 0
 IsRequest building bytes request = IsOfHead building bytes request ⊎ (HasNoHead bytes × (request ≡ Refused NoHead))
-
--- ---- what is read
-
--- a reading is so, or memory was refused, or a read failed
-abbrev pub Asks : Building → RouteAndLength → List ℕ → Result Request Unread → Type 0
-Asks building asked after (Ok request) = IsAsked building asked after request
-Asks building asked after (Err NoInput) = ⊥
-Asks building asked after (Err Lost) = ⊤
-Asks building asked after (Err NoMemory) = ⊤
-
-abbrev pub AsksBy : Building → RequestHead → List ℕ → Result Request Unread → Type 0
-AsksBy building head after (Ok request) = IsAskedBy building (route_asked head) after request
-AsksBy building head after (Err NoInput) = ⊥
-AsksBy building head after (Err Lost) = ⊤
-AsksBy building head after (Err NoMemory) = ⊤
-
-abbrev pub Reads : Building → List ℕ → Result Request Unread → Type 0
-Reads building bytes (Ok request) = (0 < length bytes) × IsRequest building bytes request
-Reads building bytes (Err NoInput) = bytes ≡ []
-Reads building bytes (Err Lost) = ⊤
-Reads building bytes (Err NoMemory) = 0 < length bytes
-
--- the reader's count has risen where a read failed, and else stayed
-abbrev pub Counts : ℕ → ℕ → Result Request Unread → Type 0
-Counts before now (Ok request) = now ≡ before
-Counts before now (Err NoInput) = now ≡ before
-Counts before now (Err Lost) = HasRisen before now
-Counts before now (Err NoMemory) = now ≡ before

@@ -8,10 +8,10 @@
 //! and hands on what it asks. `serve_request` serves that, by the same clause, and `serve_come` the bytes themselves,
 //! where they lie.
 //!
-//! A request's head (`read_head`, `specs/Heads.antt`) has a method, a target and fields: the first two ask a `Route` of
+//! A request's head (`specs/Heads.antt`) has a method, a target and fields: the first two ask a `Route` of
 //! the table (`Routes::find`, `specs/Routes.antt`), the fields say how long the body is (`body_length`,
 //! `specs/BodyLength.antt`; RFC 9112, section 6, in this profile one plain length or none), and `route_asked` puts both
-//! together. Then the body comes (`read_body`, `specs/Bodies.antt`), and by the route it is the `Request` (`request_to`,
+//! together. Then the body comes, and by the route it is the `Request` (`request_to`,
 //! `specs/RequestBody.antt`), or the input is refused (`Refusal`). What the bytes of an input ask is
 //! `specs/Requests.antt`: the first case that holds. `lacking` answers, for the bytes that have come, how many are
 //! waited for yet (`specs/Whole.antt`), `request_in` what bytes ask that have come whole, and `request_come` does both
@@ -23,7 +23,7 @@
 #![tactic(auto)]
 
 pub use counted_end::Counted;
-pub use gathering::{Gathered, gather, take_some};
+pub use gathering::{Gathered, gather};
 pub use http::StatusCode;
 pub use request::Request;
 pub use route_laws::each_route_is_found;
@@ -36,19 +36,16 @@ mod answering;
 mod asked_route;
 mod beginning;
 mod bodies;
-mod body_bytes;
 mod come;
 mod content_length;
 mod counted_end;
 mod field_values;
 mod fixed_texts;
 mod gathering;
-mod head_reading;
 mod limits;
 mod looking;
 mod panel_bodies;
 mod point_text;
-mod reading;
 mod refusal;
 mod refusals;
 mod replies;
@@ -58,12 +55,12 @@ mod route;
 mod route_laws;
 mod route_request;
 mod routes;
-mod seen;
 mod served;
 mod serving;
 mod status_laws;
 mod text_writing;
 mod unanswered;
+mod untaken;
 mod whole;
 mod whole_input;
 mod whole_response;

@@ -5,7 +5,6 @@ use building_holidays::ImportFault;
 use dates::Day;
 use deliveries::Delivery;
 use points::Name;
-use std::alloc::AllocError;
 
 /// What an input asks of the desk.
 #[derive(Drop)]
@@ -22,26 +21,4 @@ pub enum Request {
     Point(Option<Name>),
     /// It asks for the report of a day; `None` where its segment of the target spells none.
     Report(Option<Day>),
-}
-
-/// Why nothing was read of an input.
-#[derive(Clone, Copy)]
-pub enum Unread {
-    /// The input ended before its first byte.
-    NoInput,
-    /// A read failed.
-    Lost,
-    /// Memory was refused.
-    NoMemory,
-}
-
-impl From<AllocError> for Unread {
-    ghost use Rattle.std.specs.Prelude.{◌≡◌};
-    ghost use Rattle.panel_http.specs.declared.request.Unread.{Unread};
-
-    ghost from_gives = { λ _ unread. unread ≡ Unread.NoMemory };
-
-    fn from(_error: AllocError) -> Unread {
-        Unread::NoMemory
-    }
 }

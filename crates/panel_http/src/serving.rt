@@ -11,8 +11,8 @@ ghost use Rattle.panel_http.specs.Whole.{IsWhole};
 use crate::Served;
 use crate::answering::answer;
 use crate::counted_end::Counted;
-use crate::reading::read_request;
-use crate::request::{Request, Unread};
+use crate::gathering::{Gathered, gather_whole, gives_more};
+use crate::request::Request;
 use crate::routes::Routes;
 use crate::unanswered::Unanswered;
 use crate::whole_input::request_in;
@@ -23,7 +23,7 @@ use std::alloc::{AllocError, Global};
 use std::io::{Read, Write};
 use store::Store;
 
-/// Reads one request, makes its delivery, and writes one response.
+/// Reads one request, in whatever pieces it comes, makes its delivery, and writes one response.
 pub fn serve_one<R: Read, W: Write, S: Store + Drop, K: Recorder>(
     alloc: Global,
     routes: &Routes,
@@ -41,10 +41,17 @@ pub fn serve_one<R: Read, W: Write, S: Store + Drop, K: Recorder>(
         (S.standing desk.old.store) (S.standing desk.new.store) }
     ensures building { desk.new.building ≡ desk.old.building }
 {
-    match read_request(alloc, routes, desk.building(), reader) {
-        Ok(request) => serve_request(alloc, &request, writer, desk, recorder),
-        Err(Unread::NoMemory) => write_answer(writer, Err(Unanswered::NoMemory)),
-        Err(Unread::NoInput | Unread::Lost) => Served::NoRequest,
+    let mut come = Vec::new(alloc);
+    match gather_whole(alloc, routes, desk.building(), reader, &mut come) {
+        Gathered::Asks(request) => serve_request(alloc, &request, writer, desk, recorder),
+        Gathered::Ended => serve_come(alloc, routes, &come, writer, desk, recorder),
+        Gathered::Waits | Gathered::Lost => Served::NoRequest,
+        Gathered::Whole | Gathered::HasMore | Gathered::NoMemory => {
+            if come.is_empty() && !gives_more(reader) {
+                return Served::NoRequest;
+            }
+            write_answer(writer, Err(Unanswered::NoMemory))
+        }
     }
 }
 

@@ -5,6 +5,7 @@ mod ends;
 mod ends_each;
 mod evaluations;
 mod gathered;
+mod last_number;
 mod loopback;
 mod members;
 mod runs;

@@ -1,20 +1,11 @@
 //! Tables in a database in memory, which are made once.
-use sqlite::Connection;
 use std::alloc::Global;
 use std::test::Fail;
 use store::OpenFault;
 use store_sql::SqlStore;
+use trials_buildings::new_database;
 
-/// The tables of a database in memory that has nothing yet.
-pub(crate) fn made(alloc: Global) -> Result<SqlStore<sqlite::MemStore>, Fail> {
-    let connection = Connection::open_in_memory(alloc)?;
-    match SqlStore::create(alloc, connection) {
-        Ok(store) => Ok(store),
-        Err((fault, _connection)) => Err(Fail::from(fault)),
-    }
-}
-
-/// The same tables, in a store that has read none of their rows.
+/// The tables of a store, in a store that has read none of their rows.
 pub(crate) fn opened_again(
     alloc: Global,
     store: SqlStore<sqlite::MemStore>,
@@ -35,7 +26,7 @@ fn fault_of<T: Drop, C: Drop>(made: Result<T, (OpenFault, C)>) -> Option<OpenFau
 
 #[test]
 fn tables_are_not_made_twice(rt: HostRuntime) -> Result<(), Fail> {
-    let connection = made(rt.alloc())?.into_connection();
+    let connection = new_database(rt.alloc())?.into_connection();
     let fault = fault_of(SqlStore::create(rt.alloc(), connection));
     assert_eq!(rt; fault, Some(OpenFault::UnknownTables));
     Ok(())

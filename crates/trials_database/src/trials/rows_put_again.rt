@@ -1,10 +1,11 @@
 //! Rows that are put again, by their numbers and, where these are not known, by their keys, and rows that take the place of
 //! one that falls out.
-use crate::trials::databases::{made, opened_again};
+use crate::trials::databases::opened_again;
 use points::{CommandRow, CommandState, Content, Name};
 use std::alloc::Global;
 use std::test::Fail;
 use store::{Change, KeptRow, NextNumber, PlaceValue, RowsBelow, ShownValue, Store};
+use trials_buildings::new_database;
 
 fn put_place<S: Store>(
     alloc: Global,
@@ -29,7 +30,7 @@ fn place<S: Store>(store: &mut S, point: &str) -> Result<Option<i64>, Fail> {
 #[test]
 fn a_place_is_put_again_and_again(rt: HostRuntime) -> Result<(), Fail> {
     let alloc = rt.alloc();
-    let mut store = made(alloc)?;
+    let mut store = new_database(alloc)?;
     put_place(alloc, &mut store, "LIGHT", Some(1))?;
     for value in [
         Some(2100),
@@ -65,7 +66,7 @@ fn put_shown<S: Store>(
 #[test]
 fn what_a_schedule_shows_is_put_again_and_again(rt: HostRuntime) -> Result<(), Fail> {
     let alloc = rt.alloc();
-    let mut store = made(alloc)?;
+    let mut store = new_database(alloc)?;
     put_shown(alloc, &mut store, "LIGHT-DAY", Some(Some(1)))?;
     for shown in [
         Some(Some(2100)),
@@ -99,7 +100,7 @@ fn put_next<S: Store>(alloc: Global, store: &mut S, panel: &str, next: u64) -> R
 #[test]
 fn a_next_number_is_put_again_and_again(rt: HostRuntime) -> Result<(), Fail> {
     let alloc = rt.alloc();
-    let mut store = made(alloc)?;
+    let mut store = new_database(alloc)?;
     put_next(alloc, &mut store, "P2", 7)?;
     for next in [2, 3, 4, 9] {
         put_next(alloc, &mut store, "P1", next)?;
@@ -112,7 +113,7 @@ fn a_next_number_is_put_again_and_again(rt: HostRuntime) -> Result<(), Fail> {
 #[test]
 fn rows_that_were_not_read_are_put_again(rt: HostRuntime) -> Result<(), Fail> {
     let alloc = rt.alloc();
-    let mut store = made(alloc)?;
+    let mut store = new_database(alloc)?;
     put_place(alloc, &mut store, "R101-SET", Some(2100))?;
     put_shown(alloc, &mut store, "R101-DAY", Some(Some(2100)))?;
     put_next(alloc, &mut store, "P1", 2)?;
@@ -180,7 +181,7 @@ fn all_asked<S: Store>(store: &mut S) -> Result<[i64; 7], Fail> {
 #[test]
 fn a_row_takes_the_place_of_one_that_falls_out(rt: HostRuntime) -> Result<(), Fail> {
     let alloc = rt.alloc();
-    let mut store = made(alloc)?;
+    let mut store = new_database(alloc)?;
     put_row(alloc, &mut store, 1, 2110, 0)?;
     put_row(alloc, &mut store, 2, 2120, 1)?;
     assert_eq!(rt; all_asked(&mut store)?, [2110, 2120, 0, 0, 0, 0, 0]);

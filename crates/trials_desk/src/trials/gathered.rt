@@ -27,11 +27,11 @@ struct Come {
 
 /// Gathers an input as long as it may have more.
 fn gathered(alloc: Global, routes: &Routes, building: &Building, text: &[u8], size: usize) -> Come {
-    let mut input = Halting {
+    let mut input = Counted::new(Halting {
         text,
         size,
         is_there: false,
-    };
+    });
     let mut bytes = Vec::new(alloc);
     let mut lacks = 1;
     let mut how = Gathered::HasMore;

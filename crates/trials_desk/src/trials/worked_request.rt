@@ -1,5 +1,5 @@
-//! The worked request over tables in memory: in two reads, cut inside its body, and with a reply that is lost after
-//! each byte.
+//! The worked request over tables in memory and in a database: in two reads, cut inside its body, and with a reply that is
+//! lost after each byte.
 use crate::trials::asking::{Got, HEAD, ask, assert_got, command, done, point_before, serve};
 use crate::trials::desks::desk_over;
 use crate::trials::ends::Pieces;
@@ -9,6 +9,7 @@ use std::process::Abort;
 use std::test::Fail;
 use store::Store;
 use store_memory::MemStore;
+use trials_buildings::new_database;
 
 /// The response to a request that ends inside its body.
 fn cut() -> &'static str {
@@ -186,7 +187,7 @@ fn ways(alloc: Global) -> Result<Vec<Way>, Fail> {
     Ok(ways)
 }
 
-// Tries each case over new tables.
+// Tries each case over new tables in memory.
 fn try_cases(rt: &impl Abort, alloc: Global) -> Result<(), Fail> {
     for way in &ways(alloc)? {
         try_case(rt, alloc, MemStore::new(alloc), &case_of(*way))?;
@@ -194,7 +195,20 @@ fn try_cases(rt: &impl Abort, alloc: Global) -> Result<(), Fail> {
     Ok(())
 }
 
+// Tries each case over new tables in a database.
+fn try_cases_in_databases(rt: &impl Abort, alloc: Global) -> Result<(), Fail> {
+    for way in &ways(alloc)? {
+        try_case(rt, alloc, new_database(alloc)?, &case_of(*way))?;
+    }
+    Ok(())
+}
+
 #[test]
 fn the_request_is_answered_once(rt: HostRuntime) -> Result<(), Fail> {
     try_cases(&rt, rt.alloc())
+}
+
+#[test]
+fn a_database_answers_the_request_once(rt: HostRuntime) -> Result<(), Fail> {
+    try_cases_in_databases(&rt, rt.alloc())
 }

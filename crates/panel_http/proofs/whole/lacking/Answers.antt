@@ -27,7 +27,7 @@ returns-in-Ok-Partial-3 c = λ building.
 
 pub returns-in-Ok-Complete : goal.returns-in-Ok-Complete
 returns-in-Ok-Complete c = λ building.
-    head-lacks building c.args.come.now c.parse_request.new.headers (record { spans = c.in-Ok-Complete.spans; filled = c.min.result }) _
+    head-lacks building c.min.result c.args.come.now c.parse_request.new.headers c.in-Ok-Complete.spans _
     (search rules) (search rules) (search rules)
     (rw c.in-Ok-Complete.field-0-is at c.in-Ok-Complete.ensures.within)
     (rw c.in-Ok-Complete.field-0-is at c.in-Ok-Complete.ensures.complete)

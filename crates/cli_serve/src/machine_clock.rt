@@ -6,7 +6,7 @@ ghost use Rattle.std.specs.Duration.{as_nanos};
 use std::time::{Duration, SystemTime};
 
 /// The moment of the machine's clock, in hundredths of a second since 1970, where it can be read.
-pub(crate) fn moment(rt: &HostRuntime) -> Option<i64> {
+pub fn moment(rt: &HostRuntime) -> Option<i64> {
     let now = SystemTime::now(rt).ok()?;
     let since = now.duration_since(SystemTime::UNIX_EPOCH).ok()?;
     i64::try_from(hundredths(&since)).ok()

@@ -108,13 +108,13 @@ impl Connection {
                 alloc,
                 routes,
                 desk.building(),
-                &mut self.stream,
+                &mut Counted::new(&self.stream),
                 &mut self.come,
                 &mut self.lacks,
             ) {
                 Gathered::Waits => return Turn::WaitsToRead,
                 Gathered::HasMore => return Turn::HasMore,
-                Gathered::Lost => return Turn::Over,
+                Gathered::Lost | Gathered::NoMemory => return Turn::Over,
                 Gathered::Asks(request) => Some(request),
                 Gathered::Whole | Gathered::Ended => None,
             };

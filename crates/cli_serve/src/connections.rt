@@ -25,14 +25,14 @@ const TAKEN: u32 = 64;
 const MOMENT: u64 = 1;
 
 /// How many events are looked at in a turn.
-pub(crate) const EVENTS: usize = 256;
+pub const EVENTS: usize = 256;
 
 /// The token of the listener; the others are the keys of the connections that are held.
 const LISTENER: Token = Token(usize::MAX);
 
 /// The connections of a server: those that are held, since their peers have more to send or to take, and those to come.
 #[derive(Drop)]
-pub(crate) struct Connections {
+pub struct Connections {
     routes: Routes,
     listener: TcpListener,
     poll: Poll,
@@ -58,7 +58,7 @@ enum Goes {
 
 impl Connections {
     /// The connections to a listener, of which so many are taken.
-    pub(crate) fn new(
+    pub fn new(
         rt: &HostRuntime,
         listener: TcpListener,
         requests: u64,
@@ -84,7 +84,7 @@ impl Connections {
     /// Takes the connections, and answers the request of each as soon as it is whole. One that can't be taken counts
     /// too, where none can be let go for it; what becomes of a response ends nothing, but of one at which the store
     /// failed, which ends the run with its status.
-    pub(crate) fn serve<S: Store + Drop, R: Recorder>(
+    pub fn serve<S: Store + Drop, R: Recorder>(
         &mut self,
         rt: &HostRuntime,
         desk: &mut Desk<S>,
