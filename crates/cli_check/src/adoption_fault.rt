@@ -60,8 +60,6 @@ impl fmt::Display for RenamingFault {
 pub(crate) enum AdoptionFault<'a> {
     /// As any run stops.
     Run(RunFault<'a>),
-    /// There is no database at this path.
-    NoDatabase { path: &'a str },
     /// The database of this path has tables of version 1, which would be changed.
     FirstVersion { path: &'a str },
     /// Something is at this path, where the new database is to be.
@@ -128,8 +126,7 @@ impl<'a> AdoptionFault<'a> {
     {
         match self {
             AdoptionFault::Run(fault) => fault.status(),
-            AdoptionFault::NoDatabase { .. }
-            | AdoptionFault::FirstVersion { .. }
+            AdoptionFault::FirstVersion { .. }
             | AdoptionFault::Taken { .. }
             | AdoptionFault::PartTaken { .. }
             | AdoptionFault::PartLogTaken { .. }
@@ -156,7 +153,6 @@ impl fmt::Display for AdoptionFault<'_> {
     fn fmt<W: fmt::Write>(&self, f: &mut fmt::Formatter<W>) -> fmt::Result {
         match self {
             AdoptionFault::Run(fault) => write!(f, "{fault}"),
-            AdoptionFault::NoDatabase { path } => write!(f, "desk: no database at {path}"),
             AdoptionFault::FirstVersion { path } => write!(
                 f,
                 "desk: {path} has tables of version 1: run desk report over it first, which makes them of version 2"

@@ -13,7 +13,7 @@ use crate::adoption_fault::{AdoptionFault, FindFault, MakeFault};
 use crate::adoption_text::adoption_text;
 use crate::renamings::renamings_in;
 use building::Building;
-use cli_common::{Input, Status, read_building};
+use cli_common::{Input, RunFault, Status, read_building};
 use desk_adopt::{Notes, Renaming, adopt, adopted_tables_suit, adoption_notes, survey_tables};
 use local_times::local_time;
 use std::alloc::Global;
@@ -117,7 +117,7 @@ where
 {
     match opener() {
         Ok(Some(store)) => Ok(store),
-        Ok(None) => Err(AdoptionFault::NoDatabase { path: database }),
+        Ok(None) => Err(AdoptionFault::Run(RunFault::NoDatabase { path: database })),
         Err(fault) => Err(AdoptionFault::of_finding(fault, database)),
     }
 }

@@ -2,9 +2,8 @@
 ghost use Rattle.std.specs.Prelude.{◌≡◌};
 
 use building::FileFault;
-use cli_common::{RunFault, Status, print_fault};
+use cli_common::{RunFault, Status};
 use std::alloc::{AllocError, Global};
-use std::fmt;
 use std::io::Write;
 
 /// Why a check stopped.
@@ -18,10 +17,6 @@ pub(crate) enum CheckFault<'a> {
         /// The line after the fault's, without its line end.
         explanation: String,
     },
-    /// There is no database at this path.
-    NoDatabase {
-        path: &'a str,
-    },
 }
 
 impl<'a> CheckFault<'a> {
@@ -31,7 +26,7 @@ impl<'a> CheckFault<'a> {
     {
         match self {
             CheckFault::Run(fault) => fault.status(),
-            CheckFault::Explained { .. } | CheckFault::NoDatabase { .. } => Status::Fault,
+            CheckFault::Explained { .. } => Status::Fault,
         }
     }
 
@@ -42,7 +37,6 @@ impl<'a> CheckFault<'a> {
             CheckFault::Explained { fault, explanation } => {
                 print_explained(alloc, *fault, explanation.as_str(), out);
             }
-            CheckFault::NoDatabase { path } => print_fault(alloc, &NoDatabase { path }, out),
         }
     }
 }
@@ -64,18 +58,6 @@ fn explained_lines(
 ) -> Result<String, AllocError> {
     let fault = RunFault::Building(fault);
     format!(in alloc; "{fault}\n{explanation}\n")
-}
-
-/// That there is no database at a path.
-#[derive(Clone, Copy)]
-struct NoDatabase<'a> {
-    path: &'a str,
-}
-
-impl fmt::Display for NoDatabase<'_> {
-    fn fmt<W: fmt::Write>(&self, f: &mut fmt::Formatter<W>) -> fmt::Result {
-        write!(f, "desk: no database at {}", self.path)
-    }
 }
 
 impl<'a> From<RunFault<'a>> for CheckFault<'a> {

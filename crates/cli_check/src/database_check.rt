@@ -92,7 +92,7 @@ where
 {
     match opener() {
         Ok(Some(store)) => Ok(store),
-        Ok(None) => Err(CheckFault::NoDatabase { path: database }),
+        Ok(None) => Err(CheckFault::Run(RunFault::NoDatabase { path: database })),
         Err(fault) => Err(CheckFault::Run(RunFault::from(fault))),
     }
 }

@@ -24,6 +24,10 @@ pub enum RunFault<'a> {
     Holidays(ImportFault),
     /// The day of a report is none.
     NotDay,
+    /// The building has no point of this name.
+    NoPoint { name: &'a str },
+    /// There is no database at this path.
+    NoDatabase { path: &'a str },
     /// Nothing can listen on this address.
     CannotListen { address: &'a str },
     /// The record of this path can't be written.
@@ -90,6 +94,8 @@ impl fmt::Display for RunFault<'_> {
             RunFault::NotDelivery { line } => write!(f, "desk: line {line} is not a delivery"),
             RunFault::Holidays(fault) => write!(f, "desk: {fault}"),
             RunFault::NotDay => f.write_str("desk: not a day"),
+            RunFault::NoPoint { name } => write!(f, "desk: no point {name}"),
+            RunFault::NoDatabase { path } => write!(f, "desk: no database at {path}"),
             RunFault::CannotListen { address } => write!(f, "desk: cannot listen on {address}"),
             RunFault::CannotWrite { path } => write!(f, "desk: cannot write {path}"),
             RunFault::NotARecord { path } => {

@@ -33,7 +33,6 @@ mod panels;
 mod places;
 mod record_lines;
 mod record_run;
-mod record_run_fault;
 mod record_text;
 mod replayed;
 mod same_row;

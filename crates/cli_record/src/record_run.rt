@@ -17,7 +17,6 @@ ghost use Rattle.cli_record.specs.RecordRun.{Differ, Finds, HasLeft, IsCompared,
 
 use crate::comparing::compare_tables;
 use crate::difference::Difference;
-use crate::record_run_fault::RecordRunFault;
 use crate::record_text::{differences_text, unmade_line, whole_line};
 use crate::whole_list::read_whole;
 use building::Building;
@@ -56,7 +55,7 @@ fn compare_with<'a, S: Store, T: Store + Drop>(
     store: &mut S,
     empty: T,
     deliveries: &[Delivery],
-) -> Result<Vec<Difference>, RecordRunFault<'a>>
+) -> Result<Vec<Difference>, RunFault<'a>>
     requires empty { (T.standing empty).content ≡ sound no_tables }
     requires honest { (t : T) → (T.standing t).is_honest }
     ensures reads { OnOk result (Reads None (S.standing store.old) (S.standing store.new)) }
@@ -66,7 +65,7 @@ fn compare_with<'a, S: Store, T: Store + Drop>(
     let mut of_record = deliver_all(alloc, replayed, empty, deliveries)?;
     match compare_tables(alloc, building, store, &mut of_record) {
         Ok(found) => Ok(found),
-        Err(fault) => Err(RecordRunFault::Run(RunFault::from(fault))),
+        Err(fault) => Err(RunFault::from(fault)),
     }
 }
 
@@ -77,7 +76,7 @@ fn compare_deliveries<'a, S: Store>(
     file: &[u8],
     store: &mut S,
     deliveries: &[Delivery],
-) -> Result<Vec<Difference>, RecordRunFault<'a>>
+) -> Result<Vec<Difference>, RunFault<'a>>
     ensures reads { OnOk result (Reads None (S.standing store.old) (S.standing store.new)) }
     ensures found { (S.standing store.new).is_honest → IfOk result (λ found.
         Differ building.now file.now deliveries.now (S.standing store.old).content.tables found.items) }
@@ -101,7 +100,7 @@ fn compare<'a, S: Store>(
     file: &[u8],
     store: &mut S,
     deliveries: &[Delivery],
-) -> Result<(Status, String), RecordRunFault<'a>>
+) -> Result<(Status, String), RunFault<'a>>
     ensures compared { (S.standing store.new).is_honest → IfOk result (λ compared. IsCompared building.now file.now deliveries.now
         (S.standing store.old).content.tables compared.0 (string_bytes compared.1)) }
     ensures verdict { IfOk result (λ compared. IsVerdict (length deliveries.now) (string_bytes compared.1)) }
@@ -126,7 +125,7 @@ fn opened<'a, S: Store + Drop, O>(
     file: &[u8],
     database: &'a str,
     finder: O,
-) -> Result<S, RecordRunFault<'a>>
+) -> Result<S, RunFault<'a>>
 where
     O: FnOnce() -> Result<Option<S>, OpenFault>,
     requires { O.IsAlwaysCallable finder }
@@ -136,12 +135,12 @@ where
     let building = Building::read(alloc, file)?;
     let store = match finder() {
         Ok(Some(store)) => store,
-        Ok(None) => return Err(RecordRunFault::NoDatabase { path: database }),
-        Err(fault) => return Err(RecordRunFault::Run(RunFault::from(fault))),
+        Ok(None) => return Err(RunFault::NoDatabase { path: database }),
+        Err(fault) => return Err(RunFault::from(fault)),
     };
     match Desk::open(alloc, building, store) {
         Ok(desk) => Ok(desk.into_store()),
-        Err((fault, _store)) => Err(RecordRunFault::from(fault)),
+        Err((fault, _store)) => Err(RunFault::from(fault)),
     }
 }
 
@@ -191,7 +190,7 @@ fn compare_over<'a, B: Read + Drop, D: Read + Drop, P, S: Store + Drop, O>(
     list: ListInput<'a, P>,
     database: &'a str,
     finder: O,
-) -> Result<Comparison<S>, RecordRunFault<'a>>
+) -> Result<Comparison<S>, RunFault<'a>>
 where
     P: FnOnce() -> io::Result<BufReader<D>>,
     O: FnOnce() -> Result<Option<S>, OpenFault>,
@@ -253,7 +252,7 @@ fn print_comparison<S: Drop, W: Write, F: Write>(
             store: Some(store),
         },
         Err(end) => {
-            let end = RecordRunFault::from(end).after(out.flush());
+            let end = end.after(out.flush());
             end.print(alloc, fault);
             RecordChecked {
                 status: end.status(),

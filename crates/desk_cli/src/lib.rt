@@ -32,6 +32,5 @@ mod list_reading;
 mod members;
 mod replay_run;
 mod straighten_run;
-mod why_fault;
 mod why_run;
 mod zone;

@@ -7,9 +7,8 @@ ghost use Rattle.cli_common.specs.Input.{bytes_of};
 ghost use Rattle.desk_cli.specs.Why.{Explains, ExplainsNoMore, explanation, point_of};
 
 use crate::list_reading::list_deliveries;
-use crate::why_fault::WhyFault;
 use building::Building;
-use cli_common::{Input, ListInput, Status, flush, print_text, read_building};
+use cli_common::{Input, ListInput, RunFault, Status, flush, print_text, read_building};
 use deliveries::Delivery;
 use desk_why::{point_at_end, why_text};
 use points::{Point, name_of};
@@ -66,7 +65,7 @@ fn why_over<'a, B: Read + Drop, D: Read + Drop, O, W: Write>(
     name: &'a str,
     until: Option<i64>,
     out: &mut W,
-) -> Result<(), WhyFault<'a>>
+) -> Result<(), RunFault<'a>>
 where
     O: FnOnce() -> io::Result<BufReader<D>>,
     requires { O.IsAlwaysCallable list.open }
@@ -81,12 +80,12 @@ where
 {
     let building = read_building(alloc, file)?;
     let Some(point) = point_of(&building, name) else {
-        return Err(WhyFault::NoPoint { name });
+        return Err(RunFault::NoPoint { name });
     };
     let deliveries = list_deliveries(alloc, &building, list, until)?;
     let text = explanation(alloc, &building, deliveries.as_slice(), point)?;
     print_text(out, text.as_bytes())?;
-    Ok(flush(out)?)
+    flush(out)
 }
 
 /// The point of a name.
