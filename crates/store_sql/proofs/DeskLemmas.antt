@@ -16,13 +16,13 @@ use Rattle.store_sql_rows.specs.Schema.{desk_schema, desk_tree}
 use Rattle.store_sql_rows.specs.Meanings.{shows}
 use Rattle.store_sql_rows.specs.Ours.{IsOne}
 use Rattle.store_sql_rows.proofs.AnswerLemmas.{plain_program}
-use Rattle.store_sql_rows.proofs.DeskTexts.{find_is, find_plain, find_text, find_unlisted}
+use Rattle.store_sql_rows.proofs.DeskTexts.{find_is, find_plain, find_sure, find_text, find_unlisted}
 use Rattle.store_sql.specs.Asking.{IsAskable, Joins}
 use Rattle.store_sql.specs.Fitting.{AreNumbered, IsAlone, IsFitting}
 use Rattle.store_sql.specs.Own.{TellsOf}
 
 pub find_askable : IsAskable find_text
-find_askable = record { plain = find_plain; unlisted = find_unlisted }
+find_askable = find_sure
 
 filter_all : (rows : List Row) → filter (λ r. true) rows ≡ rows
 filter_all [] = refl

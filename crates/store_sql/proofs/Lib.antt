@@ -1,5 +1,6 @@
 pub mod AnswerLemmas
 pub mod AskLemmas
+pub mod CauseLemmas
 pub mod CellLemmas
 pub mod CommitLemmas
 pub mod DeskLemmas

@@ -1,5 +1,6 @@
 -- What an opening finds, and how one that is refused is reported.
-use Rattle.std.specs.Prelude.{◌≡◌, ◌⊎◌, false, Result, Ok, Err}
+use Rattle.std.specs.Prelude.{◌≡◌, ◌⊎◌, false, IsSome, Result, Ok, Err}
+use Rattle.sqlite_disk.specs.Disk.{MoreFaults}
 use Rattle.sqlite.specs.Held.{Held}
 use Rattle.sqlite.specs.State.{State, Survives}
 use Rattle.sqlite.specs.declared.error.Error.TheVariants as sql
@@ -44,3 +45,7 @@ reported_as (refused.Sql (sql.SqliteFailure code.OutOfMemory)) = NoMemory
 reported_as (refused.Sql _) = Failed
 reported_as refused.NotOurs = UnknownTables
 reported_as refused.BadRow = BadRow
+
+-- S2 has a cause: the disk failed during the call, or the connection was shut before, or its caller had set a limit of steps
+abbrev pub HasCause : State → State → OpenFault → Type 0
+HasCause old new fault = fault ≡ Failed → MoreFaults old.faults new.faults ⊎ ((old.is_open ≡ false) ⊎ IsSome old.step_limit)

@@ -1,5 +1,5 @@
 -- How a database is made or taken, and how it stands then.
-use Rattle.std.specs.Prelude.{◌≡◌, ◌↔◌, ◌⊎◌, ℕ, ◌+◌, ◌-◌, nat_lt, if◌then◌else◌, ℤ, pos, Bool, true, false, IsTrue, List, [], ◌∷◌, Option, Some, None, Result, Ok, Err}
+use Rattle.std.specs.Prelude.{◌≡◌, ◌↔◌, ◌⊎◌, ℕ, ◌+◌, ◌-◌, nat_lt, if◌then◌else◌, ℤ, pos, Bool, true, false, IsTrue, List, [], ◌∷◌, Option, Some, None, Result, Ok, Err, ⊤}
 use Rattle.sqlite_trees.specs.Tree.{Trees}
 use Rattle.sqlite_value.specs.Order.{Row, column}
 use Rattle.sqlite.specs.State.{State}
@@ -11,6 +11,7 @@ use Rattle.store.specs.Tables.{Tables, no_tables}
 use Rattle.points.specs.Texts.{Text}
 use Rattle.store_sql.specs.Naming.{NamesStand}
 use Rattle.store_sql_rows.specs.Cells.{number_in}
+use Rattle.store_sql_rows.specs.Failing.{FailsFor}
 use Rattle.store_sql_rows.specs.declared.read_fault.ReadFault.{ReadFault}
 use Rattle.store_sql_rows.specs.declared.read_fault.ReadFault.TheVariants as read
 use Rattle.store_sql_rows.specs.Schema.{desk_schema, desk_tree, schema_0}
@@ -127,6 +128,17 @@ abbrev pub is_sql : Refusal → Bool
 is_sql (Sql error) = true
 is_sql NotOurs = false
 is_sql BadRow = false
+
+-- a read failed for a cause, or a row cannot stand
+abbrev pub FailsToRead : State → State → ReadFault → Type 0
+FailsToRead old new (read.Sql error) = FailsFor old new error
+FailsToRead old new read.BadRow = ⊤
+
+-- where it refused or failed it had a cause
+abbrev pub IsCaused : State → State → Refusal → Type 0
+IsCaused old new (Sql error) = FailsFor old new error
+IsCaused old new NotOurs = ⊤
+IsCaused old new BadRow = ⊤
 
 -- it refused or failed, or a row cannot stand
 abbrev pub IsFaultOf : State → Refusal → Type 0

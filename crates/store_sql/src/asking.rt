@@ -16,6 +16,7 @@ pub fn finds_none<S: Alter>(connection: &mut Connection<S>, sql: &str) -> Result
 }
 
 /// Whether the answers of two queries are empty.
+#[tactic(auto, using(store_sql_rows::proofs::FailLemmas::fails_later, store_sql_rows::proofs::FailLemmas::fails_later_if))]
 pub fn neither_finds<S: Alter>(
     connection: &mut Connection<S>,
     first: &str,

@@ -4,7 +4,8 @@ ghost use Rattle.sqlite.specs.Effect.{IsDatabase};
 ghost use Rattle.sqlite.specs.Held.{state};
 ghost use Rattle.sqlite.specs.State.{HasCleanDisk, Survives};
 ghost use Rattle.store_sql_rows.specs.Creating.{AreFirst, IsAsBefore, IsMade};
-ghost use Rattle.store_sql.specs.Opening.{IsBare, IsBegun, is_sql};
+ghost use Rattle.store_sql_rows.specs.Failing.{FailsFor};
+ghost use Rattle.store_sql.specs.Opening.{IsBare, IsBegun, IsCaused, is_sql};
 ghost use Rattle.store_sql.specs.declared.refusal.Refusal.TheVariants.{NotOurs};
 
 use crate::refusal::Refusal;
@@ -25,6 +26,8 @@ fn make_all<S: Alter>(connection: &mut Connection<S>) -> Result<(), Error>
     ensures made { HasCleanDisk (state S.Store connection.new) → OnOk result (IsBegun (state S.Store connection.new)) }
     ensures kept { HasCleanDisk (state S.Store connection.new) → IsTrue (state S.Store connection.new).is_open
         → OnErr result (IsAsBefore (state S.Store connection.old) (state S.Store connection.new)) }
+    ensures cause { HasCleanDisk (state S.Store connection.new)
+        → IfErr result (FailsFor (state S.Store connection.old) (state S.Store connection.new)) }
     ensures survives { Survives (state S.Store connection.old) (state S.Store connection.new) (λ trees. AreFirst trees) }
 {
     make_tables(connection)?;
@@ -43,6 +46,8 @@ pub fn make<S: Alter>(connection: &mut Connection<S>) -> Result<(), Refusal>
     ensures not_ours { (result ≡ Err NotOurs) ↔ (IsBare (state S.Store connection.old) → ⊥) }
     ensures kept { HasCleanDisk (state S.Store connection.new) → IsTrue (state S.Store connection.new).is_open
         → OnErr result (IsAsBefore (state S.Store connection.old) (state S.Store connection.new)) }
+    ensures cause { HasCleanDisk (state S.Store connection.new)
+        → IfErr result (IsCaused (state S.Store connection.old) (state S.Store connection.new)) }
     ensures survives { Survives (state S.Store connection.old) (state S.Store connection.new) (λ trees. AreFirst trees) }
 {
     if !is_bare(connection) {

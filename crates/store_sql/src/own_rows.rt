@@ -1,9 +1,10 @@
 //! Whether the rows of an opened database are such as a store writes: no query changes a row, and each table is asked
 //! whether a row has no number, and whether two rows of two keys share one.
-ghost use Rattle.std.specs.Prelude.{◌≡◌, ◌↔◌, false, IfOk, OnOk, IsTrue, [], ◌∷◌};
+ghost use Rattle.std.specs.Prelude.{◌≡◌, ◌↔◌, false, IfErr, IfOk, OnOk, IsTrue, [], ◌∷◌};
 ghost use Rattle.sqlite.specs.Held.{state};
 ghost use Rattle.sqlite.specs.State.{HasCleanDisk, IsUnchanged, Survives};
 ghost use Rattle.store_sql_rows.specs.Schema.{command_tree, desk_tree, imported_tree, panel_tree, place_tree, shown_tree};
+ghost use Rattle.store_sql_rows.specs.Failing.{FailsFor};
 ghost use Rattle.store_sql_rows.specs.Looking.{Rests};
 ghost use Rattle.store_sql_rows.specs.Ours.{AreOurs, AreOwn, IsOne, kept_in};
 ghost use Rattle.store_sql.specs.Fitting.{IsFitting};
@@ -15,6 +16,7 @@ use crate::tables::{
 };
 use sqlite::{Alter, Connection, Error};
 
+#[tactic(auto, using(store_sql_rows::proofs::FailLemmas::fails_later, store_sql_rows::proofs::FailLemmas::fails_later_if))]
 fn first_are_own<S: Alter>(connection: &mut Connection<S>) -> Result<bool, Error>
     ensures mode { connection.old.in_transaction ≡ false → connection.new.in_transaction ≡ false }
     ensures asks { Asks (Joins (TellsOf desk_tree IsOne) (TellsOf panel_tree (AreOwn (1 ∷ [])))) (state S.Store connection.old)
@@ -27,6 +29,7 @@ fn first_are_own<S: Alter>(connection: &mut Connection<S>) -> Result<bool, Error
     }
 }
 
+#[tactic(auto, using(store_sql_rows::proofs::FailLemmas::fails_later, store_sql_rows::proofs::FailLemmas::fails_later_if))]
 fn next_are_own<S: Alter>(connection: &mut Connection<S>) -> Result<bool, Error>
     ensures mode { connection.old.in_transaction ≡ false → connection.new.in_transaction ≡ false }
     ensures asks { Asks (Joins (TellsOf command_tree (AreOwn (1 ∷ 2 ∷ []))) (TellsOf place_tree (AreOwn (1 ∷ 2 ∷ []))))
@@ -39,6 +42,7 @@ fn next_are_own<S: Alter>(connection: &mut Connection<S>) -> Result<bool, Error>
     }
 }
 
+#[tactic(auto, using(store_sql_rows::proofs::FailLemmas::fails_later, store_sql_rows::proofs::FailLemmas::fails_later_if))]
 fn last_are_own<S: Alter>(connection: &mut Connection<S>) -> Result<bool, Error>
     ensures mode { connection.old.in_transaction ≡ false → connection.new.in_transaction ≡ false }
     ensures asks { Asks (Joins (TellsOf shown_tree (AreOwn (1 ∷ []))) (TellsOf imported_tree (AreOwn (1 ∷ 2 ∷ []))))
@@ -51,6 +55,7 @@ fn last_are_own<S: Alter>(connection: &mut Connection<S>) -> Result<bool, Error>
     }
 }
 
+#[tactic(auto, using(store_sql_rows::proofs::FailLemmas::fails_later, store_sql_rows::proofs::FailLemmas::fails_later_if))]
 fn others_are_own<S: Alter>(connection: &mut Connection<S>) -> Result<bool, Error>
     ensures mode { connection.old.in_transaction ≡ false → connection.new.in_transaction ≡ false }
     ensures asks { Asks (Joins (Joins (TellsOf command_tree (AreOwn (1 ∷ 2 ∷ []))) (TellsOf place_tree (AreOwn (1 ∷ 2 ∷ []))))
@@ -64,6 +69,7 @@ fn others_are_own<S: Alter>(connection: &mut Connection<S>) -> Result<bool, Erro
     }
 }
 
+#[tactic(auto, using(store_sql_rows::proofs::FailLemmas::fails_later, store_sql_rows::proofs::FailLemmas::fails_later_if))]
 fn all_are_own<S: Alter>(connection: &mut Connection<S>) -> Result<bool, Error>
     ensures mode { connection.old.in_transaction ≡ false → connection.new.in_transaction ≡ false }
     ensures asks { Asks (Joins (Joins (TellsOf desk_tree IsOne) (TellsOf panel_tree (AreOwn (1 ∷ [])))) (Joins (Joins
@@ -88,6 +94,8 @@ pub fn are_own<S: Alter>(connection: &mut Connection<S>) -> Result<bool, Error>
         → Rests (state S.Store connection.old) (state S.Store connection.new) }
     ensures own { HasCleanDisk (state S.Store connection.new) → IsFitting (state S.Store connection.old).now
         → IfOk result (λ own. IsTrue own ↔ AreOurs (kept_in (state S.Store connection.old).now.trees)) }
+    ensures cause { HasCleanDisk (state S.Store connection.new) → IsFitting (state S.Store connection.old).now
+        → IfErr result (FailsFor (state S.Store connection.old) (state S.Store connection.new)) }
     ensures survives { Survives (state S.Store connection.old) (state S.Store connection.new) (λ _. IsFitting
         (state S.Store connection.old).now
         → ⊥) }

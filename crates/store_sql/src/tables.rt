@@ -28,6 +28,7 @@ fn desk_is_numbered<S: Alter>(connection: &mut Connection<S>) -> Result<bool, Er
     )
 }
 
+#[tactic(auto, using(store_sql_rows::proofs::FailLemmas::fails_later, store_sql_rows::proofs::FailLemmas::fails_later_if))]
 fn desk_is_one<S: Alter>(connection: &mut Connection<S>) -> Result<bool, Error>
     ensures mode { connection.old.in_transaction ≡ false → connection.new.in_transaction ≡ false }
     ensures asks { Asks (Joins (TellsOf desk_tree IsAlone) (TellsOf desk_tree AreNumbered)) (state S.Store connection.old)

@@ -1,10 +1,12 @@
 //! A database that has the six tables.
-ghost use Rattle.std.specs.Prelude.{◌≡◌, ◌↔◌, ◌⊎◌, IfErr, IfOk, IsTrue, OnErr, OnOk, false};
+ghost use Rattle.std.specs.Prelude.{◌≡◌, ◌↔◌, ◌⊎◌, IfErr, IfOk, IsTrue, OnErr, OnOk, Some, false, pos};
 ghost use Rattle.sqlite.specs.Held.{state};
 ghost use Rattle.sqlite.specs.State.{HasCleanDisk, IsUnchanged, Survives};
 ghost use Rattle.store_sql_rows.specs.Creating.{IsAsBefore};
+ghost use Rattle.store_sql_rows.specs.Failing.{FailsFor};
 ghost use Rattle.store_sql_rows.specs.Looking.{Rests};
-ghost use Rattle.store_sql.specs.Opening.{IsFaultOf, IsFirst, IsFound, IsJudged, IsKnown, IsMigrated, IsRaised, IsSettled, IsShaped, IsTaken, as_version, is_sql};
+ghost use Rattle.store_sql_rows.specs.Schema.{desk_schema};
+ghost use Rattle.store_sql.specs.Opening.{IsCaused, IsFaultOf, IsFirst, IsFound, IsJudged, IsKnown, IsMigrated, IsRaised, IsSettled, IsShaped, IsTaken, as_version, is_sql, version_of};
 ghost use Rattle.store_sql.specs.declared.refusal.Refusal.TheVariants.{NotOurs};
 
 use crate::early::dropping;
@@ -35,6 +37,8 @@ fn answers<S: Alter>(connection: &mut Connection<S>) -> Result<(), Error>
     ensures same { HasCleanDisk (state S.Store connection.new)
         → OnOk result (IsUnchanged (state S.Store connection.old) (state S.Store connection.new)) }
     ensures rests { HasCleanDisk (state S.Store connection.new) → Rests (state S.Store connection.old) (state S.Store connection.new) }
+    ensures cause { HasCleanDisk (state S.Store connection.new) → (state S.Store connection.old).now.schema ≡ desk_schema
+        → IfErr result (FailsFor (state S.Store connection.old) (state S.Store connection.new)) }
     ensures survives { Survives (state S.Store connection.old) (state S.Store connection.new) (λ _. ⊥) }
 {
     connection.prepare("")?;
@@ -50,6 +54,8 @@ fn rows_are_own<S: Alter>(connection: &mut Connection<S>) -> Result<bool, Error>
         → IfOk result (λ own. IsJudged own (state S.Store connection.old) (state S.Store connection.new)) }
     ensures kept { HasCleanDisk (state S.Store connection.new) → IsTrue (state S.Store connection.new).is_open
         → IsAsBefore (state S.Store connection.old) (state S.Store connection.new) }
+    ensures cause { HasCleanDisk (state S.Store connection.new)
+        → IfErr result (FailsFor (state S.Store connection.old) (state S.Store connection.new)) }
     ensures survives { Survives (state S.Store connection.old) (state S.Store connection.new) (λ _. ⊥) }
 {
     answers(connection)?;
@@ -78,6 +84,8 @@ fn find_version<S: Alter>(connection: &mut Connection<S>) -> Result<i64, Refusal
         → IfOk result (λ version. IsFound version (state S.Store connection.old) (state S.Store connection.new)) }
     ensures kept { HasCleanDisk (state S.Store connection.new) → IsTrue (state S.Store connection.new).is_open
         → IsAsBefore (state S.Store connection.old) (state S.Store connection.new) }
+    ensures cause { HasCleanDisk (state S.Store connection.new)
+        → IfErr result (IsCaused (state S.Store connection.old) (state S.Store connection.new)) }
     ensures survives { Survives (state S.Store connection.old) (state S.Store connection.new) (λ _. ⊥) }
 {
     if !has_shape(connection) {
@@ -124,6 +132,9 @@ pub fn take<S: Alter>(alloc: Global, connection: &mut Connection<S>) -> Result<(
         (state S.Store connection.old) (state S.Store connection.new)) }
     ensures kept { HasCleanDisk (state S.Store connection.new) → IsTrue (state S.Store connection.new).is_open
         → OnErr result (IsAsBefore (state S.Store connection.old) (state S.Store connection.new)) }
+    ensures cause { HasCleanDisk (state S.Store connection.new)
+        → (version_of (state S.Store connection.old).committed.trees ≡ Some (pos 1) → ⊥)
+        → IfErr result (IsCaused (state S.Store connection.old) (state S.Store connection.new)) }
     ensures survives { Survives (state S.Store connection.old) (state S.Store connection.new)
         (λ trees. IsRaised (state S.Store connection.old).committed.trees trees) }
 {

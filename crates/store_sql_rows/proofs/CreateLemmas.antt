@@ -1,5 +1,5 @@
 -- What the statements that make the tables do.
-use Rattle.std.proofs.Common.{◌≡◌, ◌≢◌, ◌⊎◌, inl, inr, ℕ, pos, List, [], ◌∷◌, ◌++◌, codes, Bool, true, false, cond, IsTrue, None, Ok, Err, Result, OnOk, refl, sym, ap, subst, ◌∙◌, arith}
+use Rattle.std.proofs.Common.{◌≡◌, ◌≢◌, ◌⊎◌, inl, inr, ℕ, pos, List, [], ◌∷◌, ◌++◌, codes, Bool, true, false, cond, IsTrue, None, Ok, Err, Result, IfErr, OnOk, refl, sym, ap, subst, ◌∙◌, arith}
 use Rattle.std.specs.List.{AllByRecursion}
 use Rattle.std.proofs.lemmas.Bool.{cases_Bool, both_ways}
 use Rattle.sqlite_value.specs.declared.value.Value.{Value}
@@ -31,6 +31,7 @@ use Rattle.sqlite.proofs.InsideLemmas.{inside_keeps, keeps_then, unchanged_keeps
 use Rattle.sqlite.proofs.StateLemmas.{survives_then}
 use Rattle.store_sql_rows.specs.Schema.{desk_table, panel_table, command_table, place_table, shown_table, imported_table, schema_0, schema_1, schema_2, schema_3, schema_4, schema_5, desk_schema}
 use Rattle.store_sql_rows.specs.Texts.{create_desk, create_panel, create_command, create_place, create_shown, create_imported}
+use Rattle.store_sql_rows.specs.Failing.{FailsFor}
 use Rattle.store_sql_rows.specs.Making.{MakesTable}
 use Rattle.store_sql_rows.proofs.CreateTexts.{makes_desk, makes_panel, makes_command, makes_place, makes_shown, makes_imported}
 use Rattle.store_sql_rows.specs.Creating.{AreFirst, IsInside, IsStep, MakesTableIn, IsEmptyAs, IsFilled, IsAsBefore, first_desk_row}
@@ -144,14 +145,17 @@ module _ {S : Type 0} (g : Ghosts S) (old new : Held S) where
   pub executed : (sql : List ℕ) (e : Error) (r : Result ℕ Error) (Needs : State → Type 0) (Does : State → State → Type 0)
       → (Needs (state g old) → (IsTrue (state g old).in_transaction → ExecutesInside 0 sql [] (state g old) (state g new) r)
       → OnOk r (Does (state g old) (state g new)))
+      → (Needs (state g old) → (IsTrue (state g old).in_transaction → ExecutesInside 0 sql [] (state g old) (state g new) r)
+      → IfErr r (FailsFor (state g old) (state g new)))
       → ((state g old).in_transaction ≡ false → (r ≡ Err e) × (new ≡ old))
       → (HasCleanDisk (state g new) → IsTrue (state g old).in_transaction → ExecutesInside 0 sql [] (state g old) (state g new) r)
       → Survives (state g old) (state g new) (λ _. ⊥) → IsStep {A = ℕ} Needs Does (state g old) (state g new) r
-  executed sql e r Needs Does makes ended runs survives = record {
+  executed sql e r Needs Does makes fails ended runs survives = record {
     ok = λ clean at. makes at (runs clean);
     inside = λ clean. execution_stays sql (state g old) (state g new) r (runs clean);
     kept = λ clean. execution_keeps sql e r ended (runs clean);
     survives = survives;
+    cause = λ clean at. fails at (runs clean);
   }
 
 pub survives_on : (a b c : State) → Survives a b (λ _. ⊥) → Survives b c (λ _. ⊥) → Survives a c (λ _. ⊥)
@@ -208,12 +212,12 @@ module _ (old new : State) where
 abbrev pub first_row_text : List ℕ
 first_row_text = codes "INSERT INTO desk (id, version, last) VALUES (1, 2, NULL)"
 
-insert_is : command_of (understood desk_schema first_row_text)
+pub insert_is : command_of (understood desk_schema first_row_text)
     ≡ Insert 0 (Values (lit (Int (pos 1)) ∷ lit Null ∷ lit (Int (pos 2)) ∷ lit Null ∷ []) 4)
 unfolding understood everything
 insert_is = refl
 
-insert_plain : IsPlain (understood desk_schema first_row_text)
+pub insert_plain : IsPlain (understood desk_schema first_row_text)
 unfolding understood everything
 insert_plain = (refl, refl)
 
@@ -221,15 +225,15 @@ either : (b : Bool) (x : Value) → cond b x x ≡ x
 either true x = refl
 either false x = refl
 
-cast_null : cast Integer Null ≡ Null
+pub cast_null : cast Integer Null ≡ Null
 unfolding unary
 cast_null = either _ Null
 
-cast_one : cast Integer (Int (pos 1)) ≡ Int (pos 1)
+pub cast_one : cast Integer (Int (pos 1)) ≡ Int (pos 1)
 unfolding unary
 cast_one = either _ (Int (pos 1))
 
-cast_two : cast Integer (Int (pos 2)) ≡ Int (pos 2)
+pub cast_two : cast Integer (Int (pos 2)) ≡ Int (pos 2)
 unfolding unary
 cast_two = either _ (Int (pos 2))
 

@@ -8,7 +8,9 @@ use Rattle.sqlite.specs.Listing.{reads_listing, understood}
 use Rattle.sqlite.proofs.Callers.{command_of}
 use Rattle.sqlite_tied.specs.Compute.{everything}
 use Rattle.store_sql_rows.specs.Schema.{desk_schema, desk_tree}
+use Rattle.store_sql_rows.specs.Failing.{IsSure, IsWhole}
 use Rattle.store_sql_rows.specs.Meanings.{plain_query, selection}
+use Rattle.store_sql_rows.proofs.FailLemmas.{sure_of_one}
 
 abbrev pub set_last_text : List ℕ
 set_last_text = codes "UPDATE desk SET last = ?1"
@@ -55,3 +57,12 @@ find_plain = (refl, refl)
 pub find_unlisted : reads_listing desk_schema find_text ≡ false
 unfolding everything
 find_unlisted = refl
+
+find_whole : IsWhole find_text 0 (understood desk_schema find_text)
+unfolding understood everything
+find_whole = (refl, refl, refl)
+
+pub find_sure : IsSure find_text []
+find_sure =
+    sure_of_one find_text [] (plain_query desk_tree [] (col 1 2 ∷ col 1 3 ∷ [])) (codes "version" ∷ codes "last" ∷ []) find_is find_plain
+    find_unlisted find_whole refl refl desk_tree refl

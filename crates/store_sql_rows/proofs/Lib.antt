@@ -10,6 +10,7 @@ pub mod DeskLemmas
 pub mod DeskTexts
 pub mod DropLemmas
 pub mod ExchangeLemmas
+pub mod FailLemmas
 pub mod FoldLemmas
 pub mod ImportedLemmas
 pub mod ImportedTexts
@@ -48,5 +49,7 @@ pub mod WriteLemmas
 pub mod UnsoundLemmas
 pub mod CreateLemmas
 pub mod CreateTexts
+pub mod CreateFails
+pub mod FirstRowFails
 pub mod Indexes
 pub mod Items

@@ -1,5 +1,5 @@
 -- What stands while the tables are made, and once they are.
-use Rattle.std.specs.Prelude.{◌≡◌, pos, true, [], ◌∷◌, IsTrue, OnOk, Result}
+use Rattle.std.specs.Prelude.{◌≡◌, pos, true, [], ◌∷◌, IsTrue, IfErr, OnOk, Result}
 use Rattle.std.specs.List.{AllByRecursion}
 use Rattle.sqlite_value.specs.declared.value.Value.TheVariants.{Null, Int}
 use Rattle.sqlite_value.specs.Order.{Row}
@@ -8,6 +8,7 @@ use Rattle.sqlite_schema.specs.declared.schema.Schema.{Schema}
 use Rattle.sqlite_catalog.specs.Change.{next_tree, KeepsRows}
 use Rattle.sqlite.specs.declared.error.Error.{Error}
 use Rattle.sqlite.specs.State.{HasCleanDisk, KeepsCommit, State, Shows, Survives}
+use Rattle.store_sql_rows.specs.Failing.{FailsFor}
 use Rattle.store_sql_rows.specs.Schema.{desk_tree, panel_tree, command_tree, place_tree, shown_tree, imported_tree, desk_schema}
 
 -- in a transaction over this schema
@@ -59,9 +60,10 @@ pub record IsAsBefore (old new : State) : Type 0 where
   pub committed : new.committed ≡ old.committed
 
 -- A step of the transaction that makes the tables: what it does where it succeeds, and that the transaction then goes on;
--- and whatever it reported, it commits nothing.
+-- whatever it reported, it commits nothing; and it fails for a cause.
 pub record IsStep {A : Type 0} (Needs : State → Type 0) (Does : State → State → Type 0) (old new : State) (reported : Result A Error) : Type 0 where
   pub ok : HasCleanDisk new → Needs old → OnOk reported (Does old new)
   pub inside : HasCleanDisk new → IsTrue old.in_transaction → OnOk reported (IsTrue new.in_transaction)
   pub kept : HasCleanDisk new → KeepsCommit old new
   pub survives : Survives old new (λ _. ⊥)
+  pub cause : HasCleanDisk new → Needs old → IfErr reported (FailsFor old new)

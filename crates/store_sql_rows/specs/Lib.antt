@@ -1,5 +1,6 @@
 pub mod Broken
 pub mod Cells
+pub mod Failing
 pub mod Looking
 pub mod Meanings
 pub mod Ours

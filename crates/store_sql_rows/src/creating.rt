@@ -1,9 +1,10 @@
 //! How are the desk's tables made? Each statement stands alone, within a transaction.
 
-ghost use Rattle.std.specs.Prelude.{◌≡◌, IsTrue, OnOk, OnErr, false};
+ghost use Rattle.std.specs.Prelude.{◌≡◌, IfErr, IsTrue, OnOk, OnErr, false};
 ghost use Rattle.sqlite.specs.Held.{state};
 ghost use Rattle.sqlite.specs.State.{HasCleanDisk, Survives};
 ghost use Rattle.store_sql_rows.specs.Schema.{schema_0, schema_1, schema_2, schema_3, schema_4, schema_5, desk_schema};
+ghost use Rattle.store_sql_rows.specs.Failing.{FailsFor};
 ghost use Rattle.store_sql_rows.specs.Creating.{IsInside, IsStep, MakesTableIn, IsEmptyAs, IsFilled, IsMade, IsAsBefore, AreFirst};
 
 use sqlite::{Alter, Connection, Error, Transaction};
@@ -96,7 +97,7 @@ fn first_row<S: Alter>(tx: &mut Transaction<'_, S>) -> Result<usize, Error>
 }
 
 /// Makes the tables `desk`, `panel` and `command`.
-#[tactic(auto, using(crate::proofs::CreateLemmas::survives_on, crate::proofs::CreateLemmas::keeps_on, crate::proofs::CreateLemmas::clean_before, crate::proofs::CreateLemmas::empty_desk, crate::proofs::CreateLemmas::empty_panel, crate::proofs::CreateLemmas::empty_command))]
+#[tactic(auto, using(crate::proofs::CreateLemmas::survives_on, crate::proofs::CreateLemmas::keeps_on, crate::proofs::CreateLemmas::clean_before, crate::proofs::FailLemmas::fails_later, crate::proofs::CreateLemmas::empty_desk, crate::proofs::CreateLemmas::empty_panel, crate::proofs::CreateLemmas::empty_command))]
 fn make_first_three<S: Alter>(tx: &mut Transaction<'_, S>) -> Result<(), Error>
     ensures same_reference { tx.new.conn.ghost_name ≡ tx.old.conn.ghost_name }
     ensures steps { IsStep (IsInside schema_0) (λ _. IsEmptyAs schema_3) (state S.Store tx.old.conn.now)
@@ -109,7 +110,7 @@ fn make_first_three<S: Alter>(tx: &mut Transaction<'_, S>) -> Result<(), Error>
 }
 
 /// Makes the tables `place`, `shown` and `imported`.
-#[tactic(auto, using(crate::proofs::CreateLemmas::survives_on, crate::proofs::CreateLemmas::keeps_on, crate::proofs::CreateLemmas::clean_before, crate::proofs::CreateLemmas::empty_place, crate::proofs::CreateLemmas::empty_shown, crate::proofs::CreateLemmas::empty_imported))]
+#[tactic(auto, using(crate::proofs::CreateLemmas::survives_on, crate::proofs::CreateLemmas::keeps_on, crate::proofs::CreateLemmas::clean_before, crate::proofs::FailLemmas::fails_later, crate::proofs::CreateLemmas::empty_place, crate::proofs::CreateLemmas::empty_shown, crate::proofs::CreateLemmas::empty_imported))]
 fn make_last_three<S: Alter>(tx: &mut Transaction<'_, S>) -> Result<(), Error>
     ensures same_reference { tx.new.conn.ghost_name ≡ tx.old.conn.ghost_name }
     ensures steps { IsStep (IsEmptyAs schema_3) (λ _. IsEmptyAs desk_schema) (state S.Store tx.old.conn.now)
@@ -134,7 +135,7 @@ fn ask_nothing<S: Alter>(tx: &mut Transaction<'_, S>) -> Result<(), Error>
 }
 
 /// Makes the six tables, and writes the row of `desk`.
-#[tactic(auto, using(crate::proofs::CreateLemmas::survives_on, crate::proofs::CreateLemmas::keeps_on, crate::proofs::CreateLemmas::clean_before))]
+#[tactic(auto, using(crate::proofs::CreateLemmas::survives_on, crate::proofs::CreateLemmas::keeps_on, crate::proofs::CreateLemmas::clean_before, crate::proofs::FailLemmas::fails_later, crate::proofs::FailLemmas::fails_later_if))]
 fn fill<S: Alter>(tx: &mut Transaction<'_, S>) -> Result<(), Error>
     ensures same_reference { tx.new.conn.ghost_name ≡ tx.old.conn.ghost_name }
     ensures steps { IsStep (IsInside schema_0) (λ _. IsFilled) (state S.Store tx.old.conn.now)
@@ -155,6 +156,8 @@ pub fn make_tables<S: Alter>(conn: &mut Connection<S>) -> Result<(), Error>
         → OnOk result (IsMade (state S.Store conn.old) (state S.Store conn.new)) }
     ensures kept { HasCleanDisk (state S.Store conn.new) → IsTrue (state S.Store conn.new).is_open
         → OnErr result (IsAsBefore (state S.Store conn.old) (state S.Store conn.new)) }
+    ensures cause { HasCleanDisk (state S.Store conn.new) → (state S.Store conn.old).now.schema ≡ schema_0
+        → IfErr result (FailsFor (state S.Store conn.old) (state S.Store conn.new)) }
     ensures survives { Survives (state S.Store conn.old) (state S.Store conn.new) (λ trees. (state S.Store conn.old).now.schema ≡
         schema_0
         → AreFirst trees) }

@@ -1,9 +1,9 @@
 //! A statement that only reads.
-ghost use Rattle.std.specs.Prelude.{◌≡◌, false, IfOk, OnOk};
+ghost use Rattle.std.specs.Prelude.{◌≡◌, false, IfErr, IfOk, OnOk};
 ghost use Rattle.sqlite.specs.Given.{IsPlain};
 ghost use Rattle.sqlite.specs.Held.{state};
 ghost use Rattle.sqlite.specs.Listing.{reads_listing, understood};
-ghost use Rattle.sqlite.specs.State.{HasCleanDisk, IsUnchanged, KeepsCommit, Shown, Survives};
+ghost use Rattle.sqlite.specs.State.{FailsToQuery, HasCleanDisk, IsUnchanged, KeepsCommit, Shown, Survives};
 ghost use Rattle.sqlite.specs.Values.{bound};
 ghost use Rattle.store_sql_rows.specs.Schema.{desk_schema};
 ghost use Rattle.store_sql_rows.specs.Looking.{Leaves, Rests, ShowsInside};
@@ -23,6 +23,8 @@ pub fn look<S: Alter>(
     ensures shown { HasCleanDisk (state S.Store connection.new)
         → IfOk result
         (λ rows. Shown sql.now (bound params.now) (state S.Store connection.old) (state S.Store connection.new) rows.items) }
+    ensures refused { HasCleanDisk (state S.Store connection.new)
+        → IfErr result (FailsToQuery sql.now (bound params.now) (state S.Store connection.old) (state S.Store connection.new)) }
     ensures same { HasCleanDisk (state S.Store connection.new)
         → IsPlain (understood (state S.Store connection.old).now.schema sql.now)
         → OnOk result (IsUnchanged (state S.Store connection.old) (state S.Store connection.new)) }
@@ -46,6 +48,8 @@ pub(crate) fn ask<S: Alter>(
     ensures shown { HasCleanDisk (state S.Store connection.new)
         → IfOk result
         (λ rows. Shown sql.now (bound params.now) (state S.Store connection.old) (state S.Store connection.new) rows.items) }
+    ensures refused { HasCleanDisk (state S.Store connection.new)
+        → IfErr result (FailsToQuery sql.now (bound params.now) (state S.Store connection.old) (state S.Store connection.new)) }
     ensures leaves { Leaves (state S.Store connection.old) (state S.Store connection.new) result }
 {
     look(connection, sql, params)

@@ -1,4 +1,4 @@
-use Rattle.std.proofs.Common.{◌∙◌}
+use Rattle.std.proofs.Common.{◌∙◌, rules}
 use Rattle.sqlite.specs.Held.{state}
 use Rattle.store_sql_rows.specs.Schema.{desk_tree}
 use Rattle.store_sql_rows.proofs.DeskTexts.{find_text}
@@ -11,8 +11,8 @@ use Rattle.store_sql.proofs.tables.desk_is_alone.Goals as goal
 pub returns-in_err-look-clause-asks : goal.returns-in_err-look-clause-asks
 returns-in_err-look-clause-asks g c =
     look_failed (TellsOf desk_tree IsAlone) find_text find_askable (state g.S.Store c.args.connection.now)
-    (state g.S.Store c.look.new.connection) c.from_residual.result c.from_residual.ensures.0
-    c.in_err-look.ensures.rests c.in_err-look.ensures.survives
+    (state g.S.Store c.look.new.connection) c.from_residual.result c.in_err-look.field-0.0 (search rules)
+    c.in_err-look.ensures.refused c.in_err-look.ensures.rests c.in_err-look.ensures.survives
 
 pub returns-clause-asks : goal.returns-clause-asks
 returns-clause-asks g c =
