@@ -87,7 +87,7 @@ class Program:
         (to / ".git").mkdir(parents=True)
         for name in self.below():
             shutil.copytree(ROOT / "crates" / name, to / "crates" / name,
-                            ignore=shutil.ignore_patterns("out", "must-fail", "wrong-bodies.edits"))
+                            ignore=shutil.ignore_patterns("out", "must-fail", "wrong-bodies.edit"))
         (to / "crates.txt").write_text("\n".join(self.lines()) + "\n")
         shutil.copy2(ROOT / "HANDLES", to / "HANDLES")
 

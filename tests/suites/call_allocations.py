@@ -42,7 +42,7 @@ NOT_SERVED = {'503 {"answer":"no_memory"}', "no reply"}
 
 def copy_of_the_crates(to):
     """A copy of what the program of the trials stands on, with the program."""
-    shutil.copytree(ROOT / "crates", to / "crates", ignore=shutil.ignore_patterns("out", "must-fail", "wrong-bodies.edits"))
+    shutil.copytree(ROOT / "crates", to / "crates", ignore=shutil.ignore_patterns("out", "must-fail", "wrong-bodies.edit"))
     shutil.copy2(ROOT / "HANDLES", to / "HANDLES")
     lines = (ROOT / "crates.txt").read_text() + f"{NAME}: {' '.join(LIBRARIES)}\n"
     (to / "crates.txt").write_text(lines)

@@ -47,7 +47,7 @@ def path_without_toolchain(folder):
 
 
 def copy_of_the_repository(to):
-    shutil.copytree(ROOT, to, ignore=shutil.ignore_patterns(".git", "build", "out", "proofs", "must-fail", "wrong-bodies.edits"))
+    shutil.copytree(ROOT, to, ignore=shutil.ignore_patterns(".git", "build", "out", "proofs", "must-fail", "wrong-bodies.edit"))
     return to
 
 
