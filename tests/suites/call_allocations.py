@@ -26,7 +26,7 @@ LIBRARIES = ("building", "dates", "deliveries", "delivery_json", "desk", "desk_r
 # The number of the request that is refused, as the program has it.
 REFUSED = 12_000
 # At most so many requests a call makes, with what is looked at between two; and each of which is refused but in a sweep.
-REQUESTS = {"plan_command": (2, 1), "plan_skip": (2, 1), "segments": (6, 2), "straighten": (100, 20), "run-memory": (300, 30), "run-parked": (600, 60), "request": (200, 5),
+REQUESTS = {"plan_command": (2, 1), "plan_skip": (2, 1), "segments": (6, 2), "straighten": (100, 20), "run-memory": (300, 30), "run-parked": (600, 60), "request": (200, 10),
             "run-database": (6_000, 750), "run-remembered": (5_000, 625), "point-memory": (1, 1), "point-database": (24, 8),
             "point-remembered": (1, 1)}
 # What needs no memory: a point that is remembered is asked for once before.
