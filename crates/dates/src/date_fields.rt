@@ -1,3 +1,4 @@
+//! The fields of a date, read as a pattern names them or as one full day.
 ghost use Rattle.std.specs.Prelude.{◌≡◌};
 ghost use Rattle.dates.specs.DateFields.{one_day};
 

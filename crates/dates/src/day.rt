@@ -1,3 +1,4 @@
+//! The days over which calendars and schedules run.
 ghost use Rattle.std.specs.Prelude.{◌≡◌, ◌↔◌, pos, IsSome, IfSome};
 ghost use Rattle.std.specs.Int.{IsInRange};
 ghost use Rattle.jiff_core.specs.Date.{IsYmd, weekday_of};

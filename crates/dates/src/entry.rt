@@ -1,3 +1,4 @@
+//! The entries of calendars and exceptions, in their three forms.
 ghost use Rattle.std.specs.Prelude.{◌≡◌, ◌↔◌, IfOk, string_bytes};
 
 use crate::{Day, EntryFault, Pattern, Range, WeekNDay, Year, notation};

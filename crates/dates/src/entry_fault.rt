@@ -1,3 +1,4 @@
+//! The faults E1 to E7 of a text that spells no entry.
 use std::error::Error;
 use std::fmt;
 

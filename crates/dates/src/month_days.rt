@@ -1,3 +1,4 @@
+//! The days of a month that a pattern names: one, the last, the odd, the even or any.
 ghost use Rattle.std.specs.Prelude.{◌≡◌, ◌↔◌, IsSome, IfSome};
 ghost use Rattle.std.specs.Int.{IsInRange};
 ghost use Rattle.dates.specs.Masks.{day_mask, days_left_mask};

@@ -1,3 +1,4 @@
+//! The months that a pattern or a week-and-day names: one, the odd, the even or any.
 ghost use Rattle.std.specs.Prelude.{◌≡◌, ◌↔◌, IsSome, IfSome};
 ghost use Rattle.std.specs.Int.{IsInRange};
 ghost use Rattle.dates.specs.Masks.{month_mask};

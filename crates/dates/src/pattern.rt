@@ -1,3 +1,4 @@
+//! Date patterns, which hold on a day field by field.
 ghost use Rattle.std.specs.Prelude.{◌≡◌};
 
 use crate::date_fields::DateFields;

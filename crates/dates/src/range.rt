@@ -1,3 +1,4 @@
+//! Date ranges, which an unspecified end leaves open.
 ghost use Rattle.std.specs.Prelude.{◌≡◌};
 
 use crate::date_fields::DateFields;

@@ -1,3 +1,4 @@
+//! The weeks 1 to 9 of a month, which a week-and-day names.
 ghost use Rattle.std.specs.Prelude.{◌≡◌};
 ghost use Rattle.dates.specs.Masks.{week_mask, weeks_left_mask};
 

@@ -1,3 +1,4 @@
+//! Week-and-days, such as the last Friday of each month.
 ghost use Rattle.std.specs.Prelude.{◌≡◌};
 
 use crate::months::MonthMask;

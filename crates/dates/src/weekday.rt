@@ -1,3 +1,4 @@
+//! Weekdays, as the notation spells them and as masks.
 ghost use Rattle.std.specs.Prelude.{◌≡◌};
 ghost use Rattle.dates.specs.Masks.{weekday_mask};
 ghost use Rattle.dates.specs.Weekday.{in_weekdays, weekday_at, weekdays_at, weekday_text};

@@ -1,3 +1,4 @@
+//! The years that a date names: one from 1900 to 2154, or any.
 ghost use Rattle.std.specs.Prelude.{◌≡◌, ℕ, ◌↔◌, IsSome, IfSome};
 ghost use Rattle.std.specs.Int.{IsInRange};
 

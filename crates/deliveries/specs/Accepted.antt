@@ -1,3 +1,4 @@
+-- What each panel gets accepted of a list of deliveries: commands and skips, none with a number out of range.
 use Rattle.std.specs.Prelude.{ℕ, ◌+◌, ◌&&◌, nat_le, if◌then◌else◌, List, [], ◌∷◌, Option, Some, None, is_some, ℤ, pos, negsuc, find}
 use Rattle.std.specs.List.{flat_map}
 use Rattle.std.specs.Str.{bytes_eq}

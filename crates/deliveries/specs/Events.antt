@@ -1,3 +1,4 @@
+-- What deliveries make happen, in order: a parked command waits for the front, an old tick counts for nothing.
 use Rattle.std.specs.Prelude.{ℤ, Bool, true, ◌&&◌, nat_lt, if◌then◌else◌, List, [], ◌∷◌, ◌++◌, fold, length, map, Option, Some, None, is_some, int_lt}
 use Rattle.std.specs.List.{list_all}
 use Rattle.local_times.specs.LocalTimes.{local_at}

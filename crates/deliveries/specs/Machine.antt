@@ -1,3 +1,4 @@
+-- What commands, ticks and imports do: a command writes a priority array, a tick or import settles schedules.
 use Rattle.std.specs.Prelude.{ℕ, ◌==◌, Bool, ◌&&◌, ◌||◌, if◌then◌else◌, List, [], ◌∷◌, ◌++◌, length, slice_get, Option, Some, None, option_and_then, ℤ, pos, negsuc}
 use Rattle.std.specs.FinMap.{empty}
 use Rattle.std.specs.List.{list_any}

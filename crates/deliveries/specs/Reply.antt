@@ -1,3 +1,4 @@
+-- The reply to each command, skip, tick and import, from the building and the earlier deliveries.
 use Rattle.std.specs.Prelude.{ℕ, ◌+◌, ◌-◌, not, if◌then◌else◌, List, [], ◌∷◌, ◌++◌, length, position, Option, Some, None, option_map, ℤ, pos}
 use Rattle.std.specs.Option.{option_map_or}
 use Rattle.points.specs.declared.answer.Answer.{Answer}

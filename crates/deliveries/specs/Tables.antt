@@ -1,3 +1,4 @@
+-- A building and its list of deliveries fix what each of the six tables holds.
 use Rattle.std.specs.Prelude.{ℕ, nat_lt, if◌then◌else◌, List, Option, option_map}
 use Rattle.std.specs.List.{list_any}
 use Rattle.std.specs.Str.{bytes_eq}

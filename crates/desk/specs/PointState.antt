@@ -1,3 +1,4 @@
+-- A point's state: its priority array, and the present value that this or the relinquish default gives.
 use Rattle.std.specs.Prelude.{Option, Some, None}
 use Rattle.points.specs.declared.point.Point.{Point}
 use Rattle.points.specs.PriorityArray.{Places, present_of}

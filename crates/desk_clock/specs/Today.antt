@@ -1,3 +1,4 @@
+-- While the store is open, the calendars of the kept day go on agreeing with the imported entries.
 use Rattle.std.specs.Prelude.{◌≡◌, false}
 use Rattle.building.specs.Building.{Building}
 use Rattle.desk_settling.specs.declared.kept.Kept.{Kept}

@@ -1,3 +1,4 @@
+-- What makes a plan right for a command or a skip that a panel delivers.
 use Rattle.std.specs.Prelude.{◌≡◌, ℕ, List, ℤ}
 use Rattle.points.specs.Texts.{Text}
 use Rattle.window.specs.declared.plan.Plan.{Plan}

@@ -1,3 +1,4 @@
+-- When the view of a panel agrees with the rows that stand in the tables.
 use Rattle.std.specs.Prelude.{◌≡◌, ℕ, Option}
 use Rattle.points.specs.declared.command_row.CommandRow.{CommandRow}
 use Rattle.points.specs.Run.{Rows}

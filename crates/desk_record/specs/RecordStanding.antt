@@ -1,3 +1,4 @@
+-- A record of lines on disk: what a line put, a line taken back, a failure and a stop each leave.
 use Rattle.std.specs.Prelude.{◌≡◌, ◌⊎◌, ℕ, Bool, false, List, ◌++◌}
 use Rattle.std.specs.Bool.{IsTrue}
 use Rattle.desk_record.specs.Lines.{IsBetween}

@@ -1,3 +1,4 @@
+-- The message for each reason why a press sends no command.
 use Rattle.std.specs.Prelude.{ℕ, List, codes}
 use Rattle.panel.specs.declared.press_fault.PressFault.{PressFault}
 use Rattle.panel.specs.declared.press_fault.PressFault.TheVariants.{Full, NoNumberLeft, NoMemory}

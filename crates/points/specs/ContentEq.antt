@@ -1,3 +1,4 @@
+-- Equality of command contents: the same point, priority, and value or NULL.
 use Rattle.std.specs.Prelude.{Bool, ◌&&◌}
 use Rattle.std.specs.Option.{option_eq}
 use Rattle.std.specs.Ordering.{int_eq}

@@ -1,3 +1,4 @@
+-- The values of each kind of point: binary 0 and 1, multistate 1 to its states, analog low to high.
 use Rattle.std.specs.Prelude.{Bool, ◌&&◌, ℤ, pos, int_le}
 use Rattle.points.specs.declared.kind.Kind.{Kind}
 use Rattle.points.specs.declared.kind.Kind.TheVariants.{Binary, Multistate, Analog}

@@ -1,3 +1,4 @@
+-- The message for each fault of a name: empty, too long, or with another character.
 use Rattle.std.specs.Prelude.{ℕ, List, codes}
 use Rattle.points.specs.declared.name.NameFault.{NameFault}
 use Rattle.points.specs.declared.name.NameFault.TheVariants.{Empty, TooLong, OtherCharacter}

@@ -1,3 +1,4 @@
+-- A priority array listed place by place: NULL places drop out, the others keep their numbers.
 use Rattle.std.specs.Prelude.{ℕ, ◌+◌, List, [], ◌∷◌, Option, Some, None}
 
 -- the values of a row of places, each with its number, counted from n

@@ -1,3 +1,4 @@
+-- A point's priority array of sixteen places, and how it or the relinquish default gives the present value.
 use Rattle.std.specs.Prelude.{◌≡◌, ℕ, ◌<◌, List, [], ◌∷◌, Option, Some, None, ℤ}
 use Rattle.std.specs.Ordering.{nat_cmp}
 use Rattle.std.specs.FinMap.{FinMap, entries, get, insert, remove}

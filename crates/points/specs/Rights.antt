@@ -1,3 +1,4 @@
+-- What a panel may write: six rules, of which the first that a command breaks refuses it.
 use Rattle.std.specs.Prelude.{ℕ, Bool, false, not, ◌||◌, List, [], ◌∷◌, Option, Some, None, ℤ, pos, int_lt, find, is_some}
 use Rattle.std.specs.Option.{option_map_or}
 use Rattle.std.specs.Ordering.{int_eq}

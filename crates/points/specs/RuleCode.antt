@@ -1,3 +1,4 @@
+-- The codes X1 to X6 of the rules that refuse a command.
 use Rattle.std.specs.Prelude.{ℕ, List, codes}
 use Rattle.points.specs.declared.rule.Rule.{Rule}
 use Rattle.points.specs.declared.rule.Rule.TheVariants.{NoSuchPoint, NotGranted, NoSuchPriority, ReservedPriority, PriorityNotGranted, OutsideKind}

@@ -1,3 +1,4 @@
+-- The rows of a panel's commands by number, and the runs of them that end at a gap.
 use Rattle.std.specs.Prelude.{◌≡◌, ℕ, zero, suc, ◌+◌, ◌-◌, ◌<◌, ◌≤◌, List, [], ◌∷◌, Option, Some, None, IsSome}
 use Rattle.points.specs.declared.command_row.CommandRow.{CommandRow}
 use Rattle.points.specs.declared.numbered_row.NumberedRow.{NumberedRow}

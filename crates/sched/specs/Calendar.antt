@@ -1,3 +1,4 @@
+-- Which days belong to a calendar: each day on which one of its entries holds.
 use Rattle.std.specs.Prelude.{Bool, List, map}
 use Rattle.std.specs.List.{list_any}
 use Rattle.jiff_core.specs.declared.civil.date.Date.{Date}

@@ -1,3 +1,4 @@
+-- How one element of a list wins: of those that pass, it is the one that beats every other.
 use Rattle.std.specs.Prelude.{Bool, not, ◌&&◌, ◌||◌, if◌then◌else◌, List, [], ◌∷◌, ◌++◌, Option, Some, None}
 use Rattle.std.specs.List.{list_all}
 

@@ -1,3 +1,4 @@
+-- The value of a weekly list or an exception's list at a time: the latest entry so far gives it.
 use Rattle.std.specs.Prelude.{ℕ, Bool, nat_le, List, map, Option, ℤ, option_and_then}
 use Rattle.sched.specs.declared.day_list.TimeValue.{TimeValue}
 use Rattle.sched.specs.Chosen.{chosen}

@@ -1,3 +1,4 @@
+-- Which exception gives a schedule its value: one whose period has the day, by EventPriority, then by place.
 use Rattle.std.specs.Prelude.{ℕ, Bool, false, ◌&&◌, nat_lt, if◌then◌else◌, List, Option, Some, None, ℤ, is_some, option_and_then, slice_get}
 use Rattle.std.specs.Option.{option_map_or}
 use Rattle.jiff_core.specs.declared.civil.date.Date.{Date}

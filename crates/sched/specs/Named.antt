@@ -1,3 +1,4 @@
+-- The times of a day at which a schedule's value can change.
 use Rattle.std.specs.Prelude.{ℕ, if◌then◌else◌, List, [], ◌∷◌, ◌++◌}
 use Rattle.std.specs.List.{flat_map}
 use Rattle.jiff_core.specs.declared.civil.date.Date.{Date}

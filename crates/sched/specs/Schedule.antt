@@ -1,3 +1,4 @@
+-- The effective period of a schedule, and how exceptions, weekly list and schedule default rank for its value.
 use Rattle.std.specs.Prelude.{ℕ, Bool, List, [], Option, Some, None, ℤ, slice_index_or}
 use Rattle.jiff_core.specs.Date.{weekday_of}
 use Rattle.jiff_core.specs.declared.civil.date.Date.{Date}

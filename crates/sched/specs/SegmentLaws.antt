@@ -1,3 +1,4 @@
+-- The laws that tie the segments of a day to its value at each time.
 use Rattle.std.specs.Prelude.{◌≡◌, ℕ, ◌<◌, ◌≤◌, ◌&&◌, nat_lt, nat_le, false, filter, Option, Some, ℤ}
 use Rattle.std.specs.List.{list_any}
 use Rattle.sched.specs.Segments.{segments_of, last_value}

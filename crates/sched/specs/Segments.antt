@@ -1,3 +1,4 @@
+-- A day cut into segments: each begins where the value changes, and carries the new value.
 use Rattle.std.specs.Prelude.{ℕ, zero, suc, ◌-◌, ℤ, Bool, true, not, if◌then◌else◌, List, [], ◌∷◌, ◌++◌, length}
 use Rattle.std.specs.Prelude.{Option, Some, option_map, slice_get}
 use Rattle.std.specs.Option.{option_eq}

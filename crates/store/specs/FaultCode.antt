@@ -1,3 +1,4 @@
+-- The codes S1 to S5 of the faults of a store and of its opening.
 use Rattle.std.specs.Prelude.{ℕ, List, codes}
 use Rattle.store.specs.declared.fault.StoreFault.{StoreFault}
 use Rattle.store.specs.declared.fault.StoreFault.TheVariants as store

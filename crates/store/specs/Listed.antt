@@ -1,3 +1,4 @@
+-- What a store lists: its panels, points, schedules and calendars, and the imported entries of a calendar.
 use Rattle.std.specs.Prelude.{◌≡◌, ℕ, ◌↔◌, ◌⊎◌, List, map, IsSome}
 use Rattle.std.specs.Bool.{IsTrue}
 use Rattle.std.specs.Cmp.Lexicographic.{slice_cmp}

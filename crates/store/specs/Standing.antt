@@ -1,3 +1,4 @@
+-- How a store fares: what reads, commits, failures and stops do to its content.
 use Rattle.std.specs.Prelude.{◌≡◌, ℕ, ◌-◌, ◌^◌, ◌<◌, ◌↔◌, ◌⊎◌, Bool, false, true, Option, Some, None}
 use Rattle.std.specs.Bool.{IsTrue}
 use Rattle.store.specs.declared.change.Change.{Change}

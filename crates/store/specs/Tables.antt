@@ -1,3 +1,4 @@
+-- The tables of a store: places, next numbers, command rows, shown values, imported entries, last tick.
 use Rattle.std.specs.Prelude.{ℕ, Bool, false, None, Option, ℤ}
 use Rattle.std.specs.FinMap.{empty}
 use Rattle.points.specs.PriorityArray.{Places}

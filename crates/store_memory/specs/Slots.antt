@@ -1,3 +1,4 @@
+-- Keyed slots of the store in memory: which keys stand, and the imported entry under each text.
 use Rattle.std.specs.Prelude.{Bool, List, [], ◌∷◌, cond, Option, Some, None, IfSome, is_some, ◌≡◌, string_bytes}
 use Rattle.std.specs.BTreeMap.{BTreeMap, get_by_text, keys}
 use Rattle.std.specs.Bool.{IsTrue}

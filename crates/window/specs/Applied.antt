@@ -1,3 +1,4 @@
+-- Which commands act, parked ones included, once a command or a skip has moved the front.
 use Rattle.std.specs.Prelude.{ℕ, zero, suc, ◌+◌, ◌-◌, List, [], ◌∷◌, Option, Some, None}
 use Rattle.points.specs.declared.content.Content.{Content}
 use Rattle.window.specs.declared.numbered_content.NumberedContent.{NumberedContent}

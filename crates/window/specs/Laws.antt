@@ -1,3 +1,4 @@
+-- The laws of the window: where its front lies, what bounds it, and what a skip does to parked commands.
 use Rattle.std.specs.Prelude.{◌≡◌, ℕ, ◌+◌, ◌<◌, ◌≤◌, Bool, true, false, not, ◌&&◌, nat_lt, List, length}
 use Rattle.points.specs.declared.content.Content.{Content}
 use Rattle.window.specs.declared.panel_view.PanelView.{PanelView}

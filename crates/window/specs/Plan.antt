@@ -1,3 +1,4 @@
+-- When a command is parked, and when a plan for a command or a skip is right.
 use Rattle.std.specs.Prelude.{◌≡◌, ◌&&◌, nat_lt, if◌then◌else◌, Option, Some, None}
 use Rattle.points.specs.declared.command_row.CommandRow.{CommandRow}
 use Rattle.window.specs.declared.numbered_content.NumberedContent.{NumberedContent}

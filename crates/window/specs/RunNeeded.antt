@@ -1,3 +1,4 @@
+-- Which run of parked commands the plan for a command or a skip has to read.
 use Rattle.std.specs.Prelude.{ℕ, ◌+◌, ◌&&◌, nat_lt, nat_le, ◌==◌, if◌then◌else◌, Option, Some, None}
 use Rattle.window.specs.declared.run_needed.RunNeeded.{RunNeeded}
 use Rattle.window.specs.Window.{window}

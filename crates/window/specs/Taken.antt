@@ -1,3 +1,4 @@
+-- The rule of acceptance: which commands and skips the window takes, and the front that they move.
 use Rattle.std.specs.Prelude.{ℕ, zero, suc, ◌+◌, Bool, not, ◌&&◌, nat_lt, nat_le, ◌==◌, if◌then◌else◌, max, List, [], ◌∷◌, length, Option, Some, None}
 use Rattle.std.specs.Prelude.{is_some}
 use Rattle.points.specs.declared.content.Content.{Content}

@@ -1,3 +1,4 @@
+-- The verdict on a command (applies, parked, repeat, differs, skipped, too far, forgotten) or on a skip.
 use Rattle.std.specs.Prelude.{ℕ, ◌+◌, ◌-◌, nat_lt, ◌==◌, if◌then◌else◌, Option, Some, None}
 use Rattle.points.specs.declared.content.Content.{Content}
 use Rattle.points.specs.declared.command_row.CommandRow.{CommandRow}

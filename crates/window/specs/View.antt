@@ -1,3 +1,4 @@
+-- What a panel's rows still keep, and the part of them that a command or a skip has to see.
 use Rattle.std.specs.Prelude.{◌≡◌, ℕ, ◌-◌, nat_lt, if◌then◌else◌, List, [], Option, Some, None, option_map}
 use Rattle.points.specs.declared.content.Content.{Content}
 use Rattle.points.specs.declared.command_row.CommandRow.{CommandRow}

@@ -1,3 +1,4 @@
+-- The window ahead of a panel's front and the memory behind it, as counts of numbers.
 use Rattle.std.specs.Prelude.{ℕ}
 use Rattle.window.specs.declared.TheConstants.{WINDOW, REMEMBERED}
 
