@@ -7,7 +7,7 @@ use Rattle.std.proofs.lemmas.Bool.Decides.{Decides-eqb}
 use Rattle.std.proofs.lemmas.List.{take_more}
 use Rattle.std.proofs.lemmas.List.Folds.{list_any-append}
 use Rattle.std.proofs.lemmas.Slice.Eq.{bytes_eq-Decides}
-use Rattle.desk_adopt.specs.Items.{or_else}
+use Rattle.store_copy.specs.Named.{or_else}
 use Rattle.desk_adopt.specs.Renamed.{at_items}
 use Rattle.desk_adopt.specs.Adopted.{no_next}
 use Rattle.store.specs.Change.{with_each, with_next}

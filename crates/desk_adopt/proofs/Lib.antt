@@ -1,6 +1,5 @@
 pub mod ItemLemmas
 pub mod PlaceLemmas
-pub mod RowLemmas
 pub mod SuitLemmas
 mod RenamingLemmas
 pub mod PlaceFindings

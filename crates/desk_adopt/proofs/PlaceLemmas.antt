@@ -12,7 +12,7 @@ use Rattle.store.specs.declared.change.PlaceValue.{PlaceValue}
 use Rattle.store.specs.Change.{with_each, with_place}
 use Rattle.points.specs.Texts.{Text}
 use Rattle.desk_adopt.specs.Adopted.{no_places}
-use Rattle.desk_adopt.specs.Items.{or_else}
+use Rattle.store_copy.specs.Named.{or_else}
 use Rattle.desk_adopt.specs.Renamed.{at_name}
 use Rattle.desk_adopt.proofs.ItemLemmas.{with_each-append}
 

@@ -4,7 +4,6 @@ use Rattle.std.specs.FinMap.{empty, get}
 use Rattle.std.specs.Option.{option_map_or}
 use Rattle.building.specs.Building.{Building}
 use Rattle.building.specs.declared.named_calendar.NamedCalendar.{NamedCalendar}
-use Rattle.points.specs.declared.numbered_row.TheConstants.{LAST_NUMBER}
 use Rattle.points.specs.declared.panel.Panel.{Panel}
 use Rattle.points.specs.declared.point.Point.{Point}
 use Rattle.points.specs.Kind.{lies_in}
@@ -12,6 +11,7 @@ use Rattle.points.specs.PriorityArray.{Places}
 use Rattle.points.specs.Rights.{point_named}
 use Rattle.points.specs.Run.{Rows}
 use Rattle.store.specs.Tables.{Tables}
+use Rattle.store_copy.specs.Remembered.{remembered_row}
 use Rattle.points.specs.Texts.{Text}
 use Rattle.desk_adopt.specs.Findings.{is_written}
 use Rattle.desk_adopt.specs.declared.renaming.Renaming.{Renaming}
@@ -32,13 +32,6 @@ kept_value building point priority None = None
 kept_value building point priority (Some value) = if suits building point priority value then Some value else None
 
 -- ---- the rows of panels
-
--- a number that a panel with this next number may still use or repeat: of the 1,000 below it, or of its window of 64
-abbrev pub is_remembered : ℕ → ℕ → Bool
-is_remembered next number = nat_le (next - 1000) number && (nat_lt number (next + 64) && nat_lt number (LAST_NUMBER + 1))
-
-abbrev pub remembered_row : ℕ → Rows → Rows
-remembered_row next rows number = if is_remembered next number then rows number else None
 
 -- of a panel of which nothing is kept
 abbrev pub no_next : Text → ℕ

@@ -1,6 +1,5 @@
 pub mod Adopted
 pub mod Faults
-pub mod Items
 pub mod NoteLine
 pub mod Notes
 pub mod Renamed

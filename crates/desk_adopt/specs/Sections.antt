@@ -14,7 +14,7 @@ use Rattle.store.specs.Tables.{Tables}
 use Rattle.desk_adopt.specs.declared.renaming.Renaming.{Renaming}
 use Rattle.desk_adopt.specs.declared.sections.Section.{Section}
 use Rattle.desk_adopt.specs.declared.sections.Sections.{Sections}
-use Rattle.desk_adopt.specs.Items.{or_else}
+use Rattle.store_copy.specs.Named.{or_else}
 
 abbrev pub panel_names : Building → List Text
 panel_names building = map (λ (panel : Panel). panel.name) building.panels

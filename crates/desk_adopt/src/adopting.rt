@@ -1,11 +1,10 @@
 //! The tables of an earlier building are taken along into those of this one.
-ghost use Rattle.std.specs.Prelude.{◌≡◌, ◌↔◌, true, None, IfOk, IfErr, OnOk, IsTrue};
+ghost use Rattle.std.specs.Prelude.{◌≡◌, true, None, IfOk, IfErr, OnOk};
 ghost use Rattle.std.specs.List.{All};
 ghost use Rattle.std.specs.Result.{result_err};
 ghost use Rattle.desk_adopt.specs.Adopted.{AreMoved, IsAdopted};
 ghost use Rattle.desk_adopt.specs.Faults.{read_fault, IsCause, IsLeft, IsMade};
-ghost use Rattle.points.specs.declared.command_row.CommandState.{CommandState as a_state};
-ghost use Rattle.store.specs.Change.{CanStand, IsKeptRow, IsNext, IsPlace, IsState, with_change};
+ghost use Rattle.store.specs.Change.{IsPlace, with_change};
 ghost use Rattle.store.specs.Standing.{Reads, sound};
 ghost use Rattle.store.specs.Tables.{no_tables};
 
@@ -15,10 +14,9 @@ use crate::places::adopted_places;
 use crate::renaming::Renaming;
 use crate::sections::{Sections, sections_of};
 use building::Building;
-use points::{Answer, CommandState, LOWEST_PRIORITY};
 use std::alloc::Global;
-use store::{Change, KeptRow, NextNumber, Store, StoreFault};
-use window::LAST_NUMBER;
+use store::{Change, Store, StoreFault};
+use store_copy::can_stand;
 
 /// Why nothing was taken along.
 #[derive(Clone, Copy, Debug)]
@@ -61,34 +59,6 @@ fn read_change<S: Store>(
         imported,
         last_tick,
     })
-}
-
-fn is_next(item: &NextNumber) -> bool
-    ensures { IsTrue result ↔ IsNext item.now }
-{
-    1 <= item.next && item.next <= LAST_NUMBER + 1
-}
-
-fn is_state(state: &CommandState) -> bool
-    ensures { IsTrue result ↔ IsState state.now }
-{
-    match state {
-        CommandState::Answered(Answer::Done { priority, .. }) => *priority <= LOWEST_PRIORITY,
-        _ => true,
-    }
-}
-
-fn is_kept_row(item: &KeptRow) -> bool
-    ensures { IsTrue result ↔ IsKeptRow item.now }
-{
-    1 <= item.number && item.number <= LAST_NUMBER && is_state(&item.row.state)
-}
-
-/// Whether the next numbers and rows of a change lie in their ranges.
-fn can_stand(change: &Change) -> bool
-    ensures { IsTrue result ↔ (All IsNext change.now.nexts.items × All IsKeptRow change.now.rows.items) }
-{
-    change.nexts.iter().all(is_next) && change.rows.iter().all(is_kept_row)
 }
 
 /// Takes along what a building has in the tables of an earlier one, with the names that changed since: the second store

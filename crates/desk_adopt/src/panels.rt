@@ -1,20 +1,21 @@
 //! The next numbers and the rows of panels.
-ghost use Rattle.std.specs.Prelude.{◌≡◌, ℕ, ◌≤◌, ◌<◌, ◌==◌, ◌&&◌, ◌++◌, not, if◌then◌else◌, filter, map, true, None, IfOk, OnOk};
+ghost use Rattle.std.specs.Prelude.{◌≡◌, ℕ, ◌==◌, ◌&&◌, not, if◌then◌else◌, None, IfOk, OnOk};
 ghost use Rattle.std.specs.Result.{result_err};
 ghost use Rattle.std.specs.Str.{bytes_eq};
-ghost use Rattle.desk_adopt.specs.Adopted.{is_remembered, no_next, no_rows, remembered_row};
+ghost use Rattle.desk_adopt.specs.Adopted.{no_next, no_rows};
 ghost use Rattle.desk_adopt.specs.Renamed.{at_items, former};
-ghost use Rattle.desk_adopt.specs.Items.{or_else, row_for};
 ghost use Rattle.points.specs.declared.panel.Panel.{Panel as a_panel};
 ghost use Rattle.store.specs.Change.{with_each, with_next, with_row};
 ghost use Rattle.store.specs.Standing.{IsOpen, Reads};
 ghost use Rattle.points.specs.Texts.{Text};
+ghost use Rattle.store_copy.specs.Named.{or_else};
+ghost use Rattle.store_copy.specs.Remembered.{remembered_row};
 
 use crate::renaming::{Renaming, former_name};
-use points::{Name, NumberedRow, Panel};
+use points::{Name, Panel};
 use std::alloc::{AllocError, Global};
 use store::{KeptRow, NextNumber, Store, StoreFault};
-use window::{LAST_NUMBER, REMEMBERED, WINDOW};
+use store_copy::put_rows;
 
 /// The next number that a panel of the building has in the tables: 1 where nothing is kept of it.
 fn former_next<S: Store>(
@@ -67,74 +68,6 @@ pub fn adopted_nexts<S: Store>(
     Ok(nexts)
 }
 
-/// Whether a panel with this next number may still repeat or use a number.
-fn is_remembered(next: u64, number: u64) -> bool
-    ensures { result ≡ is_remembered next number }
-{
-    next.saturating_sub(REMEMBERED) <= number
-        && number < next.saturating_add(WINDOW)
-        && number <= LAST_NUMBER
-}
-
-/// The first number that a panel with this next number may still repeat.
-fn first_remembered(next: u64) -> u64
-    ensures { (number : ℕ) → is_remembered next number ≡ true → result ≤ number }
-{
-    next.saturating_sub(REMEMBERED)
-}
-
-/// The number after those that a panel with this next number may use.
-fn past_remembered(next: u64) -> u64
-    ensures { (number : ℕ) → is_remembered next number ≡ true → number < result }
-{
-    next.saturating_add(WINDOW).min(LAST_NUMBER + 1)
-}
-
-/// Puts a panel's rows last, of those that are remembered.
-fn keep_rows(
-    rows: &mut Vec<KeptRow>,
-    panel: &Name,
-    next: u64,
-    run: &[NumberedRow],
-) -> Result<(), AllocError>
-    ensures { OnOk result (rows.new.items
-        ≡ rows.old.items ++ map (row_for panel.now) (filter (λ it. is_remembered next it.number) run.now)) }
-{
-    for numbered in run {
-        if is_remembered(next, numbered.number) {
-            rows.push(KeptRow {
-                panel: *panel,
-                number: numbered.number,
-                row: numbered.row,
-            })?;
-        }
-    }
-    Ok(())
-}
-
-/// Puts the rows last that a panel of the building has in the tables under another name or its own.
-fn adopt_rows<S: Store>(
-    store: &mut S,
-    rows: &mut Vec<KeptRow>,
-    panel: &Name,
-    former: &Name,
-) -> Result<(), StoreFault>
-    requires open { IsOpen (S.standing store.old) }
-    ensures reads { Reads (result_err result) (S.standing store.old) (S.standing store.new) }
-    ensures kept { (S.standing store.new).is_honest → OnOk result ((q : Text) (n : ℕ) → with_each with_row rows.new.items (λ _. no_rows) q n
-        ≡ (if bytes_eq panel.now q
-        then or_else (remembered_row ((S.standing store.old).content.tables.next former.now) ((S.standing store.old).content.tables.row former.now) n)
-        (with_each with_row rows.old.items (λ _. no_rows) q n)
-        else with_each with_row rows.old.items (λ _. no_rows) q n)) }
-{
-    let next = store.panel_next(former)?;
-    let upto = past_remembered(next);
-    let from = first_remembered(next).min(upto);
-    let run = store.commands_run(former, from, upto)?;
-    keep_rows(rows, panel, next, run.as_slice())?;
-    Ok(())
-}
-
 /// Puts the rows last that a panel of the building has in the tables, if any.
 fn adopt_panel<S: Store>(
     store: &mut S,
@@ -152,7 +85,7 @@ fn adopt_panel<S: Store>(
         else with_each with_row rows.old.items (λ _. no_rows) q n)) }
 {
     match former_name(renamings, panel) {
-        Some(former) => adopt_rows(store, rows, panel, &former),
+        Some(former) => put_rows(store, rows, panel, &former),
         None => Ok(()),
     }
 }

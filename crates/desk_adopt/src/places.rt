@@ -4,7 +4,7 @@ ghost use Rattle.std.specs.FinMap.{empty, get};
 ghost use Rattle.std.specs.Result.{result_err};
 ghost use Rattle.std.specs.Str.{bytes_eq};
 ghost use Rattle.desk_adopt.specs.Adopted.{kept_value, no_places, suits};
-ghost use Rattle.desk_adopt.specs.Items.{or_else};
+ghost use Rattle.store_copy.specs.Named.{or_else};
 ghost use Rattle.desk_adopt.specs.Renamed.{at_items, former};
 ghost use Rattle.points.specs.declared.point.Point.{Point as a_point};
 ghost use Rattle.store.specs.Change.{IsPlace, with_each, with_place};

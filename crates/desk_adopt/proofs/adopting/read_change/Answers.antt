@@ -1,7 +1,8 @@
 use Rattle.std.proofs.Common.{◌≡◌, ◌∙◌, List, Option, Some, None, false, ap, subst, refl}
 use Rattle.std.specs.FinMap.{empty, get}
 use Rattle.std.specs.Prelude.{ℤ}
-use Rattle.desk_adopt.specs.Adopted.{kept_value, no_entries, no_next, no_places, no_rows, remembered_row}
+use Rattle.desk_adopt.specs.Adopted.{kept_value, no_entries, no_next, no_places, no_rows}
+use Rattle.store_copy.specs.Remembered.{remembered_row}
 use Rattle.desk_adopt.specs.Renamed.{at_items, former}
 use Rattle.building.specs.declared.named_calendar.NamedCalendar.{NamedCalendar}
 use Rattle.points.specs.declared.panel.Panel.{Panel}

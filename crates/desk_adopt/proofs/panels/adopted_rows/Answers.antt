@@ -1,7 +1,8 @@
 use Rattle.std.proofs.Common.{◌∙◌, ℕ, ◌<◌, cond, None, ap, arith, length}
 use Rattle.std.specs.Str.{bytes_eq}
-use Rattle.desk_adopt.specs.Adopted.{no_rows, remembered_row}
-use Rattle.desk_adopt.specs.Items.{or_else}
+use Rattle.desk_adopt.specs.Adopted.{no_rows}
+use Rattle.store_copy.specs.Remembered.{remembered_row}
+use Rattle.store_copy.specs.Named.{or_else}
 use Rattle.desk_adopt.specs.Renamed.{former}
 use Rattle.points.specs.declared.panel.Panel.{Panel}
 use Rattle.store.specs.Change.{with_each, with_row}

@@ -1,5 +1,6 @@
 use Rattle.std.proofs.Common.{◌≡◌, ℕ, None, take}
-use Rattle.desk_adopt.specs.Adopted.{no_rows, remembered_row}
+use Rattle.desk_adopt.specs.Adopted.{no_rows}
+use Rattle.store_copy.specs.Remembered.{remembered_row}
 use Rattle.desk_adopt.specs.Renamed.{at_items, former}
 use Rattle.points.specs.declared.panel.Panel.{Panel}
 use Rattle.store.specs.Change.{with_each, with_row}

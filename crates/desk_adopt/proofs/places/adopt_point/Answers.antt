@@ -3,7 +3,7 @@ use Rattle.std.specs.FinMap.{get}
 use Rattle.std.specs.Prelude.{ℤ}
 use Rattle.std.specs.Str.{bytes_eq}
 use Rattle.desk_adopt.specs.Adopted.{kept_value, no_places}
-use Rattle.desk_adopt.specs.Items.{or_else}
+use Rattle.store_copy.specs.Named.{or_else}
 use Rattle.desk_adopt.proofs.PlaceLemmas.{no-former}
 use Rattle.store.specs.Change.{with_each, with_place}
 use Rattle.desk_adopt.proofs.places.adopt_point.Goals as goal

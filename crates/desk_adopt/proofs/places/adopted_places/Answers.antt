@@ -5,7 +5,7 @@ use Rattle.std.specs.Ordering.{nat_cmp}
 use Rattle.std.proofs.lemmas.List.Elements.{All-nil}
 use Rattle.std.specs.Str.{bytes_eq}
 use Rattle.desk_adopt.specs.Adopted.{kept_value, no_places}
-use Rattle.desk_adopt.specs.Items.{or_else}
+use Rattle.store_copy.specs.Named.{or_else}
 use Rattle.desk_adopt.specs.Renamed.{former}
 use Rattle.points.specs.declared.point.Point.{Point}
 use Rattle.store.specs.Change.{IsPlace, with_each, with_place}

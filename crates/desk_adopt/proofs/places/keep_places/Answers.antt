@@ -5,7 +5,7 @@ use Rattle.std.specs.Prelude.{ℤ}
 use Rattle.std.proofs.lemmas.Bool.{cases_order}
 use Rattle.std.proofs.lemmas.List.Elements.{All-push}
 use Rattle.desk_adopt.specs.Adopted.{kept_value, no_places}
-use Rattle.desk_adopt.specs.Items.{or_else}
+use Rattle.store_copy.specs.Named.{or_else}
 use Rattle.desk_adopt.proofs.PlaceLemmas.{first-some, none-first, put-here, same-apart, same-elsewhere}
 use Rattle.store.specs.Change.{IsPlace, with_each, with_place}
 use Rattle.store.specs.declared.change.PlaceValue.{PlaceValue}

@@ -3,7 +3,7 @@ use Rattle.std.specs.FinMap.{get}
 use Rattle.std.specs.List.{All}
 use Rattle.std.specs.Str.{bytes_eq}
 use Rattle.desk_adopt.specs.Adopted.{kept_value, no_places}
-use Rattle.desk_adopt.specs.Items.{or_else}
+use Rattle.store_copy.specs.Named.{or_else}
 use Rattle.points.specs.PriorityArray.{HasSixteenPlaces}
 use Rattle.store.specs.Change.{IsPlace, with_each, with_place}
 use Rattle.points.specs.Texts.{Text}

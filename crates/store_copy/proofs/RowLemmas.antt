@@ -3,8 +3,8 @@ use Rattle.std.proofs.Common.{◌≡◌, ℕ, zero, suc, ◌+◌, ◌-◌, ◌�
 use Rattle.std.specs.Str.{bytes_eq}
 use Rattle.std.proofs.lemmas.Bool.{cases_Bool, false≢true}
 use Rattle.std.proofs.lemmas.Bool.Decides.{Decides-eqb}
-use Rattle.desk_adopt.specs.Adopted.{is_remembered, remembered_row}
-use Rattle.desk_adopt.specs.Items.{or_else, row_for}
+use Rattle.store_copy.specs.Remembered.{is_remembered, remembered_row}
+use Rattle.store_copy.specs.Named.{or_else, row_for}
 use Rattle.points.specs.declared.command_row.CommandRow.{CommandRow}
 use Rattle.points.specs.declared.numbered_row.NumberedRow.{NumberedRow}
 use Rattle.points.specs.Run.{Rows, row_before, rows_between, rows_from}

@@ -1,7 +1,7 @@
 use Rattle.std.proofs.Common.{◌≡◌, ◌++◌, filter, map, take}
-use Rattle.desk_adopt.specs.Adopted.{is_remembered}
-use Rattle.desk_adopt.specs.Items.{row_for}
-use Rattle.desk_adopt.proofs.panels.keep_rows.Given as goal
+use Rattle.store_copy.specs.Remembered.{is_remembered}
+use Rattle.store_copy.specs.Named.{row_for}
+use Rattle.store_copy.proofs.panels.add_run.Given as goal
 
 -- the remembered rows so far
 abbrev pub invariant-loop-numbered : goal.invariant-loop-numbered
