@@ -1,5 +1,5 @@
 """Measures the desk: lines a second of `desk replay`, its peak memory, how both grow, what `desk straighten` takes beside
-it, how long a building is read, and how long a day is reported.
+it, how long a building is read, how long a day is reported, and how long a database is made from a record.
 
 Writes a building of 20 panels, one of the largest size with calendars and schedules, and lists of deliveries to
 them into build/bench, runs each five times and takes the fastest run. A list is of commands in order; or it came
@@ -30,6 +30,7 @@ QUARTERS = 365 * 24 * 4
 NEW_YEAR = 173_568_960_000
 TICKS_COUNTED = 4 * 24 * 4
 RUNS = 5
+MILLION = 1_000_000
 # What straightening a list may take in replays of it, and what twice the lines may take in times of the lines.
 REPLAYS_MEANT = 2.0
 GROWTH_MEANT = 2.1
@@ -269,6 +270,19 @@ def show_report():
     print(f"the report of a day of {LARGEST.schedules} schedules and {LARGEST.points} points: {reported}")
 
 
+def rebuilt(file, record):
+    for path in FOLDER.glob("rebuilt.db*"):
+        path.unlink()
+    return run_desk("rebuild", file, record, str(FOLDER / "rebuilt.db"))
+
+
+def show_rebuild():
+    """A database that is made from a record of a million lines."""
+    words = written(LARGEST, MILLION, "mixed")
+    seconds, peak = min(rebuilt(*words) for _ in range(RUNS))
+    print(f"a database from a record of {MILLION:,} lines: {seconds:.1f} s, {peak / 1024:.0f} MB at most")
+
+
 def show_growth():
     """How much longer the same list takes over the largest building, its reading included."""
     usual, largest = (measure(building, SIZES[1])[0] for building in (USUAL, LARGEST))
@@ -316,6 +330,7 @@ def main():
     show_reading()
     show_report()
     show_seconds()
+    show_rebuild()
     show_growth()
     show_straightening()
     if shutil.which("valgrind"):

@@ -14,7 +14,7 @@ from helpers import databases, random_lists, shims
 from helpers.deliveries import members_of, request_of
 from helpers.runs import Ended
 from helpers.serving import SECONDS, answered, serving
-from helpers.trying import expect
+from helpers.trying import ROOT, expect
 from helpers.worked import BUILDING, EACH_KIND, light
 from oracle.slow_desk import Import, Tick, report_text, run_of
 
@@ -120,6 +120,31 @@ def a_server_that_is_stopped_leaves_both_files(program, folder):
     expect(databases.held(alone(folder, "stopped")), databases.tables_after(BUILDING, []))
     expect(run(program, folder, "report", "building.toml", databases.NAME, DAY), Ended(reported(EACH_KIND), b"", 0))
     expect_whole(folder, "reported", EACH_KIND)
+
+
+def after_an_end(program, folder):
+    """Runs what the unit runs after each end of the desk, over the files of a folder."""
+    unit = (ROOT / "deploy" / "desk.service").read_text()
+    line = next(line for line in unit.splitlines() if line.startswith("ExecStopPost="))
+    script = line.partition("'")[2].rpartition("'")[0].replace("$$", "$").replace("%%", "%")
+    for path, here in (("/usr/local/bin/desk", program), ("/etc/desk", folder), ("/var/lib/desk", folder)):
+        script = script.replace(path, str(here))
+    return subprocess.run(["/bin/sh", "-c", script], capture_output=True, timeout=SECONDS)
+
+
+def the_unit_leaves_it_whole_after_a_kill(program, folder):
+    """And begins no database where there is none."""
+    building_in(folder)
+    expect((after_an_end(program, folder).returncode, sorted(folder.glob("*.db*"))), (0, []))
+    replies = run_of(BUILDING, list(EACH_KIND))[0]
+    with serving(program, folder, len(EACH_KIND) + 1) as server:
+        for delivery, reply in zip(EACH_KIND, replies):
+            expect(server.ask(request_of(members_of(delivery))), answered(reply))
+        server.ran.kill()
+        server.ran.wait(timeout=SECONDS)
+    ended = after_an_end(program, folder)
+    expect((ended.returncode, ended.stdout, ended.stderr), (0, b"", b""))
+    expect_whole(folder, "after", EACH_KIND)
 
 
 def a_run_that_ends_with_a_fault_leaves_it_whole(program, folder):
@@ -256,6 +281,7 @@ TESTS = (
     a_tick_and_an_import_leave_it_whole,
     a_server_that_ends_leaves_it_whole,
     a_server_that_is_stopped_leaves_both_files,
+    the_unit_leaves_it_whole_after_a_kill,
     a_run_that_ends_with_a_fault_leaves_it_whole,
     a_close_that_fails_is_reported_and_loses_nothing,
     a_file_without_its_log_is_reported,

@@ -33,7 +33,7 @@ pub enum MakeFault {
 
 /// Why a renaming among the words is none.
 #[derive(Clone, Copy)]
-pub(crate) enum RenamingFault {
+pub enum RenamingFault {
     /// It is no `OLD=NEW_NAME`.
     Malformed,
     /// It renames a name that an earlier one renames.
@@ -55,9 +55,10 @@ impl fmt::Display for RenamingFault {
     }
 }
 
-/// Why an adoption stopped. Its text is the line of the fault, without the line end.
+/// Why a run that makes a database stopped, an adoption or a rebuild. Its text is the line of the fault, without the line
+/// end.
 #[derive(Drop)]
-pub(crate) enum AdoptionFault<'a> {
+pub enum AdoptionFault<'a> {
     /// As any run stops.
     Run(RunFault<'a>),
     /// The database of this path has tables of version 1, which would be changed.

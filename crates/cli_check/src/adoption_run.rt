@@ -20,7 +20,7 @@ use std::alloc::Global;
 use std::io::{Read, Write};
 use store::{Store, StoreFault};
 
-/// What an adoption has made: the two stores, as they stand then, and what is to be printed of it.
+/// What an adoption or a rebuild has made: the two stores, as they stand then, and what is to be printed of it.
 #[derive(Drop)]
 pub struct TakenAlong<S, T> {
     /// The store that was read.
@@ -31,7 +31,7 @@ pub struct TakenAlong<S, T> {
     pub text: String,
 }
 
-/// How an adoption ended, and what it has made where it was carried out.
+/// How such a run ended, and what it has made where it was carried out.
 #[derive(Drop)]
 pub struct Adopted<S, T> {
     pub status: Status,

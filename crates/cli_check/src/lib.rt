@@ -10,11 +10,11 @@
 //! database and another one that is empty, and takes along what the building has in the first (`desk_adopt`). Its
 //! text tells what has another name now, what stays behind, which renamings count nowhere, and what the new tables hold
 //! (`adoption_text`). What ends it besides is an `AdoptionFault`. `finish` closes the database that was made, puts it in
-//! its place, and then prints the text (`ending`).
+//! its place, and then prints the text (`ending`): also for `desk rebuild` (`cli_rebuild`).
 #![tactic(auto)]
 
-pub use adoption_fault::{FindFault, MakeFault};
-pub use adoption_run::{Paths, adopt_database};
+pub use adoption_fault::{AdoptionFault, FindFault, MakeFault};
+pub use adoption_run::{Adopted, Paths, TakenAlong, adopt_database};
 pub use database_check::{Checked, check_database};
 pub use detail::Detail;
 pub use ending::finish;

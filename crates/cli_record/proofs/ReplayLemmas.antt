@@ -1,5 +1,5 @@
 -- A record, replayed line by line.
-use Rattle.std.proofs.Common.{◌≡◌, ◌∙◌, ℕ, true, false, List, [], ◌∷◌, ◌++◌, Option, Some, None, is_some, option_to_list, append_assoc, append-nil, refl, sym, ap, subst, inl}
+use Rattle.std.proofs.Common.{◌≡◌, ◌∙◌, ℕ, true, false, List, [], ◌∷◌, ◌++◌, length, Option, Some, None, is_some, option_to_list, append_assoc, append-nil, refl, sym, ap, subst, inl}
 use Rattle.std.proofs.lemmas.Bool.{false≢true}
 use Rattle.building.specs.Building.{Building}
 use Rattle.deliveries.specs.declared.delivery.Delivery.{Delivery}
@@ -11,7 +11,7 @@ use Rattle.desk_cli.specs.Replay.{deliveries_in, lines_of}
 use Rattle.store.specs.Standing.{Standing}
 use Rattle.cli_record.proofs.WholeLemmas.{lines-whole, whole-more}
 use Rattle.cli_record.specs.RecordRun.{Lists}
-use Rattle.cli_record.specs.Replayed.{IsReplayed, Makes, TakesWhole}
+use Rattle.cli_record.specs.Replayed.{IsReplayed, LeavesTorn, Makes, TakesWhole}
 use Rattle.cli_record.specs.WholeLines.{IsWhole}
 
 -- ---- a delivery more
@@ -120,7 +120,25 @@ pub Replaying-end : (b : Building) (bytes : List ℕ) (left : Option (List ℕ))
 Replaying-end b bytes left last store p none =
     replayed-of b bytes p.passed p.rest last store p.bytes_are p.whole (none p.rest p.left_is) p.makes
 
+-- what was read last, where no line was whole, is what stands after the last line end
+pub Replaying-torn : (b : Building) (bytes : List ℕ) (left : Option (List ℕ)) (last : Option Delivery) (store : Standing) (line : List ℕ)
+    → Replaying b bytes left last store → ((rest : List ℕ) → left ≡ Some rest → IsLine rest × (line ≡ rest)) → LeavesTorn bytes (length line)
+Replaying-torn b bytes left last store line p none =
+    let torn = none p.rest p.left_is in
+    record {
+      whole = p.passed;
+      cut = record { torn = p.rest; cut = p.bytes_are; is_whole = p.whole; is_torn = torn.0 };
+      counted = ap length torn.1;
+    }
+
 -- no file
+pub torn-none : (bytes : List ℕ) → bytes ≡ [] → LeavesTorn bytes 0
+torn-none bytes nothing = record {
+  whole = [];
+  cut = record { torn = []; cut = nothing; is_whole = inl refl; is_torn = refl };
+  counted = refl;
+}
+
 pub replayed-none : (b : Building) (bytes : List ℕ) (last : Option Delivery) (store : Standing) → bytes ≡ [] → last ≡ None → Holds b [] store
     → IsReplayed b bytes last store
 unfolding Replaying-start

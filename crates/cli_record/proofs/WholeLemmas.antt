@@ -76,8 +76,8 @@ takes-whole left after bytes read line is_whole left_is reads drops cuts = by is
         (rest, after_is ∙ ap Some dropped, is ∙ ap (λ l. l ++ 10 ∷ rest) same, subst IsLine same one)
     by true cut (inr (one, taken)) =
         absurd (false≢true (sym one ∙ (ap (list_any (λ byte. byte == 10)) (sym taken ∙ sym read_is ∙ cut) ∙ has_end line [])))
-    by false uncut (inl (first, rest, is, one, taken, dropped)) = absurd (uncut first (read_is ∙ taken))
-    by false uncut (inr (one, taken)) = one
+    by false (uncut, same) (inl (first, rest, is, one, taken, dropped)) = absurd (uncut first (read_is ∙ taken))
+    by false (uncut, same) (inr (one, taken)) = (one, same ∙ read_is ∙ taken)
 
 -- ---- one line more
 

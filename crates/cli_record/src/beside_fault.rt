@@ -9,6 +9,9 @@ use std::fmt;
 use std::io::Write;
 use store::StoreFault;
 
+/// What helps where the database is older than its record, or is not there.
+const REBUILD: &str = "desk rebuild makes it of the record";
+
 /// Why a run over a database, and the record that is kept beside it, stopped. Its text is the line of the fault end,
 /// without the line end.
 #[derive(Clone, Copy)]
@@ -71,17 +74,23 @@ impl fmt::Display for BesideFault<'_> {
             BesideFault::NoDatabase { path, database } => {
                 write!(
                     f,
-                    "desk: {path} is not the record of {database}: no database is there"
+                    "desk: {path} is not the record of {database}: no database is there; {REBUILD}"
                 )
             }
             BesideFault::OtherRecord {
                 path,
                 database,
                 difference,
-            } => write!(
-                f,
-                "desk: {path} is not the record of {database}: {difference}"
-            ),
+            } => {
+                write!(
+                    f,
+                    "desk: {path} is not the record of {database}: {difference}"
+                )?;
+                if difference.shows_older() {
+                    write!(f, "; {REBUILD}")?;
+                }
+                Ok(())
+            }
         }
     }
 }

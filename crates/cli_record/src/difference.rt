@@ -67,6 +67,21 @@ pub enum Difference {
     },
 }
 
+impl Difference {
+    /// Whether it shows that the database is older than the record.
+    pub(crate) fn shows_older(&self) -> bool {
+        match self {
+            Difference::NextNumber { held, recorded, .. } => *held < *recorded,
+            Difference::LastTick { held, recorded } => match (held, recorded) {
+                (Some(held), Some(recorded)) => *held < *recorded,
+                (None, Some(_)) => true,
+                _ => false,
+            },
+            _ => false,
+        }
+    }
+}
+
 impl fmt::Display for PlaceText {
     ghost use Rattle.std.specs.Prelude.{Some};
     ghost use Rattle.cli_record.specs.DifferenceLine.{place_text};

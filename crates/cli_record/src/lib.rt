@@ -10,6 +10,8 @@
 //! are delivered, one by one, to a desk in memory (`record_lines`, `replayed`), and what no rule of the building decides is
 //! compared (`belonging`, `sent_runs`), since the building's file may have been edited meanwhile.
 //!
+//! `replay_whole` delivers all of a record's whole lines so, and tells how many bytes stand after them.
+//!
 //! `check_record` reads the building of a file and the whole lines of a record (`whole_list`), delivers them to a desk
 //! in memory, and prints whether its tables are those of the database (`record_run`, `record_text`).
 #![tactic(auto)]
@@ -20,6 +22,7 @@ pub use comparing::{CompareFault, compare_tables};
 pub use difference::Difference;
 pub use laws::no_difference_where_tables_agree;
 pub use record_run::{RecordChecked, check_record};
+pub use replayed::{WholeReplay, replay_whole};
 
 mod adding;
 mod belonging;

@@ -10,7 +10,7 @@ ghost use Rattle.cli_record.specs.Belonging.{Alike, AlikeOrTold, IsMatched};
 ghost use Rattle.cli_record.specs.Compared.{held_fault};
 ghost use Rattle.std.specs.Option.{option_to_list};
 ghost use Rattle.desk_cli.specs.ListLines.{tells};
-ghost use Rattle.cli_record.specs.Replayed.{IsFound, IsReplayed, Makes, MayHave};
+ghost use Rattle.cli_record.specs.Replayed.{HoldsRecord, IsFound, IsReplayed, LeavesTorn, Makes, MayHave};
 
 use crate::belonging::first_difference;
 use crate::comparing::CompareFault;
@@ -33,6 +33,16 @@ pub(crate) struct Replayed<T> {
     pub building: Building,
     pub store: T,
     pub last: Option<Delivery>,
+    /// How many bytes stand after the last line end.
+    pub torn: usize,
+}
+
+/// What is left of a record once its whole lines were replayed: the last delivery, which is held back, and how many bytes
+/// stand after the last line end.
+#[derive(Drop)]
+struct Left {
+    last: Option<Delivery>,
+    torn: usize,
 }
 
 /// The building of a record, and the first difference between a store and the record, if the store is not its own.
@@ -79,17 +89,19 @@ fn hold_back<S: Store + Drop>(
     Ok(())
 }
 
-/// Replays the whole lines that the reader of the record of this path has left, and gives their last delivery, which is
-/// not made.
+/// Replays the whole lines that the reader of the record of this path has left, but for their last delivery.
 fn replay_lines<'a, D: Read + Drop, S: Store + Drop>(
     alloc: Global,
     path: &'a str,
     mut reader: BufReader<D>,
     desk: &mut Desk<S>,
-) -> Result<Option<Delivery>, RunFault<'a>>
-    ensures replayed { IfOk result (λ last. (bytes : List ℕ) → reader_remaining D.remaining reader ≡ Some bytes
+) -> Result<Left, RunFault<'a>>
+    ensures replayed { IfOk result (λ left. (bytes : List ℕ) → reader_remaining D.remaining reader ≡ Some bytes
         → (S.standing desk.new.store).is_honest → Holds desk.old.building [] (S.standing desk.old.store)
-        → IsReplayed desk.old.building bytes last (S.standing desk.new.store)) }
+        → IsReplayed desk.old.building bytes left.last (S.standing desk.new.store)) }
+    ensures torn { IfOk result (λ left. (bytes : List ℕ) → reader_remaining D.remaining reader ≡ Some bytes
+        → (S.standing desk.new.store).is_honest → Holds desk.old.building [] (S.standing desk.old.store)
+        → LeavesTorn bytes left.torn) }
     ensures building { desk.new.building ≡ desk.old.building }
 {
     let mut scratch = Scratch::new(alloc);
@@ -98,7 +110,8 @@ fn replay_lines<'a, D: Read + Drop, S: Store + Drop>(
     for number in 1..u64::MAX {
         let is_whole = read_whole_line(path, &mut reader, &mut line)?;
         if !is_whole {
-            return Ok(last);
+            let torn = line.as_slice().len();
+            return Ok(Left { last, torn });
         }
         let next = delivery_in(
             alloc,
@@ -118,15 +131,21 @@ fn replay_found<'a, D: Read + Drop, S: Store + Drop>(
     path: &'a str,
     found: Option<BufReader<D>>,
     desk: &mut Desk<S>,
-) -> Result<Option<Delivery>, RunFault<'a>>
-    ensures replayed { IfOk result (λ last. (bytes : List ℕ) → IsFound (reader_remaining D.remaining) found bytes
+) -> Result<Left, RunFault<'a>>
+    ensures replayed { IfOk result (λ left. (bytes : List ℕ) → IsFound (reader_remaining D.remaining) found bytes
         → (S.standing desk.new.store).is_honest → Holds desk.old.building [] (S.standing desk.old.store)
-        → IsReplayed desk.old.building bytes last (S.standing desk.new.store)) }
+        → IsReplayed desk.old.building bytes left.last (S.standing desk.new.store)) }
+    ensures torn { IfOk result (λ left. (bytes : List ℕ) → IsFound (reader_remaining D.remaining) found bytes
+        → (S.standing desk.new.store).is_honest → Holds desk.old.building [] (S.standing desk.old.store)
+        → LeavesTorn bytes left.torn) }
     ensures building { desk.new.building ≡ desk.old.building }
 {
     match found {
         Some(reader) => replay_lines(alloc, path, reader, desk),
-        None => Ok(None),
+        None => Ok(Left {
+            last: None,
+            torn: 0,
+        }),
     }
 }
 
@@ -147,18 +166,22 @@ where
     ensures replayed { IfOk result (λ replayed. (bytes : List ℕ)
         → MayHave (P.post list.entry.open) (reader_remaining D.remaining) bytes
         → (T.standing replayed.store).is_honest → IsReplayed building bytes replayed.last (T.standing replayed.store)) }
+    ensures torn { IfOk result (λ replayed. (bytes : List ℕ)
+        → MayHave (P.post list.entry.open) (reader_remaining D.remaining) bytes
+        → (T.standing replayed.store).is_honest → LeavesTorn bytes replayed.torn) }
     ensures building { IfOk result (λ replayed. replayed.building ≡ building) }
 {
     let ListInput { path, open } = list;
     let mut desk = Desk::new(alloc, building, empty);
     match open() {
         Ok(found) => {
-            let last = replay_found(alloc, path, found, &mut desk)?;
+            let Left { last, torn } = replay_found(alloc, path, found, &mut desk)?;
             let (building, store) = desk.into_parts();
             Ok(Replayed {
                 building,
                 store,
                 last,
+                torn,
             })
         }
         Err(error) => Err(RunFault::of_read(&error, path)),
@@ -221,6 +244,72 @@ fn matched_with_last<S: Store, T: Store + Drop>(
     }
 }
 
+/// The building and the store, once the delivery that was held back is made, if there is one.
+fn with_held<'a, T: Store + Drop>(
+    alloc: Global,
+    building: Building,
+    store: T,
+    held: &Option<Delivery>,
+) -> Result<(Building, T), RunFault<'a>>
+    ensures building { IfOk result (λ parts. parts.0 ≡ building) }
+    ensures made { (earlier : List a_delivery) → Holds building earlier (T.standing store)
+        → IfOk result (λ parts. (T.standing parts.1).is_honest
+        → Holds building (earlier ++ option_to_list held.now) (T.standing parts.1)) }
+{
+    let Some(last) = held else {
+        return Ok((building, store));
+    };
+    match with_last(alloc, building, store, last) {
+        Ok(parts) => Ok(parts),
+        Err(fault) => Err(RunFault::from(fault)),
+    }
+}
+
+/// A building, and a store that has what a record leaves in it.
+#[derive(Drop)]
+pub struct WholeReplay<T> {
+    pub building: Building,
+    pub store: T,
+    /// How many bytes stand after the last line end: of a line that was never delivered.
+    pub torn: usize,
+}
+
+/// Delivers the whole lines of a record to a desk over an empty store, which is always honest. Empty lines are passed
+/// over, and so is an import whose holiday list is at fault; what stands after the last line end was never delivered. A
+/// file that is not there is an empty record. One that can't be read, a line that is no delivery, and lack of memory are
+/// the faults.
+pub fn replay_whole<'a, D: Read + Drop, P, T: Store + Drop>(
+    alloc: Global,
+    building: Building,
+    list: ListInput<'a, P>,
+    empty: T,
+) -> Result<WholeReplay<T>, RunFault<'a>>
+where
+    P: FnOnce() -> io::Result<Option<BufReader<D>>>,
+    requires open { P.IsAlwaysCallable list.open }
+    requires empty { (T.standing empty).content ≡ sound no_tables }
+    requires honest { (t : T) → (T.standing t).is_honest }
+    ensures holds { IfOk result (λ replayed. (bytes : List ℕ)
+        → MayHave (P.post list.entry.open) (reader_remaining D.remaining) bytes
+        → HoldsRecord building bytes (T.standing replayed.store)) }
+    ensures torn { IfOk result (λ replayed. (bytes : List ℕ)
+        → MayHave (P.post list.entry.open) (reader_remaining D.remaining) bytes → LeavesTorn bytes replayed.torn) }
+    ensures building { IfOk result (λ replayed. replayed.building ≡ building) }
+{
+    let Replayed {
+        building,
+        store,
+        last,
+        torn,
+    } = replay_record(alloc, building, list, empty)?;
+    let (building, store) = with_held(alloc, building, store, &last)?;
+    Ok(WholeReplay {
+        building,
+        store,
+        torn,
+    })
+}
+
 impl<T: Store + Drop> Replayed<T> {
     /// Whether the record has no delivery.
     pub fn is_empty(&self) -> bool
@@ -245,6 +334,7 @@ impl<T: Store + Drop> Replayed<T> {
             building,
             store: other,
             last,
+            torn: _torn,
         } = self;
         let mut other = other;
         let difference = match first_difference(&building, store, &mut other) {

@@ -60,6 +60,10 @@ rename_rule = record (new_rule (codes "rename")) { long = Some (codes "rename");
 abbrev pub adopt_app : App
 adopt_app = with_rule (with_rule (database_app (codes "adopt") (needed_rule (codes "made"))) rename_rule) (flag_rule (codes "dry-run"))
 
+-- `rebuild FILE RECORD DB`
+abbrev pub rebuild_app : App
+rebuild_app = with_rule (with_rule (file_app (codes "rebuild")) (needed_rule (codes "record"))) (needed_rule (codes "database"))
+
 -- `describe FILE`
 abbrev pub describe_app : App
 describe_app = file_app (codes "describe")
@@ -113,10 +117,10 @@ serve_app = with_rule (with_rule (with_rule
 abbrev pub desk_app : App
 desk_app =
     with_subcommand (with_subcommand (with_subcommand (with_subcommand (with_subcommand (with_subcommand (with_subcommand
-    (with_subcommand (with_subcommand (with_subcommand
+    (with_subcommand (with_subcommand (with_subcommand (with_subcommand
     (on_top (λ s. record s { has_version = true; subcommand_required = true }) (new_app (codes "desk")))
     check_app.top) describe_app.top) replay_app.top) why_app.top) straighten_app.top) import_app.top) tick_app.top) report_app.top)
-    serve_app.top) adopt_app.top
+    serve_app.top) adopt_app.top) rebuild_app.top
 
 -- what is made, if memory is had, is the command `app`, with no argument for its subcommands too
 abbrev pub Makes : {E : Type 0} → App → Result Command E → Type 0
@@ -128,6 +132,7 @@ Makes app r = IfOk r (λ c. (app_of c ≡ app) × ((fields_of c).has_globals ≡
 pub data LineValue : Type 0 where
   Check : (file : Text) → (database : Option Text) → (explain : Bool) → (of : Option Text) → LineValue
   Adopt : (file : Text) → (database : Text) → (made : Text) → (renamings : List Text) → (dry_run : Bool) → LineValue
+  Rebuild : (file : Text) → (of : Text) → (made : Text) → LineValue
   Describe : (file : Text) → LineValue
   Replay : (file : Text) → (deliveries : Text) → (until : Option ℤ) → LineValue
   Why : (file : Text) → (deliveries : Text) → (point : Text) → (until : Option ℤ) → LineValue
@@ -145,6 +150,7 @@ abbrev pub line_value : Line → LineValue
 line_value (line.Check file database explain of) = Check file.now (path_of database) explain (path_of of)
 line_value (line.Adopt file database made renamings dry_run) =
     Adopt file.now database.now made.now (map (λ text. text.now) renamings.items) dry_run
+line_value (line.Rebuild file of made) = Rebuild file.now of.now made.now
 line_value (line.Describe file) = Describe file.now
 line_value (line.Replay file deliveries until) = Replay file.now deliveries.now until
 line_value (line.Why file deliveries point until) = Why file.now deliveries.now point.now until
@@ -186,6 +192,11 @@ abbrev pub adopt_in : List Row → Option LineValue
 adopt_in rows = option_and_then (λ file. option_and_then (λ database.
     option_map (λ made. Adopt file database made (values_in (codes "rename") rows) (is_set (first_of (codes "dry-run") rows)))
     (first_of (codes "made") rows)) (first_of (codes "database") rows)) (first_of (codes "file") rows)
+
+abbrev pub rebuild_in : List Row → Option LineValue
+rebuild_in rows = option_and_then (λ file. option_and_then (λ of.
+    option_map (λ made. Rebuild file of made)
+    (first_of (codes "database") rows)) (first_of (codes "record") rows)) (first_of (codes "file") rows)
 
 abbrev pub describe_in : List Row → Option LineValue
 describe_in rows = option_map Describe (first_of (codes "file") rows)
@@ -232,6 +243,7 @@ serve_in rows = option_and_then (λ file. option_and_then (λ database. option_a
 abbrev pub asked_in : Text × List Row → Option LineValue
 asked_in (name, rows) =
     if bytes_eq name (codes "adopt") then adopt_in rows
+    else (if bytes_eq name (codes "rebuild") then rebuild_in rows
     else (if bytes_eq name (codes "check") then check_in rows
     else (if bytes_eq name (codes "describe") then describe_in rows
     else (if bytes_eq name (codes "replay") then replay_in rows
@@ -240,7 +252,7 @@ asked_in (name, rows) =
     else (if bytes_eq name (codes "import") then import_in rows
     else (if bytes_eq name (codes "tick") then tick_in rows
     else (if bytes_eq name (codes "report") then report_in rows
-    else (if bytes_eq name (codes "serve") then serve_in rows else None)))))))))
+    else (if bytes_eq name (codes "serve") then serve_in rows else None))))))))))
 
 -- what the words ask, the program's name first
 abbrev pub asked : List Text → Option LineValue

@@ -10,7 +10,8 @@ ghost use Rattle.cli_words.specs.Line.{Makes, adopt_app, adopt_in, asked, asked_
 ghost use Rattle.cli_words.specs.Line.{count_in, count_of, database_app, deliveries_app};
 ghost use Rattle.cli_words.specs.Line.{describe_app, describe_in, flag_rule};
 ghost use Rattle.cli_words.specs.Line.{desk_app, file_app, import_app, import_in, is_set, looked_over_rule, moment_in};
-ghost use Rattle.cli_words.specs.Line.{needed_rule, record_rule, rename_rule, replay_app, replay_in, report_app, report_in};
+ghost use Rattle.cli_words.specs.Line.{needed_rule, rebuild_app, rebuild_in, record_rule, rename_rule, replay_app, replay_in};
+ghost use Rattle.cli_words.specs.Line.{report_app, report_in};
 ghost use Rattle.cli_words.specs.Line.{requests_rule, serve_app, serve_in, straighten_app};
 ghost use Rattle.cli_words.specs.Line.{straighten_in, tick_app, tick_in, until_rule, values_in, why_app, why_in};
 
@@ -48,6 +49,16 @@ pub enum Line<'a> {
         renamings: Vec<&'a str>,
         /// Whether nothing is made.
         dry_run: bool,
+    },
+    /// `rebuild FILE RECORD DB`: makes a database with what the whole lines of a record leave in the building of the
+    /// file.
+    Rebuild {
+        /// The path of the building file.
+        file: &'a str,
+        /// The path of the record, which is only read.
+        record: &'a str,
+        /// The path of the database that is made.
+        database: &'a str,
     },
     /// `describe FILE`: prints the building of the file as one JSON object.
     Describe {
@@ -166,7 +177,8 @@ fn desk_command<'a>(alloc: Global) -> Result<Command<'a>, AllocError>
     let desk = with_subcommand(desk, tick_command(alloc));
     let desk = with_subcommand(desk, report_command(alloc));
     let desk = with_subcommand(desk, serve_command(alloc));
-    with_subcommand(desk, adopt_command(alloc))
+    let desk = with_subcommand(desk, adopt_command(alloc));
+    with_subcommand(desk, rebuild_command(alloc))
 }
 
 /// The subcommand `adopt FILE DB NEW [--rename OLD=NEW].. [--dry-run]`.
@@ -190,6 +202,20 @@ fn adopt_command<'a>(alloc: Global) -> Result<Command<'a>, AllocError>
             "dry-run",
             "Prints what would be taken along, and makes nothing",
         ),
+    )
+}
+
+/// The subcommand `rebuild FILE RECORD DB`.
+fn rebuild_command<'a>(alloc: Global) -> Result<Command<'a>, AllocError>
+    ensures { Makes rebuild_app result }
+{
+    let about = "Makes a database with what the deliveries of a record leave";
+    let help = "The record, of which the whole lines are read";
+    let record = needed(alloc, "record", "RECORD", help);
+    let database = needed(alloc, "database", "DB", "The database that is made");
+    with_argument(
+        with_argument(file_command(alloc, "rebuild", about), record),
+        database,
     )
 }
 
@@ -469,6 +495,7 @@ fn line_without_list<'a>(name: &str, inner: &ArgMatches<'a>) -> Option<Line<'a>>
         → option_map line_value result ≡ asked_in (name.now, rows_of (found_of inner.now)) }
 {
     match name {
+        "rebuild" => rebuild_line(inner),
         "check" => check_line(inner),
         "describe" => describe_line(inner),
         "replay" => replay_line(inner),
@@ -525,6 +552,24 @@ fn copied<'a>(alloc: Global, values: Option<&[&'a str]>) -> Result<Vec<&'a str>,
         texts.extend_from_slice(values)?;
     }
     Ok(texts)
+}
+
+/// What the arguments of `rebuild` ask.
+fn rebuild_line<'a>(matches: &ArgMatches<'a>) -> Option<Line<'a>>
+    ensures { option_map line_value result ≡ rebuild_in (rows_of (found_of matches.now)) }
+{
+    if let Some(file) = text_at(matches, "file")
+        && let Some(record) = text_at(matches, "record")
+        && let Some(database) = text_at(matches, "database")
+    {
+        Some(Line::Rebuild {
+            file,
+            record,
+            database,
+        })
+    } else {
+        None
+    }
 }
 
 /// What the arguments of `check` ask.

@@ -1,11 +1,11 @@
 //! The run that makes a database for a building that changed.
+use crate::new_database::{NewDatabase, find_free, part_of};
 use cli_check::{FindFault, MakeFault, Paths, adopt_database, finish};
 use cli_common::{Input, Status};
-use std::alloc::AllocError;
-use std::fs::{self, File};
-use std::io::{self, BufWriter, ErrorKind, Read, Write};
+use std::fs;
+use std::io::{self, BufWriter, Read, Write};
 use store::{OpenFault, Store, StoreFault};
-use store_file::{DeskStore, Found, close_store, find_store_as_it_is, open_store};
+use store_file::{DeskStore, Found, close_store, find_store_as_it_is};
 use store_memory::MemStore;
 
 /// What an adoption is to do.
@@ -51,11 +51,7 @@ trait Databases {
 struct InFiles<'a> {
     rt: &'a HostRuntime,
     database: &'a str,
-    made: &'a str,
-    /// Where it is made.
-    part: &'a str,
-    /// Whether the run has the file there for its own.
-    claimed: Result<(), MakeFault>,
+    made: NewDatabase<'a>,
 }
 
 /// The store that a search finds, unless to open it is to change it.
@@ -70,22 +66,6 @@ where
         Ok(Found::FirstVersion) => Err(FindFault::FirstVersion),
         Ok(Found::Store(store)) => Ok(Some(store)),
         Err(fault) => Err(FindFault::NotOpened(fault)),
-    }
-}
-
-/// The store that a call opens, where nothing is in the way.
-fn made_by<S: Store + Drop, O>(claimed: Result<(), MakeFault>, opener: O) -> Result<S, MakeFault>
-where
-    O: FnOnce() -> Result<S, OpenFault>,
-    O: Drop,
-    requires { O.IsAlwaysCallable opener }
-{
-    match claimed {
-        Err(fault) => Err(fault),
-        Ok(()) => match opener() {
-            Ok(store) => Ok(store),
-            Err(fault) => Err(MakeFault::NotOpened(fault)),
-        },
     }
 }
 
@@ -145,7 +125,7 @@ impl Pair for InFiles<'_> {
     }
 
     fn make(&self) -> Result<DeskStore, MakeFault> {
-        made_by(self.claimed, || open_store(self.rt, self.part))
+        self.made.make()
     }
 
     fn close(&self, made: DeskStore) -> Result<(), StoreFault> {
@@ -153,20 +133,11 @@ impl Pair for InFiles<'_> {
     }
 
     fn place(&self) -> io::Result<()> {
-        if stands_at(self.rt, self.made) {
-            return Err(io::Error::from(ErrorKind::AlreadyExists));
-        }
-        remove_log(self.rt, self.part)?;
-        fs::rename(self.rt, self.part, self.made)?;
-        let kept = keep_name(self.rt, self.made);
-        if kept.is_err() {
-            self.withdraw();
-        }
-        kept
+        self.made.place()
     }
 
     fn withdraw(&self) {
-        let _removed = fs::remove_file(self.rt, self.made);
+        self.made.withdraw();
     }
 }
 
@@ -206,80 +177,6 @@ impl Databases for InMemory<'_> {
     fn withdraw(&self) {}
 }
 
-/// Whether something is at a path, also where that can't be known.
-fn stands_at(rt: &HostRuntime, path: &str) -> bool {
-    match fs::symlink_metadata(rt, path) {
-        Ok(_) => true,
-        Err(error) => error.kind() != ErrorKind::NotFound,
-    }
-}
-
-/// Removes the log beside a database, where there is one.
-fn remove_log(rt: &HostRuntime, database: &str) -> io::Result<()> {
-    let log = log_of(rt, database)?;
-    match fs::remove_file(rt, log.as_str()) {
-        Ok(()) => Ok(()),
-        Err(error) if error.kind() == ErrorKind::NotFound => Ok(()),
-        Err(error) => Err(error),
-    }
-}
-
-/// The path of the log beside a database.
-fn log_of(rt: &HostRuntime, database: &str) -> Result<String, AllocError> {
-    format!(in rt.alloc(); "{database}-wal")
-}
-
-/// Has the disk keep the name of a file that was put in its folder.
-fn keep_name(rt: &HostRuntime, path: &str) -> io::Result<()> {
-    let folder = match path.rsplit_once('/') {
-        Some(("", _)) => "/",
-        Some((folder, _)) => folder,
-        None => ".",
-    };
-    File::open(rt, folder)?.sync_all()
-}
-
-/// Whether something stands where the log of a database is to be.
-fn has_log(rt: &HostRuntime, database: &str) -> Result<bool, MakeFault> {
-    match log_of(rt, database) {
-        Ok(log) => Ok(stands_at(rt, log.as_str())),
-        Err(AllocError) => Err(MakeFault::NotOpened(OpenFault::NoMemory)),
-    }
-}
-
-/// Sees that nothing stands where the new database is to be.
-fn find_free(rt: &HostRuntime, made: &str) -> Result<(), MakeFault> {
-    if stands_at(rt, made) || has_log(rt, made)? {
-        return Err(MakeFault::Taken);
-    }
-    Ok(())
-}
-
-/// Makes the empty file in which the new database is made, for this run alone, where no log is beside it.
-fn claim(rt: &HostRuntime, made: &str, part: &str) -> Result<(), MakeFault> {
-    find_free(rt, made)?;
-    if stands_at(rt, part) {
-        return Err(MakeFault::PartTaken);
-    }
-    if has_log(rt, part)? {
-        return Err(MakeFault::PartLogTaken);
-    }
-    match File::create_new(rt, part) {
-        Ok(_file) => Ok(()),
-        Err(error) => match error.kind() {
-            ErrorKind::AlreadyExists => Err(MakeFault::PartTaken),
-            ErrorKind::OutOfMemory => Err(MakeFault::NotOpened(OpenFault::NoMemory)),
-            _ => Err(MakeFault::NotOpened(OpenFault::Failed)),
-        },
-    }
-}
-
-/// Removes what a run that failed has made. What can't be removed is found by the next run.
-fn give_up(rt: &HostRuntime, part: &str) {
-    let _log = remove_log(rt, part);
-    let _part = fs::remove_file(rt, part);
-}
-
 /// Makes the database that is asked for and then prints what it took along, or prints what it would. Nothing of it is
 /// left where the run is not done, also where the output failed. It is an error where memory for a path or for the
 /// output's buffer is refused.
@@ -287,14 +184,9 @@ pub fn run(rt: &HostRuntime, adoption: Adoption<'_>) -> io::Result<Status> {
     if adoption.dry_run {
         return run_in_memory(rt, adoption);
     }
-    let part = format!(in rt.alloc(); "{}.part", adoption.made)?;
-    let part = part.as_str();
-    let claimed = claim(rt, adoption.made, part);
-    let status = run_in_files(rt, adoption, part, claimed);
-    if claimed.is_ok() && !is_done(&status) {
-        give_up(rt, part);
-    }
-    status
+    let part = part_of(rt, adoption.made)?;
+    let made = NewDatabase::claim(rt, adoption.made, part.as_str());
+    made.end(run_in_files(rt, adoption, made))
 }
 
 /// The run whose tables are made in memory alone.
@@ -307,19 +199,16 @@ fn run_in_memory(rt: &HostRuntime, adoption: Adoption<'_>) -> io::Result<Status>
     run_in(rt, adoption, &databases)
 }
 
-/// The run that makes its database at `part`, a file of its own if that could be claimed.
+/// The run that makes its database in files.
 fn run_in_files(
     rt: &HostRuntime,
     adoption: Adoption<'_>,
-    part: &str,
-    claimed: Result<(), MakeFault>,
+    made: NewDatabase<'_>,
 ) -> io::Result<Status> {
     let pair = InFiles {
         rt,
         database: adoption.database,
-        made: adoption.made,
-        part,
-        claimed,
+        made,
     };
     run_in_pair(rt, adoption, pair)
 }
@@ -330,13 +219,6 @@ fn run_in_pair<P: Pair + Drop>(
     pair: P,
 ) -> io::Result<Status> {
     run_in(rt, adoption, &Paired { pair })
-}
-
-fn is_done(status: &io::Result<Status>) -> bool {
-    match status {
-        Ok(Status::Done) => true,
-        _ => false,
-    }
 }
 
 /// The run over the building's file and the standard streams.

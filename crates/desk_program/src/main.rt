@@ -1,6 +1,7 @@
 //! The program `desk`: hands the words, the files and the standard streams to the libraries that do the work.
 #![tactic(auto)]
 
+use crate::rebuilds::Rebuild;
 use crate::runs::DatabaseRun;
 use cli_check::{Detail, check};
 use cli_common::{Input, ListInput, Status};
@@ -15,6 +16,8 @@ use std::process::ExitCode;
 
 mod adoptions;
 mod checks;
+mod new_database;
+mod rebuilds;
 mod runs;
 
 /// The null device, opened for reading, where it gets the number of a standard descriptor that is closed. Where no
@@ -212,6 +215,20 @@ fn run(rt: &HostRuntime, words: &[String]) -> io::Result<Status> {
                 Detail::Line
             };
             run_check(rt, file, database, detail)
+        }
+        Ok(
+            Line::Rebuild {
+                file,
+                record,
+                database,
+            },
+        ) => {
+            let rebuild = Rebuild {
+                file,
+                record,
+                database,
+            };
+            rebuilds::run(rt, rebuild)
         }
         Ok(Line::Describe { file }) => run_describe(rt, file),
         Ok(

@@ -1,14 +1,21 @@
-use Rattle.std.proofs.Common.{◌∙◌, ℕ, List, subst}
+use Rattle.std.proofs.Common.{◌∙◌, ℕ, List, ap, length, subst, sym}
 use Rattle.std.specs.Io.Buffered.{reader_remaining}
-use Rattle.cli_record.specs.Replayed.{TakesWhole}
-use Rattle.cli_record.proofs.ReplayLemmas.{Replaying-end, Replaying-line, Replaying-start}
+use Rattle.cli_record.specs.Replayed.{LeavesTorn, TakesWhole}
+use Rattle.cli_record.proofs.ReplayLemmas.{Replaying-end, Replaying-line, Replaying-start, Replaying-torn}
 use Rattle.cli_record.proofs.replayed.replay_lines.Goals as goal
 
 pub returns-then-not-is_whole-clause-replayed : goal.returns-then-not-is_whole-clause-replayed
 returns-then-not-is_whole-clause-replayed g c = λ bytes left honest holds.
     Replaying-end c.args.desk.now.building bytes _ _ _ (c.loop-number.invariant.1 bytes left honest holds)
+    (λ rest before. (subst (λ is_whole. TakesWhole rest is_whole c.read_whole_line.new.line.items
+    (reader_remaining g.D.Read.remaining c.read_whole_line.new.reader)) c.if-not-is_whole.true (c.in_ok-is_whole.ensures rest before)).0)
+
+pub returns-then-not-is_whole-clause-torn : goal.returns-then-not-is_whole-clause-torn
+returns-then-not-is_whole-clause-torn g c = λ bytes left honest holds.
+    subst (λ n. LeavesTorn bytes n) (sym (ap length c.as_slice-torn.ensures.value))
+    (Replaying-torn c.args.desk.now.building bytes _ _ _ _ (c.loop-number.invariant.1 bytes left honest holds)
     (λ rest before. subst (λ is_whole. TakesWhole rest is_whole c.read_whole_line.new.line.items
-    (reader_remaining g.D.Read.remaining c.read_whole_line.new.reader)) c.if-not-is_whole.true (c.in_ok-is_whole.ensures rest before))
+    (reader_remaining g.D.Read.remaining c.read_whole_line.new.reader)) c.if-not-is_whole.true (c.in_ok-is_whole.ensures rest before)))
 
 pub loop-number-preserved : goal.loop-number-preserved
 loop-number-preserved g c = (
