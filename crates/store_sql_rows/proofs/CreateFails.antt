@@ -1,9 +1,9 @@
 -- Why a statement that makes a table fails.
-use Rattle.std.proofs.Common.{◌≡◌, ◌<◌, ◌≤◌, ◌+◌, ◌*◌, ◌^◌, ◌⊎◌, ◌==◌, inl, inr, ℕ, nat_lt, List, [], ◌∷◌, codes, length, Bool, true, false, None, Some, Option, IsTrue, Ok, Err, Result, IfErr, refl, sym, ap, subst, ◌∙◌, true≢false, arith}
-use Rattle.std.specs.List.{AllByRecursion}
+use Rattle.std.proofs.Common.{◌≡◌, ◌≤◌, ◌+◌, ◌*◌, ◌^◌, inl, inr, ℕ, nat_lt, not, List, [], ◌∷◌, codes, length, Bool, true, false, None, Some, Option, IsTrue, Ok, Err, Result, IfErr, refl, sym, ap, subst, ◌∙◌, arith}
+use Rattle.std.specs.List.{AllByRecursion, list_all}
 use Rattle.std.specs.Str.{chars, is_utf8, IsUtf8}
 use Rattle.std.proofs.lemmas.Str.{IsUtf8-from_is_utf8}
-use Rattle.std.proofs.lemmas.Bool.{both_ways, ltb-true}
+use Rattle.std.proofs.lemmas.Bool.{and_parts, both_ways, ltb-true, not-true}
 use Rattle.sqlite_value.specs.declared.value.Value.TheVariants.{Text}
 use Rattle.sqlite_value.specs.Order.{value_cmp}
 use Rattle.sqlite_trees.specs.Sound.{begins, fits_kind, is_free_name, same_name as listed_name}
@@ -13,10 +13,10 @@ use Rattle.sqlite_schema.specs.declared.command.Command.TheVariants.{CreateTable
 use Rattle.sqlite_schema.specs.Rules.{table_reals, index_reals}
 use Rattle.sqlite_resolve.specs.Compile.{table_defined_by}
 use Rattle.sqlite_rules.specs.Lists.{Has}
-use Rattle.sqlite_rules.proofs.ListLemmas.{all_has}
+use Rattle.sqlite_rules.proofs.ListLemmas.{all_from, all_has, test_has}
 use Rattle.sqlite_catalog.specs.declared.error.Refusal.{Refusal}
 use Rattle.sqlite_catalog.specs.declared.error.Refusal.TheVariants.{Invalid, NameTaken, BadName, TooBig, BadKey, BadText, Violates}
-use Rattle.sqlite_catalog.specs.Calls.{IsLongTable, RefusesTable}
+use Rattle.sqlite_catalog.specs.Calls.{RefusesTable}
 use Rattle.sqlite_catalog.specs.Change.{automatics, created, is_reserved, is_used, next_tree}
 use Rattle.sqlite_catalog.specs.Listing.{is_fit, is_formed}
 use Rattle.sqlite_tied.specs.Compute.{everything}
@@ -30,7 +30,7 @@ use Rattle.sqlite.proofs.Callers.{statement_of}
 use Rattle.store_sql_rows.specs.Creating.{IsInside}
 use Rattle.store_sql_rows.specs.Failing.{FailsFor, IsWhole}
 use Rattle.store_sql_rows.specs.Making.{MakesTable}
-use Rattle.store_sql_rows.specs.Schema.{desk_table, panel_table, command_table, place_table, shown_table, imported_table, schema_0, schema_1, schema_2, schema_3, schema_4, schema_5, desk_schema}
+use Rattle.store_sql_rows.specs.Schema.{desk_table, panel_table, command_table, place_table, shown_table, imported_table, schema_0, schema_1, schema_2, schema_3, schema_4, schema_5}
 use Rattle.store_sql_rows.specs.Texts.{create_desk, create_panel, create_command, create_place, create_shown, create_imported}
 use Rattle.store_sql_rows.proofs.CreateTexts.{makes_desk, makes_panel, makes_command, makes_place, makes_shown, makes_imported}
 use Rattle.store_sql_rows.proofs.FailLemmas.{inside_fails}
@@ -50,6 +50,41 @@ pub record Fits (before : Schema) (sql : List ℕ) (table : Table) : Type 0 wher
   pub fit : is_fit (Text (codes "table")) (Text table.name) (Text table.name) (Text sql) ≡ true
   pub short : nat_lt (2 * length table.name + length sql + 200) (10 ^ 9) ≡ true
   pub plain : lacks_sequence (created before (record table { tree = 0 })) ≡ false
+
+-- the same as tests
+abbrev tests : Schema → List ℕ → Table → List Bool
+tests before sql table =
+    is_utf8 sql ∷ is_utf8 table.name ∷ not (is_used before table.name)
+    ∷ list_all (λ i. not (is_used before i.name)) (automatics (record table { tree = 0 }) 0 0 table.uniques) ∷ not (is_reserved table.name)
+    ∷ nat_lt (next_tree before + length table.uniques) 65536 ∷ nat_lt (table_reals table) (2 ^ 64)
+    ∷ list_all (λ key. nat_lt (index_reals (table_reals table) key) (2 ^ 64)) table.uniques ∷ is_formed table
+    ∷ is_fit (Text (codes "table")) (Text table.name) (Text table.name) (Text sql)
+    ∷ nat_lt (2 * length table.name + length sql + 200) (10 ^ 9) ∷ not (lacks_sequence (created before (record table { tree = 0 }))) ∷ []
+
+each : (bs : List Bool) → list_all (λ b. b) bs ≡ true → AllByRecursion (λ b. b ≡ true) bs
+each [] all = tt
+each (b ∷ bs) all = let parts = and_parts b (list_all (λ c. c) bs) all in (parts.0, each bs parts.1)
+
+fits : (before : Schema) (sql : List ℕ) (table : Table) → IsWhole sql 0 (understood before sql)
+    → list_all (λ b. b) (tests before sql table) ≡ true → Fits before sql table
+fits before sql table whole passed =
+    let t = each (tests before sql table) passed in
+    let keys = automatics (record table { tree = 0 }) 0 0 table.uniques in
+    record {
+      whole = whole;
+      utf8 = t.0;
+      named = t.1.0;
+      free = not-true _ t.1.1.0;
+      keys_free = all_from _ keys (λ i has. not-true _ (test_has _ keys i t.1.1.1.0 has));
+      unreserved = not-true _ t.1.1.1.1.0;
+      few = t.1.1.1.1.1.0;
+      reals = t.1.1.1.1.1.1.0;
+      key_reals = all_from _ table.uniques (λ key has. test_has _ table.uniques key t.1.1.1.1.1.1.1.0 has);
+      formed = t.1.1.1.1.1.1.1.1.0;
+      fit = t.1.1.1.1.1.1.1.1.1.0;
+      short = t.1.1.1.1.1.1.1.1.1.1.0;
+      plain = not-true _ t.1.1.1.1.1.1.1.1.1.1.1.0;
+    }
 
 below : (a b : ℕ) → nat_lt a b ≡ true → b ≤ a → ⊥
 below a b less more = absurd (let low = ltb-true a b less in omega (arith, low, more))
@@ -124,111 +159,27 @@ module _ (before : Schema) (sql : List ℕ) (table : Table) (fits : Fits before 
 
 desk_fits : Fits schema_0 create_desk desk_table
 unfolding understood everything chars is_utf8 value_cmp fits_kind is_free_name begins listed_name lib.Utf8.encode lib.Ieee.is_nan lib.Ieee.lt
-desk_fits = record {
-  whole = (refl, refl, refl);
-  utf8 = refl;
-  named = refl;
-  free = refl;
-  keys_free = tt;
-  unreserved = refl;
-  few = refl;
-  reals = refl;
-  key_reals = tt;
-  formed = refl;
-  fit = refl;
-  short = refl;
-  plain = refl;
-}
+desk_fits = fits schema_0 create_desk desk_table (refl, refl, refl) refl
 
 panel_fits : Fits schema_1 create_panel panel_table
 unfolding understood everything chars is_utf8 value_cmp fits_kind is_free_name begins listed_name lib.Utf8.encode lib.Ieee.is_nan lib.Ieee.lt
-panel_fits = record {
-  whole = (refl, refl, refl);
-  utf8 = refl;
-  named = refl;
-  free = refl;
-  keys_free = (refl, tt);
-  unreserved = refl;
-  few = refl;
-  reals = refl;
-  key_reals = (refl, tt);
-  formed = refl;
-  fit = refl;
-  short = refl;
-  plain = refl;
-}
+panel_fits = fits schema_1 create_panel panel_table (refl, refl, refl) refl
 
 command_fits : Fits schema_2 create_command command_table
 unfolding understood everything chars is_utf8 value_cmp fits_kind is_free_name begins listed_name lib.Utf8.encode lib.Ieee.is_nan lib.Ieee.lt
-command_fits = record {
-  whole = (refl, refl, refl);
-  utf8 = refl;
-  named = refl;
-  free = refl;
-  keys_free = (refl, tt);
-  unreserved = refl;
-  few = refl;
-  reals = refl;
-  key_reals = (refl, tt);
-  formed = refl;
-  fit = refl;
-  short = refl;
-  plain = refl;
-}
+command_fits = fits schema_2 create_command command_table (refl, refl, refl) refl
 
 place_fits : Fits schema_3 create_place place_table
 unfolding understood everything chars is_utf8 value_cmp fits_kind is_free_name begins listed_name lib.Utf8.encode lib.Ieee.is_nan lib.Ieee.lt
-place_fits = record {
-  whole = (refl, refl, refl);
-  utf8 = refl;
-  named = refl;
-  free = refl;
-  keys_free = (refl, tt);
-  unreserved = refl;
-  few = refl;
-  reals = refl;
-  key_reals = (refl, tt);
-  formed = refl;
-  fit = refl;
-  short = refl;
-  plain = refl;
-}
+place_fits = fits schema_3 create_place place_table (refl, refl, refl) refl
 
 shown_fits : Fits schema_4 create_shown shown_table
 unfolding understood everything chars is_utf8 value_cmp fits_kind is_free_name begins listed_name lib.Utf8.encode lib.Ieee.is_nan lib.Ieee.lt
-shown_fits = record {
-  whole = (refl, refl, refl);
-  utf8 = refl;
-  named = refl;
-  free = refl;
-  keys_free = (refl, tt);
-  unreserved = refl;
-  few = refl;
-  reals = refl;
-  key_reals = (refl, tt);
-  formed = refl;
-  fit = refl;
-  short = refl;
-  plain = refl;
-}
+shown_fits = fits schema_4 create_shown shown_table (refl, refl, refl) refl
 
 imported_fits : Fits schema_5 create_imported imported_table
 unfolding understood everything chars is_utf8 value_cmp fits_kind is_free_name begins listed_name lib.Utf8.encode lib.Ieee.is_nan lib.Ieee.lt
-imported_fits = record {
-  whole = (refl, refl, refl);
-  utf8 = refl;
-  named = refl;
-  free = refl;
-  keys_free = (refl, tt);
-  unreserved = refl;
-  few = refl;
-  reals = refl;
-  key_reals = (refl, tt);
-  formed = refl;
-  fit = refl;
-  short = refl;
-  plain = refl;
-}
+imported_fits = fits schema_5 create_imported imported_table (refl, refl, refl) refl
 
 module _ (old new : State) (r : Result ℕ Error) where
   pub desk_fails : IsInside schema_0 old → (IsTrue old.in_transaction → ExecutesInside 0 create_desk [] old new r) → IfErr r (FailsFor old new)
