@@ -16,7 +16,7 @@ use Rattle.store_sql_rows.specs.Schema.{desk_schema, desk_tree}
 use Rattle.store_sql_rows.specs.Meanings.{shows}
 use Rattle.store_sql_rows.specs.Ours.{IsOne}
 use Rattle.store_sql_rows.proofs.AnswerLemmas.{plain_program}
-use Rattle.store_sql_rows.proofs.DeskTexts.{find_is, find_plain, find_sure, find_text, find_unlisted}
+use Rattle.store_sql_rows.proofs.DeskTexts.{find_is, find_sure, find_text}
 use Rattle.store_sql.specs.Asking.{IsAskable, Joins}
 use Rattle.store_sql.specs.Fitting.{AreNumbered, IsAlone, IsFitting}
 use Rattle.store_sql.specs.Own.{TellsOf}

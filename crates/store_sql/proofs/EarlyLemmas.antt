@@ -1,5 +1,5 @@
 -- What is left of the rows when the early ones of each panel are dropped.
-use Rattle.std.proofs.Common.{◌≡◌, ◌<◌, ◌+◌, ◌-◌, inl, inr, ℕ, zero, suc, Bool, true, false, ◌&&◌, cond, nat_lt, List, [], ◌∷◌, map, None, Option, ◌++◌, drop, length, get_or, add-one, drop-cons, refl, sym, ap, ◌∙◌, arith}
+use Rattle.std.proofs.Common.{◌≡◌, ◌<◌, ◌+◌, ◌-◌, inl, inr, ℕ, zero, suc, Bool, true, false, ◌&&◌, cond, nat_lt, List, [], ◌∷◌, map, None, Option, ◌++◌, drop, length, get_or, add-one, drop-cons, refl, sym, ap, subst, ◌∙◌, arith, Result, Ok, Err, IfOk}
 use Rattle.std.specs.List.{Contains}
 use Rattle.std.specs.Str.{bytes_eq}
 use Rattle.std.proofs.lemmas.Bool.{cases_Bool, le-ltb, lt-ltb, ltb-false, ltb-true}
@@ -7,13 +7,16 @@ use Rattle.std.proofs.lemmas.List.{append_assoc}
 use Rattle.std.proofs.lemmas.Slice.Eq.{bytes_eq-Decides}
 use Rattle.points.specs.declared.command_row.CommandRow.{CommandRow}
 use Rattle.points.specs.Run.{Rows}
-use Rattle.store.specs.declared.change.Change.{Change}
 use Rattle.store.specs.declared.change.RowsBelow.{RowsBelow}
-use Rattle.store.specs.Change.{with_change, with_each, with_imported, with_last_tick, with_next, with_place, with_row, with_shown, without_rows}
+use Rattle.store.specs.Change.{with_each, without_rows}
 use Rattle.store.specs.Listed.{AreTexts, HasPanel}
 use Rattle.store.specs.Tables.{Tables}
 use Rattle.points.specs.Texts.{Text}
-use Rattle.store_sql.specs.Opening.{DropsEarly, early_rows, without_early_rows}
+use Rattle.store_sql_rows.specs.Stored.{Kept, tables_in}
+use Rattle.store_sql_rows.specs.declared.read_fault.ReadFault.{ReadFault}
+use Rattle.store_sql.specs.Naming.{NamesStand}
+use Rattle.store_sql.specs.Opening.{DropsEarly, IsReadToDrop, early_rows}
+use Rattle.store_sql.proofs.WholeLemmas.{dropped as rows_gone}
 
 both_same : {A : Type 0} (b : Bool) (x : A) → cond b x x ≡ x
 both_same true x = refl
@@ -77,25 +80,18 @@ module _ (tables : Tables) (panels : List Text) (are : AreTexts (HasPanel tables
         late_stays tables.next panels tables.row p n late ∙ sym (rw high refl)
   ]
 
-  pub drops_early : (change : Change) → change.nexts.items ≡ [] → change.rows.items ≡ []
-      → change.dropped.items ≡ map (early_rows tables.next) panels → change.places.items ≡ [] → change.shown.items ≡ []
-      → change.imported.items ≡ [] → change.last_tick ≡ None → DropsEarly tables change
-  unfolding with_change
-  drops_early change nexts rows dropped places shown imported last = record {
-    makes =
-        let rows_are : with_each without_rows change.dropped.items (with_each with_row change.rows.items tables.row)
-        ≡ (without_early_rows tables).row =
-        ap (λ l. with_each without_rows change.dropped.items (with_each with_row l tables.row)) rows
-        ∙ ap (λ l. with_each without_rows l tables.row) dropped ∙ (λ i. λ p n. row_after p n i) in
-        λ i. record {
-          places = with_each with_place (places i) tables.places;
-          next = with_each with_next (nexts i) tables.next;
-          row = rows_are i;
-          shown = with_each with_shown (shown i) tables.shown;
-          imported = with_each with_imported (imported i) tables.imported;
-          last_tick = with_last_tick (last i) tables.last_tick;
-        };
-  }
+  pub drops_early : DropsEarly tables (map (early_rows tables.next) panels)
+  drops_early =
+      let dropped = map (early_rows tables.next) panels in
+      record { makes = rows_gone dropped tables ∙ (λ i. record tables { row = λ p n. row_after p n i }) }
+
+-- what was read of the panels is what is to be dropped
+pub early_reported : {V : Type 0} (kept : Kept) (panels : List Text) → AreTexts (HasPanel (tables_in kept)) panels → NamesStand kept
+    → (items : V → List RowsBelow) → (r : Result V ReadFault) → IfOk r (λ it. items it ≡ map (early_rows (tables_in kept).next) panels)
+    → IfOk r (λ it. IsReadToDrop kept (items it))
+early_reported kept panels are stand items (Ok it) read =
+    (subst (DropsEarly (tables_in kept)) (sym read) (drops_early (tables_in kept) panels are), stand)
+early_reported kept panels are stand items (Err fault) read = tt
 
 -- one panel more
 pub far_more : (next : Text → ℕ) (panels : List Text) (i : ℕ) (panel : Text) (dropped longer : List RowsBelow) → i < length panels

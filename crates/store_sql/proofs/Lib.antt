@@ -15,6 +15,7 @@ pub mod TableLemmas
 pub mod Texts
 pub mod TransactionLemmas
 pub mod VersionLemmas
+pub mod VersionFails
 pub mod WholeLemmas
 pub mod GoesLemmas
 pub mod ReadCells

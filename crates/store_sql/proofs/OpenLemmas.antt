@@ -1,5 +1,5 @@
 -- What the steps of an opening leave.
-use Rattle.std.proofs.Common.{◌≡◌, inl, inr, ℕ, Bool, true, None, true≢false, List, ◌∷◌, Some, Ok, Err, Result, ℤ, slice_get, ◌⊎◌, pos, IsTrue, refl, sym, ap, subst, ◌∙◌, IfErr, IfOk, false, []}
+use Rattle.std.proofs.Common.{◌≡◌, inl, inr, ℕ, Bool, true, None, true≢false, List, ◌∷◌, Some, Ok, Err, Result, ℤ, slice_get, ◌⊎◌, pos, IsTrue, refl, sym, ap, subst, ◌∙◌, IfErr, IfOk, []}
 use Rattle.std.specs.Result.{result_err}
 use Rattle.sqlite_value.specs.Order.{Row, column}
 use Rattle.sqlite.specs.declared.error.Error.{Error}

@@ -1,13 +1,15 @@
 -- Reads one after the other.
-use Rattle.std.proofs.Common.{◌≡◌, ◌≤◌, inl, inr, refl, sym, ◌∙◌, subst, arith, IsTrue, true≢false, Result, Ok, Err, Some, None, IfOk, Option}
+use Rattle.std.proofs.Common.{◌≡◌, ◌≤◌, inl, inr, refl, sym, ap, ◌∙◌, subst, arith, IsTrue, true≢false, Result, Ok, Err, Some, None, IfErr, IfOk, IfSome, Option}
 use Rattle.std.specs.Result.{result_err}
+use Rattle.sqlite_trees.specs.Tree.{Trees}
 use Rattle.sqlite_trees.specs.View.{doubt}
 use Rattle.sqlite.specs.State.{HasCleanDisk, IsUnchanged, State, Survives}
 use Rattle.sqlite.proofs.StateLemmas.{survives_then}
 use Rattle.store_sql_rows.specs.Looking.{Reads}
 use Rattle.store_sql_rows.specs.Ours.{IsOurs, kept_in}
 use Rattle.store_sql_rows.specs.Stored.{Kept}
-use Rattle.store_sql.specs.Leaving.{Answers, Asks, HasRead, Sees, is_sql}
+use Rattle.store_sql_rows.proofs.FailLemmas.{fails_later}
+use Rattle.store_sql.specs.Leaving.{Answers, Asks, FailsToRead, HasRead, IsOwnFault, Sees, out_of_memory}
 use Rattle.store_sql_rows.specs.declared.read_fault.ReadFault.{ReadFault}
 use Rattle.store_sql_rows.specs.declared.read_fault.ReadFault.TheVariants.{BadRow, Sql}
 
@@ -20,6 +22,23 @@ sees_then a b c one two = record { now = two.now ∙ one.now; committed = two.co
 
 pub clean_before : (old new : State) → doubt old.is_clean ≤ doubt new.is_clean → HasCleanDisk new → HasCleanDisk old
 clean_before old new less clean = omega (arith, less, clean)
+
+-- a fault's cause, after calls that only kept what there was
+pub fault_later : (a b c : State) (P Q : Trees → Type 0) (fault : Option ReadFault) → Survives a b P → Survives b c Q → HasCleanDisk c
+    → IfSome fault (FailsToRead b c) → IfSome fault (FailsToRead a c)
+fault_later a b c P Q None one two clean fails = tt
+fault_later a b c P Q (Some BadRow) one two clean fails = tt
+fault_later a b c P Q (Some (Sql e)) one two clean fails = fails_later a b c P Q e one two clean fails
+
+-- a fault of its own has its cause
+pub own_cause : {A : Type 0} (old new : State) (r : Result A ReadFault) → IfErr r IsOwnFault → IfSome (result_err r) (FailsToRead old new)
+own_cause old new (Ok x) own = tt
+own_cause old new (Err fault) (inl bad) = subst (FailsToRead old new) (sym bad) tt
+own_cause old new (Err fault) (inr memory) = subst (FailsToRead old new) (sym memory) (record { cause = inl refl })
+
+pub bad_only : {A : Type 0} (r : Result A ReadFault) → IfErr r (λ fault. fault ≡ BadRow) → IfErr r IsOwnFault
+bad_only (Ok x) bad = tt
+bad_only (Err fault) bad = inl bad
 
 pub read_none : (Known : Kept → Type 0) (s : State) → (HasCleanDisk s → IsOurs s.now → Known (kept_in s.now.trees)) → HasRead Known s s
 read_none Known s known = record {
@@ -71,7 +90,7 @@ module _ {A : Type 0} {Known : Kept → Type 0} {Tells : Kept → A → Type 0} 
       (λ clean db never ours. never (ours_mid two clean ours)) one.survives two.survives
 
   asks_both : {r : Result A ReadFault} → Answers Tells Worse b c r → HasCleanDisk c → IsOurs a.now → Asks (result_err r) a c
-  asks_both two clean ours =
+  asks_both {r} two clean ours =
       let before = saw two clean ours in
       let asked = two.asks clean (ours_mid two clean ours) in
       record {
@@ -82,6 +101,7 @@ module _ {A : Type 0} {Known : Kept → Type 0} {Tells : Kept → A → Type 0} 
               asked.rests.same (before.now ∙ alike ∙ sym before.committed) stands in (left.0 ∙ before.now, left.1 ∙ before.committed);
         };
         same = elim asked.same [ inl refused ↦ inl refused | inr sees ↦ inr (sees_then a b c before sees) ];
+        cause = fault_later a b c _ _ (result_err r) one.survives two.survives clean asked.cause;
       }
 
   value_both : {r : Result A ReadFault} → Answers Tells Worse b c r → HasCleanDisk c → IsOurs a.now → IfOk r (Tells (kept_in a.now.trees))
@@ -130,13 +150,14 @@ module _ {A : Type 0} {Known : Kept → Type 0} {Tells : Kept → A → Type 0} 
   })
 
 -- reads that were answered leave what a fault of another kind leaves
-asks_reported : {Known : Kept → Type 0} {a b : State} → HasRead Known a b → (fault : Option ReadFault) → HasCleanDisk b → IsOurs a.now
-    → Asks fault a b
-asks_reported one fault clean ours =
+pub asks_reported : {Known : Kept → Type 0} {a b : State} → HasRead Known a b → (fault : Option ReadFault) → IfSome fault (FailsToRead a b)
+    → HasCleanDisk b → IsOurs a.now → Asks fault a b
+asks_reported one fault cause clean ours =
     let saw = one.sees clean ours in
     record {
       rests = record { was_open = λ stands. subst IsTrue saw.is_open stands; same = λ alike stands. (saw.now, saw.committed) };
       same = inr saw;
+      cause = cause;
     }
 
 module _ {A : Type 0} {Holds : Kept → A → Type 0} {Broken : Kept → Type 0} {Known : Kept → Type 0} {a b : State} (one : HasRead Known a b) where
@@ -144,7 +165,7 @@ module _ {A : Type 0} {Holds : Kept → A → Type 0} {Broken : Kept → Type 0}
   pub answers_ok : {x : A} → (IsOurs a.now → Known (kept_in a.now.trees) → Holds (kept_in a.now.trees) x) → Answers Holds Broken a b (Ok x)
   answers_ok holds = record {
     mode = one.mode;
-    asks = asks_reported one None;
+    asks = asks_reported one None tt;
     value = λ clean ours. holds ours (one.known clean ours);
     bad = λ clean ours is. absurd (let same = is in cc);
     survives = one.survives;
@@ -154,30 +175,29 @@ module _ {A : Type 0} {Holds : Kept → A → Type 0} {Broken : Kept → Type 0}
   pub answers_bad : (IsOurs a.now → Known (kept_in a.now.trees) → Broken (kept_in a.now.trees)) → Answers Holds Broken a b (Err BadRow)
   answers_bad broken = record {
     mode = one.mode;
-    asks = asks_reported one (Some BadRow);
+    asks = asks_reported one (Some BadRow) tt;
     value = λ _ _. tt;
     bad = λ clean ours _. broken ours (one.known clean ours);
     survives = one.survives;
   }
 
-  -- memory was refused after it
-  pub answers_failed : {fault : ReadFault} {result : Result A ReadFault} → IsTrue (is_sql (Some fault)) → result ≡ Err fault
-      → Answers Holds Broken a b result
-  answers_failed {fault = Sql e} failed is_fault = subst (Answers Holds Broken a b) (sym is_fault) (record {
-    mode = one.mode;
-    asks = asks_reported one (Some (Sql e));
-    value = λ _ _. tt;
-    bad = λ clean ours is. absurd (let same = is in cc);
-    survives = one.survives;
-  })
-  answers_failed {fault = BadRow} failed is_fault = absurd (true≢false (sym failed))
-
   -- what is made of it
-  pub answers_made : {r : Result A ReadFault} → (IsOurs a.now → Known (kept_in a.now.trees) → IfOk r (Holds (kept_in a.now.trees)))
+  pub answers_made : {r : Result A ReadFault} → IfErr r IsOwnFault → (IsOurs a.now → Known (kept_in a.now.trees) → IfOk r (Holds (kept_in a.now.trees)))
       → (IsOurs a.now → Known (kept_in a.now.trees) → r ≡ Err BadRow → Broken (kept_in a.now.trees)) → Answers Holds Broken a b r
-  answers_made {r = Ok x} holds broken = answers_ok holds
-  answers_made {r = Err (Sql e)} holds broken = answers_failed refl refl
-  answers_made {r = Err BadRow} holds broken = answers_bad (λ ours known. broken ours known refl)
+  answers_made {r} own holds broken = record {
+    mode = one.mode;
+    asks = asks_reported one (result_err r) (own_cause a b r own);
+    value = λ clean ours. holds ours (one.known clean ours);
+    bad = λ clean ours is. broken ours (one.known clean ours) is;
+    survives = one.survives;
+  }
+
+  -- memory was refused after it
+  pub answers_failed : {fault : ReadFault} {result : Result A ReadFault} → fault ≡ out_of_memory → result ≡ Err fault
+      → Answers Holds Broken a b result
+  answers_failed memory is_fault =
+      subst (Answers Holds Broken a b) (sym (is_fault ∙ ap Err memory))
+      (answers_made (inr refl) (λ _ _. tt) (λ _ _ is. absurd (let same = is in cc)))
 
 -- one read, of which less is said
 pub answers_as : {A : Type 0} {Tells Holds : Kept → A → Type 0} {Worse Broken : Kept → Type 0} {a b : State} {r : Result A ReadFault}
@@ -215,12 +235,12 @@ refused_first {Holds} {Broken} {a} {b} one broken is_fault = subst (Answers Hold
 
 -- what is made of reads, where each row that was asked for can stand
 pub answers_sound : {A : Type 0} {Holds : Kept → A → Type 0} {Sound Broken Known : Kept → Type 0} {a b : State} {r : Result A ReadFault}
-    → HasRead Known a b → (IsOurs a.now → Known (kept_in a.now.trees) → IfOk r (Holds (kept_in a.now.trees)))
+    → HasRead Known a b → IfErr r IsOwnFault → (IsOurs a.now → Known (kept_in a.now.trees) → IfOk r (Holds (kept_in a.now.trees)))
     → (IsOurs a.now → Known (kept_in a.now.trees) → IfOk r (λ _. Sound (kept_in a.now.trees)))
     → (IsOurs a.now → Known (kept_in a.now.trees) → r ≡ Err BadRow → Broken (kept_in a.now.trees))
     → Answers (λ kept it. Holds kept it × Sound kept) Broken a b r
-answers_sound {A} {Holds} {Sound} {a} {r} one holds sound broken =
-    answers_made one (λ ours known. both r (Holds (kept_in a.now.trees)) (Sound (kept_in a.now.trees)) (holds ours known) (sound ours known)) broken
+answers_sound {A} {Holds} {Sound} {a} {r} one own holds sound broken =
+    answers_made one own (λ ours known. both r (Holds (kept_in a.now.trees)) (Sound (kept_in a.now.trees)) (holds ours known) (sound ours known)) broken
   where
     both : (r : Result A ReadFault) (P : A → Type 0) (Q : Type 0) → IfOk r P → IfOk r (λ _. Q) → IfOk r (λ x. P x × Q)
     both (Ok x) P Q p q = (p, q)

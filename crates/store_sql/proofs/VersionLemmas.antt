@@ -41,10 +41,13 @@ cast_same (Real x) is = absurd (true≢false (sym is))
 cast_same (Text s) is = absurd (true≢false (sym is))
 cast_same (Blob b) is = absurd (true≢false (sym is))
 
-last_kept : (db : Database) → IsOurs db → (row : Row) → db.trees desk_tree ≡ row ∷ [] → cast Integer (column row 3) ≡ column row 3
-last_kept db ours row one =
+pub last_typed : (db : Database) → IsOurs db → (row : Row) → db.trees desk_tree ≡ row ∷ [] → is_of Integer (column row 3) ≡ true
+last_typed db ours row one =
     let typed = all_has _ (db.trees desk_tree) row (ruled Datatype db ours).0 (subst (λ l. Has l row) (sym one) (inl refl)) in
-    cast_same (column row 3) (typed_last row (and_parts _ _ typed).0)
+    typed_last row (and_parts _ _ typed).0
+
+pub last_kept : (db : Database) → IsOurs db → (row : Row) → db.trees desk_tree ≡ row ∷ [] → cast Integer (column row 3) ≡ column row 3
+last_kept db ours row one = cast_same (column row 3) (last_typed db ours row one)
 
 -- ---- the row of `desk` after the statement
 

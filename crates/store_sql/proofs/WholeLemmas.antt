@@ -19,7 +19,7 @@ rows : (items : List KeptRow) (t : Tables) → with_each row_put items t ≡ rec
 rows [] t = refl
 rows (item ∷ items) t = rows items (row_put item t)
 
-dropped : (items : List RowsBelow) (t : Tables) → with_each rows_dropped items t ≡ record t { row = with_each without_rows items t.row }
+pub dropped : (items : List RowsBelow) (t : Tables) → with_each rows_dropped items t ≡ record t { row = with_each without_rows items t.row }
 dropped [] t = refl
 dropped (item ∷ items) t = dropped items (rows_dropped item t)
 

@@ -3,9 +3,8 @@ use Rattle.std.specs.Prelude.{◌≡◌, ◌↔◌, ◌⊎◌, ℕ, ◌+◌, ◌
 use Rattle.sqlite_trees.specs.Tree.{Trees}
 use Rattle.sqlite_value.specs.Order.{Row, column}
 use Rattle.sqlite.specs.State.{State}
-use Rattle.store.specs.declared.change.Change.{Change}
 use Rattle.store.specs.declared.change.RowsBelow.{RowsBelow}
-use Rattle.store.specs.Change.{with_change}
+use Rattle.store.specs.Change.{with_each}
 use Rattle.store.specs.Standing.{sound}
 use Rattle.store.specs.Tables.{Tables, no_tables}
 use Rattle.points.specs.Texts.{Text}
@@ -16,7 +15,7 @@ use Rattle.store_sql_rows.specs.declared.read_fault.ReadFault.{ReadFault}
 use Rattle.store_sql_rows.specs.declared.read_fault.ReadFault.TheVariants as read
 use Rattle.store_sql_rows.specs.Schema.{desk_schema, desk_tree, schema_0}
 use Rattle.store_sql_rows.specs.Ours.{AreOurs, IsOurs, Makes, content_of, kept_in}
-use Rattle.store_sql_rows.specs.Steps.{Turns}
+use Rattle.store_sql_rows.specs.Steps.{Turns, rows_dropped}
 use Rattle.store_sql_rows.specs.Stored.{Kept, tables_in}
 use Rattle.store_sql.specs.Fitting.{IsFitting}
 use Rattle.store_sql.specs.declared.refusal.Refusal.{Refusal}
@@ -129,11 +128,6 @@ is_sql (Sql error) = true
 is_sql NotOurs = false
 is_sql BadRow = false
 
--- a read failed for a cause, or a row cannot stand
-abbrev pub FailsToRead : State → State → ReadFault → Type 0
-FailsToRead old new (read.Sql error) = FailsFor old new error
-FailsToRead old new read.BadRow = ⊤
-
 -- where it refused or failed it had a cause
 abbrev pub IsCaused : State → State → Refusal → Type 0
 IsCaused old new (Sql error) = FailsFor old new error
@@ -155,25 +149,25 @@ pub record SetsVersion (old new : State) : Type 0 where
   pub turns : Turns (λ tables. tables) old new
   pub version : version_of new.now.trees ≡ Some (pos 2)
 
--- in a transaction the change is made, and the row of `desk` tells version 2
-pub record Raises (change : Change) (old new : State) : Type 0 where
-  pub turns : Turns (with_change change) old new
+-- in a transaction the rows are dropped, and the row of `desk` tells version 2
+pub record Raises (dropped : List RowsBelow) (old new : State) : Type 0 where
+  pub turns : Turns (with_each rows_dropped dropped) old new
   pub version : version_of new.now.trees ≡ Some (pos 2)
 
--- trees with the change, whose row of `desk` tells version 2
-pub record IsChangedBy (change : Change) (old new : Trees) : Type 0 where
-  pub makes : Makes (with_change change) (kept_in old) (kept_in new)
+-- trees without the rows, whose row of `desk` tells version 2
+pub record IsChangedBy (dropped : List RowsBelow) (old new : Trees) : Type 0 where
+  pub makes : Makes (with_each rows_dropped dropped) (kept_in old) (kept_in new)
   pub version : version_of new ≡ Some (pos 2)
 
--- the change and the version are committed
-pub record IsWritten (change : Change) (old new : State) : Type 0 where
+-- the drop and the version are committed
+pub record IsWritten (dropped : List RowsBelow) (old new : State) : Type 0 where
   pub stands : Stands new
-  pub changed : IsChangedBy change old.now.trees new.now.trees
+  pub changed : IsChangedBy dropped old.now.trees new.now.trees
 
--- the change drops the early rows, and changes nothing else
-pub record DropsEarly (tables : Tables) (change : Change) : Type 0 where
-  pub makes : with_change change tables ≡ without_early_rows tables
+-- the early rows are dropped, and nothing else is changed
+pub record DropsEarly (tables : Tables) (dropped : List RowsBelow) : Type 0 where
+  pub makes : with_each rows_dropped dropped tables ≡ without_early_rows tables
 
--- so it does, and each name and next number in the tables can stand
-abbrev pub IsReadToDrop : Kept → Change → Type 0
-IsReadToDrop kept change = DropsEarly (tables_in kept) change × NamesStand kept
+-- so it is, and each name and next number in the tables can stand
+abbrev pub IsReadToDrop : Kept → List RowsBelow → Type 0
+IsReadToDrop kept dropped = DropsEarly (tables_in kept) dropped × NamesStand kept

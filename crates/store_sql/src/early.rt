@@ -1,13 +1,8 @@
 //! The rows that the tables of the first version keep and those of the second do not.
-ghost use Rattle.std.specs.Prelude.{◌≡◌, ◌++◌, false, Err, IfErr, IfOk, IsTrue, OnOk, Some, [], ◌∷◌, map};
-ghost use Rattle.std.specs.Result.{result_err};
+ghost use Rattle.std.specs.Prelude.{◌≡◌, ◌++◌, false, IfErr, OnOk, [], ◌∷◌, map};
 ghost use Rattle.sqlite.specs.Held.{state};
-ghost use Rattle.sqlite.specs.State.{HasCleanDisk, Survives};
-ghost use Rattle.store_sql_rows.specs.Ours.{IsOurs, kept_in};
-ghost use Rattle.store_sql.specs.Leaving.{Answers, is_sql};
-ghost use Rattle.store.specs.Change.{CanStand};
+ghost use Rattle.store_sql.specs.Leaving.{Answers, out_of_memory};
 ghost use Rattle.store_sql_rows.specs.Stored.{is_sound_in, tables_in};
-ghost use Rattle.store_sql_rows.specs.declared.read_fault.ReadFault.TheVariants.{BadRow};
 ghost use Rattle.store_sql.specs.Opening.{IsReadToDrop, early_rows};
 
 use crate::finding::next_of;
@@ -15,7 +10,7 @@ use crate::names::names_of;
 use points::Name;
 use sqlite::{Alter, Connection, Error, ErrorCode};
 use std::alloc::Global;
-use store::{Change, RowsBelow};
+use store::RowsBelow;
 use store_sql_rows::{ReadFault, RowNumbers};
 
 // How many numbers below a panel's next one keep their rows.
@@ -24,7 +19,7 @@ const KEPT: u64 = 1_000;
 // Puts an item at the end of a list.
 fn push(list: &mut Vec<RowsBelow>, item: RowsBelow) -> Result<(), ReadFault>
     ensures items { OnOk result (list.new.items ≡ list.old.items ++ item ∷ []) }
-    ensures fault { IfErr result (λ fault. IsTrue (is_sql (Some fault))) }
+    ensures fault { IfErr result (λ fault. fault ≡ out_of_memory) }
 {
     match list.push(item) {
         Ok(()) => Ok(()),
@@ -56,19 +51,15 @@ fn early_of<S: Alter>(
     Ok(dropped)
 }
 
-/// The change that drops the early rows of each panel. Each name in the tables has to be one, and each next number one
-/// that can stand.
-pub fn dropping<S: Alter>(
+/// The early rows of each panel. Each name in the tables has to be one, and each next number one that can stand.
+pub fn rows_to_drop<S: Alter>(
     alloc: Global,
     connection: &mut Connection<S>,
-) -> Result<Change, ReadFault>
-    ensures stands { IfOk result (λ it. CanStand it) }
-    ensures answers { Answers (λ kept. IsReadToDrop kept)
+) -> Result<Vec<RowsBelow>, ReadFault>
+    ensures answers { Answers (λ kept it. IsReadToDrop kept it.items)
         (λ kept. is_sound_in kept ≡ false) (state S.Store connection.old) (state S.Store connection.new) result }
 {
     let mut numbers = RowNumbers::new(alloc);
     let names = names_of(alloc, connection, &mut numbers)?;
-    let mut change = Change::new(alloc);
-    change.dropped = early_of(alloc, connection, &mut numbers, &names.panels)?;
-    Ok(change)
+    early_of(alloc, connection, &mut numbers, &names.panels)
 }

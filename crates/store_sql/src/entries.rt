@@ -9,7 +9,7 @@ ghost use Rattle.store_sql_rows.specs.Broken.{cannot_stand_in};
 ghost use Rattle.store.specs.Asked.Asked.{EntriesOf};
 ghost use Rattle.store_sql_rows.specs.Looking.{Finds, FindsLeast, is_from_text};
 ghost use Rattle.store_sql_rows.specs.Ours.{IsOurs, kept_in};
-ghost use Rattle.store_sql.specs.Leaving.{Answers};
+ghost use Rattle.store_sql.specs.Leaving.{Answers, IsOwnFault};
 ghost use Rattle.dates.specs.Entry.{spelling};
 ghost use Rattle.store.specs.Listed.{AreEntries, AreTexts};
 ghost use Rattle.store_sql_rows.specs.Cells.{is_text};
@@ -79,6 +79,7 @@ fn parsed_entries(alloc: Global, calendar: &Name, rows: Vec<Row>) -> Result<Vec<
     ensures stood { (kept : Kept)
         → Finds (λ row. is_text calendar.now (column row 1)) (λ row. column row 2 ∷ []) kept.imported rows.items
         → IfOk result (λ _. cannot_stand_in kept (EntriesOf calendar.now) ≡ false) }
+    ensures fault { IfErr result IsOwnFault }
 {
     // What is asked for is a name, as a row's own has to be.
     let _name = calendar.as_str();

@@ -1,5 +1,5 @@
 //! The names that stand in the tables.
-ghost use Rattle.std.specs.Prelude.{◌≡◌, ◌⊎◌, ◌++◌, [], ◌∷◌, false, true, if◌then◌else◌, Err, IfErr, IfOk, IsTrue, OnOk, Some, string_bytes};
+ghost use Rattle.std.specs.Prelude.{◌≡◌, ◌⊎◌, ◌++◌, [], ◌∷◌, false, true, if◌then◌else◌, Err, IfErr, IfOk, OnOk, Some, string_bytes};
 ghost use Rattle.std.specs.FinMap.{empty};
 ghost use Rattle.std.specs.Result.{result_err};
 ghost use Rattle.sqlite.specs.Held.{state};
@@ -9,7 +9,7 @@ ghost use Rattle.store_sql_rows.specs.Broken.{cannot_stand_in};
 ghost use Rattle.store_sql_rows.specs.Looking.{Finds};
 ghost use Rattle.store_sql_rows.specs.Ours.{IsOurs, kept_in};
 ghost use Rattle.store_sql_rows.specs.Rows.{of_lower_command};
-ghost use Rattle.store_sql.specs.Leaving.{Answers, is_sql};
+ghost use Rattle.store_sql.specs.Leaving.{Answers, out_of_memory};
 ghost use Rattle.store.specs.Asked.{IsSomeBroken};
 ghost use Rattle.store.specs.Asked.Asked.{AnyName, NextOf};
 ghost use Rattle.store.specs.Listed.{AreNames, HasCalendar, HasPanel, HasPoint, HasSchedule};
@@ -203,7 +203,7 @@ fn next_in<S: Alter>(
 // Puts a name that stands at the end of a list.
 fn push_if(names: &mut Vec<Name>, name: Name, stands: bool) -> Result<(), ReadFault>
     ensures items { OnOk result (names.new.items ≡ (if stands then names.old.items ++ name ∷ [] else names.old.items)) }
-    ensures fault { IfErr result (λ fault. IsTrue (is_sql (Some fault))) }
+    ensures fault { IfErr result (λ fault. fault ≡ out_of_memory) }
 {
     if stands { push(names, name) } else { Ok(()) }
 }

@@ -1,13 +1,12 @@
 //! A panel's rows by their numbers, as one query answers them.
 ghost use Rattle.std.specs.Prelude.{◌≡◌, ◌≤◌, ◌<◌, ◌++◌, ◌∷◌, [], IfErr, IfNone, IfOk, IfSome, List, None, OnOk, Some, ℕ, IsSome, cond, ◌==◌};
 ghost use Rattle.std.specs.BTreeMap.{get};
-ghost use Rattle.std.specs.Bool.{IsTrue};
 ghost use Rattle.std.specs.Ordering.{nat_cmp};
 ghost use Rattle.points.specs.declared.numbered_row.TheConstants.{LAST_NUMBER};
 ghost use Rattle.points.specs.Run.{IsRun};
 ghost use Rattle.sqlite_value.specs.Order.{Row as Cells, column};
 ghost use Rattle.store.specs.Asked.{IsBrokenRun};
-ghost use Rattle.store_sql.specs.Leaving.{is_sql};
+ghost use Rattle.store_sql.specs.Leaving.{IsOwnFault, out_of_memory};
 ghost use Rattle.store_sql.specs.Numbered.{AreSaid, HasNumbers, IsListed};
 ghost use Rattle.store_sql.specs.Stepping.{GoesOn, HaveStood, IsBrokenNext};
 ghost use Rattle.store_sql_rows.specs.Broken.{cannot_stand_in};
@@ -53,7 +52,7 @@ fn add(numbered: &mut Numbered, row: &Row) -> Result<(), AllocError>
 pub fn by_number(alloc: Global, rows: &[Row]) -> Result<Numbered, ReadFault>
     ensures said { IfOk result (AreSaid rows.now) }
     ensures numbers { IfOk result HasNumbers }
-    ensures fault { IfErr result (λ fault. IsTrue (is_sql (Some fault))) }
+    ensures fault { IfErr result (λ fault. fault ≡ out_of_memory) }
 {
     let mut numbered = BTreeMap::new(alloc);
     for row in rows {
@@ -117,6 +116,7 @@ pub fn run_in(
     ensures bad { (kept : Kept) (panel : List ℕ) (least gap : ℕ) → IsListed kept panel least upto gap numbered.now → from ≤ gap
         → ((n : ℕ) → from ≤ n → 1 ≤ n → least ≤ n)
         → IfErr result (λ fault. fault ≡ BadRow → IsBrokenRun (cannot_stand_in kept) ((tables_in kept).row panel) panel from upto) }
+    ensures fault { IfErr result IsOwnFault }
 {
     let mut run = Vec::new(alloc);
     let mut number = from;

@@ -9,7 +9,7 @@ ghost use Rattle.sqlite_value.specs.Order.{column};
 ghost use Rattle.store_sql_rows.specs.Broken.{cannot_stand_in};
 ghost use Rattle.store_sql_rows.specs.Looking.{FindsLeast, FindsRun, is_from};
 ghost use Rattle.store_sql_rows.specs.Ours.{IsOurs, kept_in};
-ghost use Rattle.store_sql.specs.Leaving.{Answers, is_sql};
+ghost use Rattle.store_sql.specs.Leaving.{Answers, is_sql, out_of_memory};
 ghost use Rattle.store_sql_rows.specs.Cells.{is_text};
 ghost use Rattle.store_sql_rows.specs.declared.read_fault.ReadFault.TheVariants.{BadRow};
 ghost use Rattle.store_sql_rows.specs.Stored.{Kept, tables_in};
@@ -140,7 +140,7 @@ fn parsed_run(
         (λ row. column row 2 ∷ column row 3 ∷ column row 4 ∷ column row 5 ∷ column row 6 ∷ column row 7 ∷ column row 8 ∷ [])
         from upto kept.command rows.items
         → IfOk result (λ numbered. (gap : ℕ) × IsListed kept panel.now from upto gap numbered) }
-    ensures fault { IfErr result (λ fault. IsTrue (is_sql (Some fault))) }
+    ensures fault { IfErr result (λ fault. fault ≡ out_of_memory) }
 {
     // What is asked for is a name, as a row's own has to be.
     let _name = panel.as_str();

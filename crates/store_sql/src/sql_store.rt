@@ -1,9 +1,9 @@
 //! A store in a database of SQLite.
-ghost use Rattle.std.specs.Prelude.{◌≡◌, ◌↔◌, ◌⊎◌, IfErr, IfOk, IsTrue, Some, false, pos};
+ghost use Rattle.std.specs.Prelude.{◌≡◌, ◌↔◌, ◌⊎◌, IfErr, IfOk, IsTrue, false};
 ghost use Rattle.sqlite.specs.Held.{state};
 ghost use Rattle.sqlite.specs.State.{HasCleanDisk};
 ghost use Rattle.store_sql_rows.specs.Creating.{IsAsBefore};
-ghost use Rattle.store_sql.specs.Opening.{IsBare, IsKnown, version_of};
+ghost use Rattle.store_sql.specs.Opening.{IsBare, IsKnown};
 ghost use Rattle.store.specs.Tables.{no_tables};
 ghost use Rattle.store.specs.Standing.{sound};
 ghost use Rattle.store_sql.specs.Opened.{HasCause, IsFaultOfNone, IsFaultOver, IsOpened, SurvivesMaking, SurvivesTaking, left_by};
@@ -106,8 +106,7 @@ impl<S: Alter + Drop> SqlStore<S> {
         ensures open { IfOk result (λ store. ((standing_of S.Store store).is_shut ≡ false) × ((standing_of S.Store store).failures ≡ 0)) }
         ensures unchanged { IfErr result (λ refused. HasCleanDisk (state S.Store refused.1)
             → IsTrue (state S.Store refused.1).is_open → IsAsBefore (state S.Store connection) (state S.Store refused.1)) }
-        ensures cause { (version_of (state S.Store connection).committed.trees ≡ Some (pos 1) → ⊥)
-            → IfErr result (λ refused. HasCleanDisk (state S.Store refused.1)
+        ensures cause { IfErr result (λ refused. HasCleanDisk (state S.Store refused.1)
             → HasCause (state S.Store connection) (state S.Store refused.1) refused.0) }
         ensures known { IsKnown (state S.Store connection)
             → IfErr result (λ refused. HasCleanDisk (state S.Store refused.1) → IsFaultOver (state S.Store connection) refused.0) }
@@ -136,8 +135,7 @@ impl<S: Alter + Drop> SqlStore<S> {
         ensures open { IfOk result (λ store. ((standing_of S.Store store).is_shut ≡ false) × ((standing_of S.Store store).failures ≡ 0)) }
         ensures unchanged { IfErr result (λ refused. HasCleanDisk (state S.Store refused.1)
             → IsTrue (state S.Store refused.1).is_open → IsAsBefore (state S.Store connection) (state S.Store refused.1)) }
-        ensures cause { (version_of (state S.Store connection).committed.trees ≡ Some (pos 1) → ⊥)
-            → IfErr result (λ refused. HasCleanDisk (state S.Store refused.1)
+        ensures cause { IfErr result (λ refused. HasCleanDisk (state S.Store refused.1)
             → HasCause (state S.Store connection) (state S.Store refused.1) refused.0) }
         ensures unmade { IsBare (state S.Store connection)
             → IfErr result (λ refused. (refused.0 ≡ NoMemory) ⊎ (refused.0 ≡ Failed)) }

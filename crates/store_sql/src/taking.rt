@@ -1,15 +1,15 @@
 //! A database that has the six tables.
-ghost use Rattle.std.specs.Prelude.{◌≡◌, ◌↔◌, ◌⊎◌, IfErr, IfOk, IsTrue, OnErr, OnOk, Some, false, pos};
+ghost use Rattle.std.specs.Prelude.{◌≡◌, ◌↔◌, ◌⊎◌, IfErr, IfOk, IsTrue, OnErr, OnOk, false};
 ghost use Rattle.sqlite.specs.Held.{state};
 ghost use Rattle.sqlite.specs.State.{HasCleanDisk, IsUnchanged, Survives};
 ghost use Rattle.store_sql_rows.specs.Creating.{IsAsBefore};
 ghost use Rattle.store_sql_rows.specs.Failing.{FailsFor};
 ghost use Rattle.store_sql_rows.specs.Looking.{Rests};
 ghost use Rattle.store_sql_rows.specs.Schema.{desk_schema};
-ghost use Rattle.store_sql.specs.Opening.{IsCaused, IsFaultOf, IsFirst, IsFound, IsJudged, IsKnown, IsMigrated, IsRaised, IsSettled, IsShaped, IsTaken, as_version, is_sql, version_of};
+ghost use Rattle.store_sql.specs.Opening.{IsCaused, IsFaultOf, IsFirst, IsFound, IsJudged, IsKnown, IsMigrated, IsRaised, IsSettled, IsShaped, IsTaken, as_version, is_sql};
 ghost use Rattle.store_sql.specs.declared.refusal.Refusal.TheVariants.{NotOurs};
 
-use crate::early::dropping;
+use crate::early::rows_to_drop;
 use crate::own_rows::are_own;
 use crate::raising::commit_raised;
 use crate::refusal::Refusal;
@@ -108,12 +108,14 @@ fn migrate<S: Alter>(alloc: Global, connection: &mut Connection<S>) -> Result<()
     ensures kept { HasCleanDisk (state S.Store connection.new) → IsFirst (state S.Store connection.old)
         → IsTrue (state S.Store connection.new).is_open
         → OnErr result (IsAsBefore (state S.Store connection.old) (state S.Store connection.new)) }
+    ensures cause { HasCleanDisk (state S.Store connection.new) → IsFirst (state S.Store connection.old)
+        → IfErr result (IsCaused (state S.Store connection.old) (state S.Store connection.new)) }
     ensures survives { Survives (state S.Store connection.old) (state S.Store connection.new) (λ trees. IsFirst
         (state S.Store connection.old)
         → IsRaised (state S.Store connection.old).committed.trees trees) }
 {
-    let change = dropping(alloc, connection)?;
-    commit_raised(alloc, connection, &change)?;
+    let dropped = rows_to_drop(alloc, connection)?;
+    commit_raised(connection, &dropped)?;
     Ok(())
 }
 
@@ -133,7 +135,6 @@ pub fn take<S: Alter>(alloc: Global, connection: &mut Connection<S>) -> Result<(
     ensures kept { HasCleanDisk (state S.Store connection.new) → IsTrue (state S.Store connection.new).is_open
         → OnErr result (IsAsBefore (state S.Store connection.old) (state S.Store connection.new)) }
     ensures cause { HasCleanDisk (state S.Store connection.new)
-        → (version_of (state S.Store connection.old).committed.trees ≡ Some (pos 1) → ⊥)
         → IfErr result (IsCaused (state S.Store connection.old) (state S.Store connection.new)) }
     ensures survives { Survives (state S.Store connection.old) (state S.Store connection.new)
         (λ trees. IsRaised (state S.Store connection.old).committed.trees trees) }

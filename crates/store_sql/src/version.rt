@@ -7,7 +7,7 @@ ghost use Rattle.sqlite_value.specs.Order.{Row as Cells, column};
 ghost use Rattle.store_sql_rows.specs.Looking.{Finds};
 ghost use Rattle.store_sql_rows.specs.Ours.{IsOne, IsOurs};
 ghost use Rattle.store_sql.specs.Leaving.{Asks};
-ghost use Rattle.store_sql.specs.Opening.{FailsToRead, version_in, version_of};
+ghost use Rattle.store_sql.specs.Opening.{version_in, version_of};
 ghost use Rattle.store_sql_rows.specs.declared.read_fault.ReadFault.TheVariants.{BadRow};
 
 use sqlite::{Alter, Connection, Row};
@@ -37,8 +37,6 @@ pub fn version_of<S: Alter>(connection: &mut Connection<S>) -> Result<i64, ReadF
         → IfOk result (λ version. version_of (state S.Store connection.old).now.trees ≡ Some version) }
     ensures bad { HasCleanDisk (state S.Store connection.new) → IsOurs (state S.Store connection.old).now → result ≡ Err BadRow
         → version_of (state S.Store connection.old).now.trees ≡ None }
-    ensures cause { HasCleanDisk (state S.Store connection.new) → IsOurs (state S.Store connection.old).now
-        → IfErr result (FailsToRead (state S.Store connection.old) (state S.Store connection.new)) }
     ensures survives { Survives (state S.Store connection.old) (state S.Store connection.new)
         (λ _. IsOurs (state S.Store connection.old).now → ⊥) }
 {

@@ -3,7 +3,7 @@ ghost use Rattle.std.specs.List.{All};
 ghost use Rattle.std.specs.Prelude.{◌≡◌, ◌≤◌, IfSome, drop, length};
 ghost use Rattle.store_sql.specs.Exchange.{IsExchange};
 ghost use Rattle.store.specs.Change.{CanStand, IsKeptRow, IsNext, IsPlace, with_change, with_each};
-ghost use Rattle.store_sql_rows.specs.Steps.{Moves, Turns, imported_put, next_put, place_put, row_put, rows_dropped, shown_put, with_commands, with_values};
+ghost use Rattle.store_sql_rows.specs.Steps.{FailsInside, Moves, Turns, imported_put, next_put, place_put, row_put, rows_dropped, shown_put, with_commands, with_values};
 
 use sqlite::{Alter, Error, Transaction};
 use std::alloc::Global;
@@ -37,12 +37,13 @@ fn put_rows<S: Alter>(transaction: &mut Transaction<'_, S>, items: &[KeptRow]) -
     Ok(())
 }
 
-// Drops rows, one item after the other.
-fn drop_all<S: Alter>(
+/// Drops rows, one item after the other.
+pub(crate) fn drop_all<S: Alter>(
     transaction: &mut Transaction<'_, S>,
     items: &[RowsBelow],
 ) -> Result<(), Error>
     ensures moves { Moves S.Store (Turns (with_each rows_dropped items.now)) transaction.old.conn transaction.new.conn result }
+    ensures cause { FailsInside S.Store transaction.old.conn transaction.new.conn result }
 {
     for item in items {
         drop_rows(transaction, item)?;

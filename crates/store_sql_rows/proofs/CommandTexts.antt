@@ -1,6 +1,6 @@
 -- What the statements on the commands mean.
-use Rattle.std.proofs.Common.{ℕ, List, [], ◌∷◌, codes, refl}
-use Rattle.sqlite_value.specs.declared.value.Value.TheVariants.{Null}
+use Rattle.std.proofs.Common.{ℕ, pos, List, [], ◌∷◌, codes, refl}
+use Rattle.sqlite_value.specs.declared.value.Value.TheVariants.{Int, Null, Text}
 use Rattle.sqlite_schema.specs.declared.command.Command.TheVariants.{Insert, Update}
 use Rattle.sqlite_schema.specs.declared.command.Source.TheVariants.{Values}
 use Rattle.sqlite_sql.specs.declared.ops.CompareOp.TheVariants.{Ge, Lt}
@@ -9,6 +9,8 @@ use Rattle.sqlite.specs.Listing.{understood}
 use Rattle.sqlite_tied.specs.Compute.{everything}
 use Rattle.store_sql_rows.specs.Schema.{command_tree}
 use Rattle.store_sql_rows.specs.Meanings.{compared_with, deletion, given, least, ordered, plain_query, selection}
+use Rattle.store_sql_rows.specs.Failing.{IsSure}
+use Rattle.store_sql_rows.proofs.FailLemmas.{sure}
 use Rattle.store_sql_rows.proofs.Texts.{Runs}
 
 abbrev pub clear_text : List ℕ
@@ -59,6 +61,10 @@ pub find_runs : Runs find_text
 unfolding understood everything
 find_runs = record { is = refl; plain = (refl, refl); unlisted = refl }
 
+pub find_sure : (panel : List ℕ) (number : ℕ) → IsSure find_text (Text panel ∷ Int (pos number) ∷ [])
+unfolding understood everything
+find_sure panel number = sure find_runs (Text panel ∷ Int (pos number) ∷ []) (refl, refl, refl) refl refl command_tree refl
+
 abbrev pub below_text : List ℕ
 below_text = codes "SELECT number FROM command WHERE panel = ?1 AND number < ?2"
 
@@ -66,6 +72,10 @@ pub below_runs : Runs below_text
     (selection command_tree (given 1 0 ∷ compared_with Lt 2 1 ∷ []) (col 1 2 ∷ []) (codes "number" ∷ []))
 unfolding understood everything
 below_runs = record { is = refl; plain = (refl, refl); unlisted = refl }
+
+pub below_sure : (panel : List ℕ) (number : ℕ) → IsSure below_text (Text panel ∷ Int (pos number) ∷ [])
+unfolding understood everything
+below_sure panel number = sure below_runs (Text panel ∷ Int (pos number) ∷ []) (refl, refl, refl) refl refl command_tree refl
 
 abbrev pub next_panel_text : List ℕ
 next_panel_text = codes "SELECT panel FROM command WHERE panel >= ?1 ORDER BY panel LIMIT 1"
@@ -75,6 +85,10 @@ pub next_panel_runs : Runs next_panel_text
 unfolding understood everything
 next_panel_runs = record { is = refl; plain = (refl, refl); unlisted = refl }
 
+pub next_panel_sure : (from : List ℕ) → IsSure next_panel_text (Text from ∷ [])
+unfolding understood everything
+next_panel_sure from = sure next_panel_runs (Text from ∷ []) (refl, refl, refl) refl refl command_tree refl
+
 abbrev pub next_number_text : List ℕ
 next_number_text = codes "SELECT number FROM command WHERE panel = ?1 AND number >= ?2 ORDER BY number LIMIT 1"
 
@@ -82,6 +96,10 @@ pub next_number_runs : Runs next_number_text
     (least command_tree (given 1 0 ∷ compared_with Ge 2 1 ∷ []) 2 (codes "number" ∷ []))
 unfolding understood everything
 next_number_runs = record { is = refl; plain = (refl, refl); unlisted = refl }
+
+pub next_number_sure : (panel : List ℕ) (number : ℕ) → IsSure next_number_text (Text panel ∷ Int (pos number) ∷ [])
+unfolding understood everything
+next_number_sure panel number = sure next_number_runs (Text panel ∷ Int (pos number) ∷ []) (refl, refl, refl) refl refl command_tree refl
 
 abbrev pub run_text : List ℕ
 run_text = codes
@@ -92,3 +110,7 @@ pub run_runs : Runs run_text
     (codes "number" ∷ codes "point" ∷ codes "priority" ∷ codes "value" ∷ codes "state" ∷ codes "a" ∷ codes "b" ∷ []))
 unfolding understood everything
 run_runs = record { is = refl; plain = (refl, refl); unlisted = refl }
+
+pub run_sure : (panel : List ℕ) (number : ℕ) → IsSure run_text (Text panel ∷ Int (pos number) ∷ [])
+unfolding understood everything
+run_sure panel number = sure run_runs (Text panel ∷ Int (pos number) ∷ []) (refl, refl, refl) refl refl command_tree refl

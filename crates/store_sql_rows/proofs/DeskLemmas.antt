@@ -31,12 +31,12 @@ use Rattle.store_sql_rows.proofs.SlotLemmas.{others_stay, ours_from}
 use Rattle.store_sql_rows.proofs.WriteLemmas.{Ran, updates}
 
 -- the one row is taken out by its number
-taken_out : (row : Row) (answer : Row) → IsTrue (is_int (rowid row)) → rowid answer ≡ rowid row
+pub taken_out : (row : Row) (answer : Row) → IsTrue (is_int (rowid row)) → rowid answer ≡ rowid row
     → without_all (row ∷ []) (ids_of (answer ∷ [])) ≡ []
 taken_out row answer int same = rw (same, has_own_id row int) refl
 
 -- what an UPDATE shows of the one row
-one_shown : (project : List Term) (params : Row) (rows answer : List Row) (row : Row) → rows ≡ row ∷ []
+pub one_shown : (project : List Term) (params : Row) (rows answer : List Row) (row : Row) → rows ≡ row ∷ []
     → IsPermutation (map (shows project params) (filter (passes [] params) rows)) answer → answer ≡ shows project params row ∷ []
 one_shown project params rows answer row is same =
     one_permutation (shows project params row) answer

@@ -1,10 +1,8 @@
 -- Why a statement fails.
-use Rattle.std.proofs.Common.{◌≡◌, ◌≢◌, ◌≤◌, ◌⊎◌, inl, inr, ℕ, nat_le, List, [], length, Bool, true, false, None, Some, Option, IsSome, Ok, Err, Result, IfErr, refl, sym, ap, subst, subst₂, ◌∙◌, append-nil, arith}
-use Rattle.sqlite_disk.specs.Disk.{MoreFaults}
+use Rattle.std.proofs.Common.{◌≡◌, ◌≢◌, ◌≤◌, ◌⊎◌, inl, inr, ℕ, List, [], length, Bool, true, false, None, Some, Option, IsSome, Ok, Err, Result, IfErr, refl, sym, ap, subst, subst₂, ◌∙◌, append-nil, arith}
 use Rattle.sqlite_value.specs.Order.{Row}
 use Rattle.sqlite_trees.specs.declared.error.StoreError.{StoreError}
 use Rattle.sqlite_trees.specs.declared.error.StoreError.TheVariants.{OutOfMemory, Io, Corrupt, Full, Broken, Unstorable}
-use Rattle.sqlite_trees.specs.declared.store.Store.{Ghosts}
 use Rattle.sqlite_trees.specs.Tree.{Trees}
 use Rattle.sqlite_schema.specs.declared.schema.Schema.{Schema}
 use Rattle.sqlite_schema.specs.declared.command.Command.{Command}
@@ -18,18 +16,16 @@ use Rattle.sqlite_typing.specs.Types.{accepts_program}
 use Rattle.sqlite_resolve.specs.declared.compiled.Compiled.{Compiled}
 use Rattle.sqlite_resolve.specs.declared.error.CompileError.{CompileError}
 use Rattle.sqlite.specs.declared.error.Error.{Error}
-use Rattle.sqlite.specs.Clock.{timed}
 use Rattle.sqlite.specs.Does.{Does}
-use Rattle.sqlite.specs.Effect.{Database, RefusesToRead, is_query}
-use Rattle.sqlite.specs.Held.{Held, state}
+use Rattle.sqlite.specs.Effect.{Database, RefusesQuery, RefusesToRead, is_query}
 use Rattle.sqlite.specs.Listing.{IsSourceOf, reads_listing, understood}
 use Rattle.sqlite.specs.State.{State, EndsScope, Escapes, Executes, ExecutesIn, ExecutesInside, Fails, FailsToQuery, HasCause, HasCleanDisk, IsMisplaced, IsNoStatement, IsNotRun, Survives, is_pragma, mode_of, shows_rows, store_error}
-use Rattle.sqlite.specs.Steps.{FailsToCommit}
 use Rattle.sqlite.proofs.Callers.{IsPlain, command_of, statement_of}
 use Rattle.std.proofs.lemmas.Bool.{cases_Bool, both_ways, leb-true}
 use Rattle.sqlite_tied.specs.Compute.{everything}
 use Rattle.store_sql_rows.specs.Failing.{FailsFor, IsSure, IsWhole, NeverRefuses}
 use Rattle.store_sql_rows.specs.Schema.{desk_schema}
+use Rattle.store_sql_rows.proofs.Texts.{Runs}
 
 -- ---- the store fails
 
@@ -152,6 +148,11 @@ never_sums t db env h = h.4
 never_sums_twice : (t u : ℕ) (db : Trees) (env : Env) → FoldOverflows db (inner t (inner u end)) env → ⊥
 never_sums_twice t u db env h = h.4.4
 
+never_overflows : (body : Query) → body.group ≡ None → ((db : Trees) (env : Env) → FoldOverflows db body.from env → ⊥) → (trees : Trees)
+    (params : Row) → ProgramOverflows trees params [] [] body → ⊥
+never_overflows body ungrouped small trees params (inl grouped) = rw ungrouped at grouped
+never_overflows body ungrouped small trees params (inr folded) = small _ _ folded
+
 -- a query of one table or of two that sums nothing, where its terms fit
 select_refuses : (limit : Option ℕ) (db : Database) (p : Program) (params : Row) (e : Error) (names : List (List ℕ))
     → accepts_program db.schema (lets_of p) p.body params ≡ true → (ProgramOverflows db.trees params [] (lets_of p) p.body → ⊥)
@@ -159,6 +160,14 @@ select_refuses : (limit : Option ℕ) (db : Database) (p : Program) (params : Ro
 select_refuses limit db p params e names typed small (inl (is, untyped)) = absurd (both_ways _ untyped typed)
 select_refuses limit db p params e names typed small (inr (inl (is, large))) = absurd (small large)
 select_refuses limit db p params e names typed small (inr (inr (is, limited))) = limited
+
+-- the rows of one table that a statement writes to
+pub plain_refuses : (limit : Option ℕ) (trees : Trees) (body : Query) (params : Row) (e : Error)
+    → accepts_program desk_schema [] body params ≡ true → body.group ≡ None → (tree : ℕ) → body.from ≡ inner tree end
+    → RefusesQuery limit (record { schema = desk_schema; trees = trees }) (record { lets = []; body = body }) params e → IsSome limit
+plain_refuses limit trees body params e typed ungrouped tree from =
+    select_refuses limit (record { schema = desk_schema; trees = trees }) (record { lets = []; body = body }) params e [] typed
+    (never_overflows body ungrouped (λ db env h. never_sums tree db env (rw from at h)) trees params)
 
 never_refuses : (params : Row) (r : Result Compiled CompileError) (p : Program) (names : List (List ℕ)) → IsPlain r
     → command_of r ≡ Select p names → accepts_program desk_schema (lets_of p) p.body params ≡ true
@@ -181,7 +190,7 @@ module _ (sql : List ℕ) (params : Row) (body : Query) (names : List (List ℕ)
     whole = whole;
     answered =
         never_refuses params (understood desk_schema sql) (record { lets = []; body = body }) names plain is typed
-        (λ trees sums. elim sums [ inl grouped ↦ rw ungrouped at grouped | inr folded ↦ small _ _ folded ]);
+        (λ trees. never_overflows body ungrouped small trees params);
   }
 
   pub sure_of_one : (tree : ℕ) → body.from ≡ inner tree end → IsSure sql params
@@ -189,6 +198,12 @@ module _ (sql : List ℕ) (params : Row) (body : Query) (names : List (List ℕ)
 
   pub sure_of_two : (tree other : ℕ) → body.from ≡ inner tree (inner other end) → IsSure sql params
   sure_of_two tree other from = sure_query (λ trees env h. never_sums_twice tree other trees env (rw from at h))
+
+-- the same of a text that runs a query of one table
+pub sure : {sql : List ℕ} {body : Query} {names : List (List ℕ)} → Runs sql (Select (record { lets = []; body = body }) names) → (params : Row)
+    → IsWhole sql (length params) (understood desk_schema sql) → accepts_program desk_schema [] body params ≡ true → body.group ≡ None
+    → (tree : ℕ) → body.from ≡ inner tree end → IsSure sql params
+sure {sql} {body} {names} runs params = sure_of_one sql params body names runs.is runs.plain runs.unlisted
 
 pub query_fails : (sql : List ℕ) (params : Row) (old new : State) (e : Error) → IsSure sql params → old.now.schema ≡ desk_schema
     → FailsToQuery sql params old new e → FailsFor old new e

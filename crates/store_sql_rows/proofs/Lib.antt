@@ -51,5 +51,8 @@ pub mod CreateLemmas
 pub mod CreateTexts
 pub mod CreateFails
 pub mod FirstRowFails
+pub mod WriteFails
+pub mod DeskFits
+pub mod DropFails
 pub mod Indexes
 pub mod Items

@@ -1,6 +1,6 @@
 -- What the statements on the places mean.
 use Rattle.std.proofs.Common.{ℕ, List, [], ◌∷◌, codes, refl}
-use Rattle.sqlite_value.specs.declared.value.Value.TheVariants.{Null}
+use Rattle.sqlite_value.specs.declared.value.Value.TheVariants.{Null, Text}
 use Rattle.sqlite_schema.specs.declared.command.Command.TheVariants.{Insert, Update}
 use Rattle.sqlite_schema.specs.declared.command.Source.TheVariants.{Values}
 use Rattle.sqlite_sql.specs.declared.ops.CompareOp.TheVariants.{Ge}
@@ -9,6 +9,8 @@ use Rattle.sqlite.specs.Listing.{understood}
 use Rattle.sqlite_tied.specs.Compute.{everything}
 use Rattle.store_sql_rows.specs.Schema.{place_tree}
 use Rattle.store_sql_rows.specs.Meanings.{compared_with, deletion, given, least, plain_query, selection}
+use Rattle.store_sql_rows.specs.Failing.{IsSure}
+use Rattle.store_sql_rows.proofs.FailLemmas.{sure}
 use Rattle.store_sql_rows.proofs.Texts.{Runs, between}
 
 abbrev pub clear_text : List ℕ
@@ -77,6 +79,10 @@ pub next_point_runs : Runs next_point_text
 unfolding understood everything
 next_point_runs = record { is = refl; plain = (refl, refl); unlisted = refl }
 
+pub next_point_sure : (from : List ℕ) → IsSure next_point_text (Text from ∷ [])
+unfolding understood everything
+next_point_sure from = sure next_point_runs (Text from ∷ []) (refl, refl, refl) refl refl place_tree refl
+
 abbrev pub of_point_text : List ℕ
 of_point_text = codes "SELECT priority, value, rowid FROM place WHERE point = ?1"
 
@@ -84,3 +90,7 @@ pub of_point_runs : Runs of_point_text
     (selection place_tree (given 1 0 ∷ []) (col 1 2 ∷ col 1 3 ∷ col 1 0 ∷ []) (codes "priority" ∷ codes "value" ∷ codes "rowid" ∷ []))
 unfolding understood everything
 of_point_runs = record { is = refl; plain = (refl, refl); unlisted = refl }
+
+pub of_point_sure : (point : List ℕ) → IsSure of_point_text (Text point ∷ [])
+unfolding understood everything
+of_point_sure point = sure of_point_runs (Text point ∷ []) (refl, refl, refl) refl refl place_tree refl

@@ -1,6 +1,6 @@
 -- What the statements on the shown values mean.
 use Rattle.std.proofs.Common.{ℕ, List, [], ◌∷◌, codes, refl}
-use Rattle.sqlite_value.specs.declared.value.Value.TheVariants.{Null}
+use Rattle.sqlite_value.specs.declared.value.Value.TheVariants.{Null, Text}
 use Rattle.sqlite_schema.specs.declared.command.Command.TheVariants.{Insert, Update}
 use Rattle.sqlite_schema.specs.declared.command.Source.TheVariants.{Values}
 use Rattle.sqlite_sql.specs.declared.ops.CompareOp.TheVariants.{Ge}
@@ -9,6 +9,8 @@ use Rattle.sqlite.specs.Listing.{understood}
 use Rattle.sqlite_tied.specs.Compute.{everything}
 use Rattle.store_sql_rows.specs.Schema.{shown_tree}
 use Rattle.store_sql_rows.specs.Meanings.{compared_with, deletion, given, least, plain_query, selection}
+use Rattle.store_sql_rows.specs.Failing.{IsSure}
+use Rattle.store_sql_rows.proofs.FailLemmas.{sure}
 use Rattle.store_sql_rows.proofs.Texts.{Runs, between}
 
 abbrev pub clear_text : List ℕ
@@ -77,6 +79,10 @@ pub find_runs : Runs find_text
 unfolding understood everything
 find_runs = record { is = refl; plain = (refl, refl); unlisted = refl }
 
+pub find_sure : (schedule : List ℕ) → IsSure find_text (Text schedule ∷ [])
+unfolding understood everything
+find_sure schedule = sure find_runs (Text schedule ∷ []) (refl, refl, refl) refl refl shown_tree refl
+
 abbrev pub next_name_text : List ℕ
 next_name_text = codes "SELECT schedule FROM shown WHERE schedule >= ?1 ORDER BY schedule LIMIT 1"
 
@@ -84,3 +90,7 @@ pub next_name_runs : Runs next_name_text
     (least shown_tree (compared_with Ge 1 0 ∷ []) 1 (codes "schedule" ∷ []))
 unfolding understood everything
 next_name_runs = record { is = refl; plain = (refl, refl); unlisted = refl }
+
+pub next_name_sure : (from : List ℕ) → IsSure next_name_text (Text from ∷ [])
+unfolding understood everything
+next_name_sure from = sure next_name_runs (Text from ∷ []) (refl, refl, refl) refl refl shown_tree refl

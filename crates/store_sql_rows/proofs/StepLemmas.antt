@@ -1,5 +1,5 @@
 -- Steps of a transaction, one after the other.
-use Rattle.std.proofs.Common.{◌≡◌, true, ℕ, zero, suc, ◌+◌, ◌<◌, ◌≤◌, List, [], ◌∷◌, drop, take, length, get_or, Ok, Err, Result, OnOk, true≢false, refl, sym, subst, ap, ◌∙◌, arith, add-one, drop-cons}
+use Rattle.std.proofs.Common.{◌≡◌, true, ℕ, zero, suc, ◌+◌, ◌<◌, ◌≤◌, List, [], ◌∷◌, drop, take, length, get_or, Ok, Err, Result, IfErr, OnOk, true≢false, refl, sym, subst, ap, ◌∙◌, arith, add-one, drop-cons}
 use Rattle.std.proofs.lemmas.List.{take-append-drop}
 use Rattle.sqlite_trees.specs.Tree.{Trees}
 use Rattle.sqlite.specs.declared.error.Error.{Error}
@@ -21,6 +21,8 @@ use Rattle.store_sql_rows.specs.Looking.{Stays}
 use Rattle.store_sql_rows.specs.Stored.{Kept, is_sound_in, tables_in}
 use Rattle.store_sql_rows.specs.Ours.{Changes, IsInside, IsOurs, Makes, kept_in}
 use Rattle.store_sql_rows.specs.Steps.{Moves, MovesBy, StaysIfTaken, Steps, StepsBy, Turns}
+use Rattle.store_sql_rows.specs.Failing.{FailsFor}
+use Rattle.store_sql_rows.proofs.FailLemmas.{fails_later_if}
 use Rattle.store_sql_rows.proofs.FoldLemmas.{with_each-append}
 
 pub survives_on : (a b c : State) → Survives a b (λ _. ⊥) → Survives b c (λ _. ⊥) → Survives a c (λ _. ⊥)
@@ -49,6 +51,13 @@ then P Q R a b c x outcome inside both one two = record {
   kept = λ clean. keeps_then a b c (one.kept (clean_before b c _ two.survives clean)) (two.kept clean);
   survives = survives_on a b c one.survives two.survives;
 }
+
+-- what failed after a step in a transaction over the six tables
+pub cause_after : {A B : Type 0} (P : State → State → Type 0) (Q : Trees → Type 0) (a b c : State) (x : A) (r : Result B Error) → (P a b → IsInside b)
+    → Steps P a b (Ok x) → Survives b c Q → (HasCleanDisk c → IsInside b → IfErr r (FailsFor b c)) → HasCleanDisk c → IsInside a
+    → IfErr r (FailsFor a c)
+cause_after P Q a b c x r inside one two fails clean at =
+    fails_later_if a b c _ Q r one.survives two clean (fails clean (inside (one.done (clean_before b c Q two clean) at)))
 
 -- the transaction is inside after a change
 pub inside_after : (P : Kept → Kept → Type 0) (a b : State) → Changes P a b → IsInside b

@@ -1,5 +1,5 @@
 -- What a statement that only reads leaves, and what its answer is.
-use Rattle.std.specs.Prelude.{◌≡◌, ◌≤◌, ◌<◌, ◌+◌, ◌-◌, ◌++◌, ◌⊎◌, ℕ, pos, Bool, true, false, nat_lt, not, Ok, Err, IfOk, IsTrue, List, [], ◌∷◌, OnOk, Result, filter, map}
+use Rattle.std.specs.Prelude.{◌≡◌, ◌≤◌, ◌<◌, ◌+◌, ◌-◌, ◌++◌, ◌⊎◌, ℕ, pos, Bool, true, false, nat_lt, not, Ok, Err, IfErr, IfOk, IsTrue, List, [], ◌∷◌, OnOk, Result, filter, map}
 use Rattle.std.specs.Cmp.Lexicographic.{slice_cmp}
 use Rattle.std.specs.List.Sorted.{IsPermutation}
 use Rattle.std.specs.Ordering.{is_ge, is_lt, nat_cmp}
@@ -14,6 +14,7 @@ use Rattle.sqlite_resolve.specs.declared.error.CompileError.{CompileError}
 use Rattle.sqlite_schema.specs.declared.command.Command.{Command}
 use Rattle.sqlite.specs.Listing.{understood}
 use Rattle.sqlite.specs.State.{HasCleanDisk, IsUnchanged, Shows, State, Survives}
+use Rattle.store_sql_rows.specs.Failing.{FailsFor}
 use Rattle.store_sql_rows.specs.Schema.{desk_schema}
 use Rattle.store_sql_rows.specs.Cells.{is_count}
 use Rattle.store_sql_rows.specs.Ours.{IsOurs, kept_in}
@@ -24,12 +25,14 @@ pub record Rests (old new : State) : Type 0 where
   pub was_open : IsTrue new.is_open → IsTrue old.is_open
   pub same : old.now ≡ old.committed → IsTrue new.is_open → (new.now ≡ old.now) × (new.committed ≡ old.committed)
 
--- a query of the six tables changes nothing; whatever it answered, a connection that is open sees what it saw
+-- a query of the six tables changes nothing; whatever it answered, a connection that is open sees what it saw; and it
+-- fails for a cause
 pub record Leaves {A : Type 0} (old new : State) (outcome : Result A Error) : Type 0 where
   pub mode : old.in_transaction ≡ false → new.in_transaction ≡ false
   pub same : HasCleanDisk new → IsOurs old.now → OnOk outcome (IsUnchanged old new)
   pub rests : HasCleanDisk new → IsOurs old.now → Rests old new
   pub survives : Survives old new (λ _. IsOurs old.now → ⊥)
+  pub cause : HasCleanDisk new → IsOurs old.now → IfErr outcome (FailsFor old new)
 
 -- A query of the six tables: what its answer is, by their rows, and that nothing is changed.
 pub record Reads {A : Type 0} (Found : Kept → A → Type 0) (old new : State) (outcome : Result A Error) : Type 0 where

@@ -1,5 +1,5 @@
 -- What a step of a transaction does.
-use Rattle.std.specs.Prelude.{◌≡◌, Option, Result, Err, IfOk, true, ℤ}
+use Rattle.std.specs.Prelude.{◌≡◌, Option, Result, Err, IfErr, IfOk, true, ℤ}
 use Rattle.std.specs.Borrow.{MutBor}
 use Rattle.sqlite.specs.declared.error.Error.{Error}
 use Rattle.sqlite.specs.declared.error.Error.TheVariants.{SqliteFailure}
@@ -17,6 +17,7 @@ use Rattle.store.specs.declared.change.RowsBelow.{RowsBelow}
 use Rattle.store.specs.declared.change.ShownValue.{ShownValue}
 use Rattle.store.specs.Change.{with_each, with_imported, with_last_tick, with_next, with_place, with_row, with_shown, without_rows}
 use Rattle.store.specs.Tables.{Tables}
+use Rattle.store_sql_rows.specs.Failing.{FailsFor}
 use Rattle.store_sql_rows.specs.Ours.{IsInside, Makes, kept_in}
 
 -- the transaction goes on, and the tables are another function of themselves
@@ -44,6 +45,11 @@ pub record MovesBy {S A : Type 0} (g : Ghosts S) (Does : A → State → State �
 abbrev pub Moves : {S A : Type 0} → Ghosts S → (State → State → Type 0) → MutBor (Held S) → MutBor (Held S) → Result A Error
     → Type 0
 Moves g Does = MovesBy g (λ _. Does)
+
+-- a step that fails in a transaction over the six tables has its cause
+abbrev pub FailsInside : {S A : Type 0} → Ghosts S → MutBor (Held S) → MutBor (Held S) → Result A Error → Type 0
+FailsInside g old new outcome =
+    HasCleanDisk (state g new.now) → IsInside (state g old.now) → IfErr outcome (FailsFor (state g old.now) (state g new.now))
 
 -- a statement that is refused as not unique leaves all as it was, and the transaction goes on
 abbrev pub StaysIfTaken : {A : Type 0} → State → State → Result A Error → Type 0

@@ -1,13 +1,13 @@
 //! The rows of a panel's run, read one at a time.
-ghost use Rattle.std.specs.Prelude.{◌≡◌, ◌≤◌, ◌<◌, ◌^◌, ◌&&◌, [], ◌∷◌, false, IfOk};
-ghost use Rattle.sqlite.specs.Given.{IsPlain};
+ghost use Rattle.std.specs.Prelude.{◌≡◌, ◌≤◌, ◌<◌, ◌^◌, ◌&&◌, [], ◌∷◌, IfOk};
 ghost use Rattle.sqlite.specs.Held.{state};
-ghost use Rattle.sqlite.specs.Listing.{reads_listing, understood};
+ghost use Rattle.sqlite.specs.Listing.{understood};
 ghost use Rattle.sqlite.specs.State.{HasCleanDisk};
 ghost use Rattle.sqlite.specs.Values.{bound};
 ghost use Rattle.sqlite_schema.specs.declared.command.Command.{Command};
 ghost use Rattle.sqlite_value.specs.Order.{column};
 ghost use Rattle.store_sql_rows.specs.Schema.{desk_schema};
+ghost use Rattle.store_sql_rows.specs.Failing.{IsSure};
 ghost use Rattle.store_sql_rows.specs.Cells.{is_text};
 ghost use Rattle.store_sql_rows.specs.Looking.{FindsRun, IsCommand, IsReadRun, Leaves, Reads, is_from, number_shown};
 ghost use Rattle.store_sql_rows.specs.Ours.{IsOurs};
@@ -39,8 +39,7 @@ fn read_run<S: Alter>(
     from: u64,
     upto: u64,
 ) -> Result<Vec<Row>, Error>
-    requires plain { IsPlain (understood desk_schema sql.now) }
-    requires unlisted { reads_listing desk_schema sql.now ≡ false }
+    requires sure { IsSure sql.now (bound params.now) }
     requires at_least_1 { 1 ≤ from }
     ensures read { HasCleanDisk (state S.Store connection.new) → IsOurs (state S.Store connection.old).now
         → (command : Command) → IsCommand (understood desk_schema sql.now) command

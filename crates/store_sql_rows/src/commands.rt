@@ -6,7 +6,7 @@ ghost use Rattle.sqlite_value.specs.Order.{column};
 ghost use Rattle.store_sql_rows.specs.Looking.{Finds, FindsLeast, Reads, is_from, is_from_text};
 ghost use Rattle.store_sql_rows.specs.Ours.{Adds, Changes, Exchanges, Loses};
 ghost use Rattle.store_sql_rows.specs.Slot.{On, command_slot};
-ghost use Rattle.store_sql_rows.specs.Steps.{Moves, MovesBy, StaysIfTaken};
+ghost use Rattle.store_sql_rows.specs.Steps.{FailsInside, Moves, MovesBy, StaysIfTaken};
 ghost use Rattle.store_sql_rows.specs.Cells.{cell_of, is_text};
 ghost use Rattle.store_sql_rows.specs.Rows.{of_command, of_lower_command};
 
@@ -108,6 +108,7 @@ pub fn drop_below<S: Alter>(
     requires { number < 2 ^ 63 }
     ensures moves { Moves S.Store (Changes (On command_slot (Loses (of_lower_command panel.now number))))
         transaction.old.conn transaction.new.conn result }
+    ensures cause { FailsInside S.Store transaction.old.conn transaction.new.conn result }
 {
     run(
         transaction,

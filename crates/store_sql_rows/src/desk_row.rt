@@ -1,12 +1,10 @@
 //! The statements on the one row of `desk`.
-ghost use Rattle.std.specs.Prelude.{IfErr, true, [], ◌∷◌};
+ghost use Rattle.std.specs.Prelude.{true, [], ◌∷◌};
 ghost use Rattle.sqlite.specs.Held.{state};
-ghost use Rattle.sqlite.specs.State.{HasCleanDisk};
 ghost use Rattle.sqlite_value.specs.declared.value.Value.TheVariants.{Int};
 ghost use Rattle.sqlite_value.specs.Order.{column};
 ghost use Rattle.store_sql_rows.specs.Looking.{Finds, Reads};
-ghost use Rattle.store_sql_rows.specs.Ours.{Changes, IsOurs, SetsDesk};
-ghost use Rattle.store_sql_rows.specs.Failing.{FailsFor};
+ghost use Rattle.store_sql_rows.specs.Ours.{Changes, SetsDesk};
 ghost use Rattle.store_sql_rows.specs.Steps.{Moves};
 
 use crate::looking::ask;
@@ -25,8 +23,6 @@ pub fn set_last<S: Alter>(transaction: &mut Transaction<'_, S>, moment: i64) -> 
 pub fn find<S: Alter>(connection: &mut Connection<S>) -> Result<Vec<Row>, Error>
     ensures reads { Reads (λ kept rows. Finds (λ row. true) (λ row. column row 2 ∷ column row 3 ∷ []) kept.desk rows.items)
         (state S.Store connection.old) (state S.Store connection.new) result }
-    ensures cause { HasCleanDisk (state S.Store connection.new) → IsOurs (state S.Store connection.old).now
-        → IfErr result (FailsFor (state S.Store connection.old) (state S.Store connection.new)) }
 {
     ask(connection, "SELECT version, last FROM desk", &[])
 }

@@ -5,6 +5,7 @@ ghost use Rattle.sqlite.specs.Held.{state};
 ghost use Rattle.sqlite.specs.Listing.{reads_listing, understood};
 ghost use Rattle.sqlite.specs.State.{FailsToQuery, HasCleanDisk, IsUnchanged, KeepsCommit, Shown, Survives};
 ghost use Rattle.sqlite.specs.Values.{bound};
+ghost use Rattle.store_sql_rows.specs.Failing.{IsSure};
 ghost use Rattle.store_sql_rows.specs.Schema.{desk_schema};
 ghost use Rattle.store_sql_rows.specs.Looking.{Leaves, Rests, ShowsInside};
 ghost use Rattle.store_sql_rows.specs.Ours.{IsInside};
@@ -44,12 +45,10 @@ pub(crate) fn ask<S: Alter>(
     sql: &str,
     params: &[ValueRef<'_>],
 ) -> Result<Vec<Row>, Error>
-    requires { IsPlain (understood desk_schema sql.now) }
+    requires { IsSure sql.now (bound params.now) }
     ensures shown { HasCleanDisk (state S.Store connection.new)
         → IfOk result
         (λ rows. Shown sql.now (bound params.now) (state S.Store connection.old) (state S.Store connection.new) rows.items) }
-    ensures refused { HasCleanDisk (state S.Store connection.new)
-        → IfErr result (FailsToQuery sql.now (bound params.now) (state S.Store connection.old) (state S.Store connection.new)) }
     ensures leaves { Leaves (state S.Store connection.old) (state S.Store connection.new) result }
 {
     look(connection, sql, params)

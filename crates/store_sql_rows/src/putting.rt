@@ -6,7 +6,7 @@ ghost use Rattle.sqlite_value.specs.declared.value.Value.TheVariants.{Int};
 ghost use Rattle.store.specs.Change.{IsKeptRow};
 ghost use Rattle.store_sql_rows.specs.Cells.{cell_of};
 ghost use Rattle.store_sql_rows.specs.Rows.{state_in};
-ghost use Rattle.store_sql_rows.specs.Steps.{Moves, Steps, Turns, imported_put, last_put, row_put, rows_dropped};
+ghost use Rattle.store_sql_rows.specs.Steps.{FailsInside, Moves, Steps, Turns, imported_put, last_put, row_put, rows_dropped};
 
 use crate::command_cells::{StateCells, cells_of};
 use crate::{calendars, commands, desk_row};
@@ -71,6 +71,7 @@ pub fn drop_rows<S: Alter>(
     item: &RowsBelow,
 ) -> Result<(), Error>
     ensures moves { Moves S.Store (Turns (rows_dropped item.now)) transaction.old.conn transaction.new.conn result }
+    ensures cause { FailsInside S.Store transaction.old.conn transaction.new.conn result }
 {
     if item.number == 0 {
         return Ok(());

@@ -8,7 +8,7 @@ pub returns : goal.returns
 returns g c =
     let kept = kept_in (state g.S.Store c.args.connection.now).now.trees in
     record {
-      answers = answers_sound (read_found c.in_ok-rows.ensures.reads)
+      answers = answers_sound (read_found c.in_ok-rows.ensures.reads) c.parsed_entries.ensures.fault
           (λ _ found. c.parsed_entries.ensures.value kept found) (λ _ found. c.parsed_entries.ensures.stood kept found)
           (λ _ found is. (rw is at (c.parsed_entries.ensures.bad kept found)) refl);
     }

@@ -1,13 +1,13 @@
 use Rattle.sqlite.specs.Held.{state}
 use Rattle.store_sql_rows.specs.Ours.{kept_in}
-use Rattle.store_sql.proofs.ReadLemmas.{answers_sound, read_found}
+use Rattle.store_sql.proofs.ReadLemmas.{answers_sound, bad_only, read_found}
 use Rattle.store_sql.proofs.finding.next_of.Goals as goal
 
 pub returns : goal.returns
 returns g c =
     let kept = kept_in (state g.S.Store c.args.connection.now).now.trees in
     record {
-      answers = answers_sound (read_found c.in_ok-rows.ensures.reads)
+      answers = answers_sound (read_found c.in_ok-rows.ensures.reads) (bad_only c.parsed_next.result c.parsed_next.ensures.fault)
           (λ _ found. c.parsed_next.ensures.value kept found) (λ _ found. c.parsed_next.ensures.stood kept found)
           (λ _ found is. rw is at (c.parsed_next.ensures.bad kept found));
     }

@@ -12,11 +12,11 @@ pub returns-clause-survives : goal.returns-clause-survives
 returns-clause-survives g c =
     let old = c.args.connection.now in
     let mid = c.raise.new.transaction.conn.now in
-    let change = c.args.change.now in
+    let dropped = c.args.dropped.now in
     let same : c.commit-committed.new.self.0 ≡ c.connection-2-1.given.0 = search rules in
-    let P = λ (trees : Trees). IsOurs (state g.S.Store old).now → IsChangedBy change (state g.S.Store old).now.trees trees in
+    let P = λ (trees : Trees). IsOurs (state g.S.Store old).now → IsChangedBy dropped (state g.S.Store old).now.trees trees in
     subst (λ h. Survives (state g.S.Store old) (state g.S.Store h) P) same
-    (survives_raised g.S.Store old mid c.commit-committed.new.self.0 change _
+    (survives_raised g.S.Store old mid c.commit-committed.new.self.0 dropped _
     (rw c.transaction-transaction.ensures.begun at c.in_ok-raise.ensures.moves.steps)
     c.commit-committed.ensures.survives)
 

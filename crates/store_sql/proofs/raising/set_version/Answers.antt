@@ -2,6 +2,7 @@ use Rattle.sqlite.specs.Held.{state}
 use Rattle.store_sql_rows.proofs.CreateLemmas.{execution_keeps}
 use Rattle.store_sql_rows.proofs.DeskTexts.{set_version_text}
 use Rattle.store_sql_rows.proofs.RunLemmas.{moves_made}
+use Rattle.store_sql.proofs.VersionFails.{version_fails}
 use Rattle.store_sql.proofs.VersionLemmas.{sets_version}
 use Rattle.store_sql.proofs.raising.set_version.Goals as goal
 
@@ -16,4 +17,6 @@ returns g c =
           c.execute.ensures.survives
           (λ clean inside. sets_version (state g.S.Store old) (state g.S.Store new) c.execute.result inside
           (c.execute.ensures.runs clean inside.in_transaction));
+      cause = λ clean inside. version_fails (state g.S.Store old) (state g.S.Store new) c.execute.result inside
+          (c.execute.ensures.runs clean inside.in_transaction);
     }

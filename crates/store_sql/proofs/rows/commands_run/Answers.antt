@@ -29,7 +29,7 @@ returns g c =
     let least = c.at_least_1.result in
     let low : c.args.from ≤ least = c.at_least_1.ensures.up in
     record {
-      answers = answers_made (read_first c.in_ok-numbered.ensures.answers)
+      answers = answers_made (read_first c.in_ok-numbered.ensures.answers) c.run_in.ensures.fault
           (λ _ listed.
           let after : least ≤ listed.0 = listed.1.after in
           c.run_in.ensures.value kept c.args.panel.now least listed.0 listed.1 (omega (arith, low, after)) c.at_least_1.ensures.near)

@@ -48,4 +48,4 @@ returns-clause-cause g c clean =
     subst (λ r. IfErr r (IsCaused old new)) (sym c.as_version.ensures)
     (version_caused old mid new _ _ c.version_of.result c.in_ok-rows_are_own.field-0 own (c.has_shape.ensures.settled search)
     (c.in_ok-rows_are_own.ensures.judged (clean_before mid new c.version_of.ensures.survives.clean clean))
-    c.in_ok-rows_are_own.ensures.survives c.version_of.ensures.survives clean (c.version_of.ensures.cause clean))
+    c.in_ok-rows_are_own.ensures.survives c.version_of.ensures.survives clean (c.version_of.ensures.asks clean))

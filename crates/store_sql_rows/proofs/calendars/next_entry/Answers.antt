@@ -1,11 +1,11 @@
 use Rattle.sqlite.specs.Held.{state}
 use Rattle.store_sql_rows.proofs.ImportedLemmas.{next_entry_shown}
-use Rattle.store_sql_rows.proofs.ImportedTexts.{next_entry_runs}
+use Rattle.store_sql_rows.proofs.ImportedTexts.{next_entry_sure}
 use Rattle.store_sql_rows.proofs.RestLemmas.{reads_made}
 use Rattle.store_sql_rows.proofs.calendars.next_entry.Goals as goal
 
 pub ask-requires : goal.ask-requires
-ask-requires g c = next_entry_runs.plain
+ask-requires g c = rw (c.text.ensures, c.words.ensures) (next_entry_sure c.args.calendar.now c.args.from.now)
 
 pub returns : goal.returns
 returns g c = record {

@@ -1,11 +1,11 @@
 use Rattle.sqlite.specs.Held.{state}
 use Rattle.store_sql_rows.proofs.ImportedLemmas.{of_calendar_shown}
-use Rattle.store_sql_rows.proofs.ImportedTexts.{of_calendar_runs}
+use Rattle.store_sql_rows.proofs.ImportedTexts.{of_calendar_sure}
 use Rattle.store_sql_rows.proofs.RestLemmas.{reads_made}
 use Rattle.store_sql_rows.proofs.calendars.of_calendar.Goals as goal
 
 pub ask-requires : goal.ask-requires
-ask-requires g c = of_calendar_runs.plain
+ask-requires g c = rw c.text.ensures (of_calendar_sure c.args.calendar.now)
 
 pub returns : goal.returns
 returns g c = record {

@@ -10,8 +10,8 @@ use Rattle.store_sql_rows.proofs.command_run.read_run.Goals as goal
 
 pub returns-in_err-rows-clause-leaves : goal.returns-in_err-rows-clause-leaves
 returns-in_err-rows-clause-leaves g c =
-    refused_leaves g.S.Store c.args.sql.now (bound c.args.params.now) c.requires.plain c.args.connection.now
-    c.query.follows.lender-at-none c.query.result c.from_residual.result c.from_residual.ensures.0 (search rules)
+    refused_leaves g.S.Store c.args.sql.now (bound c.args.params.now) c.requires.sure c.args.connection.now
+    c.query.follows.lender-at-none c.in_err-rows.field-0.0 c.query.result c.from_residual.result (search rules) (search rules)
     c.query.follows.holds-at-none
 
 pub rows-init : goal.rows-init
@@ -21,9 +21,9 @@ rows-init g c =
     let now = c.in_ok-rows.rows.conn.now in
     record {
       same_reference = refl;
-      stays = begun_stays g.S.Store c.args.sql.now (bound c.args.params.now) c.requires.plain old now made.begun made.mode made.survives;
+      stays = begun_stays g.S.Store c.args.sql.now (bound c.args.params.now) c.requires.sure old now made.begun made.mode made.survives;
       given = rw c.new-run.ensures.items
-          (begun_given g.S.Store c.args.sql.now (bound c.args.params.now) c.requires.plain old now made.begun);
+          (begun_given g.S.Store c.args.sql.now (bound c.args.params.now) c.requires.sure old now made.begun);
       last = rw c.new-run.ensures.items refl;
     }
 
@@ -33,9 +33,9 @@ returns-in_err-row-clause-leaves g c =
     let now = c.next.follows.lender-at-none.conn.now in
     let moved = c.next.follows.holds-at-none in
     let leaves : Leaves old (state g.S.Store now) c.from_residual-in_err-row.result =
-    moved_fails g.S.Store c.args.sql.now (bound c.args.params.now) c.requires.plain old c.rows.rows.conn.now now
+    moved_fails g.S.Store c.args.sql.now (bound c.args.params.now) c.requires.sure old c.rows.rows.conn.now now
     c.rows.invariant.stays c.rows.run.items c.rows.invariant.given c.in_err-row.field-0.0 c.from_residual-in_err-row.result
-    c.from_residual-in_err-row.ensures.0 moved.mode (λ clean. rw c.in_err-row.was at (moved.err clean)) moved.survives in
+    (search rules) moved.mode (λ clean. rw c.in_err-row.was at (moved.err clean)) moved.survives in
     search rules
 
 pub returns-in_default-clause-read : goal.returns-in_default-clause-read
@@ -48,7 +48,7 @@ returns-in_default-clause-read g c clean ours command is =
     let before : HasCleanDisk (state g.S.Store was) = omega (arith, late, moved.survives.clean) in
     let shown = (rw (c.in_ok-row.was, c.in_default.is) at (moved.ok late)) c.args.sql.now (bound c.args.params.now) c.rows.run.items
     (c.rows.invariant.given before ours) in
-    inl (all_read c.args.sql.now (bound c.args.params.now) command c.requires.plain c.requires.unlisted is old (state g.S.Store was)
+    inl (all_read c.args.sql.now (bound c.args.params.now) command c.requires.sure.plain c.requires.sure.unlisted is old (state g.S.Store was)
     (state g.S.Store now) c.rows.run.items ours (c.rows.invariant.stays.same before ours) shown)
 
 pub returns-then-last-number-clause-read : goal.returns-then-last-number-clause-read
@@ -63,7 +63,7 @@ returns-then-last-number-clause-read g c clean ours command is =
     let given : HasGiven g.S.Store c.args.sql.now (bound c.args.params.now) now (c.rows.run.items ++ row ∷ []) =
     (rw (c.in_ok-row.was, c.in-Some.is) at (moved.ok late)) c.args.sql.now (bound c.args.params.now) c.rows.run.items
     (c.rows.invariant.given before ours) in
-    let stays = moved_stays g.S.Store c.args.sql.now (bound c.args.params.now) c.requires.plain old was now c.rows.invariant.stays
+    let stays = moved_stays g.S.Store c.args.sql.now (bound c.args.params.now) c.requires.sure old was now c.rows.invariant.stays
     c.rows.run.items c.rows.invariant.given moved.mode (λ clean. rw c.in_ok-row.was at (moved.same clean)) moved.survives in
     let number : c.number_shown-number.result ≡ number_shown row = c.number_shown-number.ensures in
     let last : c.rows.last ≡ last_shown (c.args.from - 1) c.rows.run.items = c.rows.invariant.last in
@@ -71,7 +71,7 @@ returns-then-last-number-clause-read g c clean ours command is =
     let apart = c.if-last-number.true in
     inr (record {
       row = row;
-      begins = first_read c.args.sql.now (bound c.args.params.now) command c.requires.plain c.requires.unlisted is old (state g.S.Store now)
+      begins = first_read c.args.sql.now (bound c.args.params.now) command c.requires.sure.plain c.requires.sure.unlisted is old (state g.S.Store now)
           (c.rows.run.items ++ row ∷ []) ours (stays.same late ours)
           (given_begin g.S.Store c.args.sql.now (bound c.args.params.now) now (c.rows.run.items ++ row ∷ []) given);
       past = omega (arith, past, number);
@@ -84,8 +84,8 @@ returns-in_err-copy-clause-leaves g c =
     let now = c.next.follows.lender-at-none.conn.now in
     let moved = c.next.follows.holds-at-none in
     let leaves : Leaves old (state g.S.Store now) c.from_residual-in_err-copy.result =
-    leaves_err old (state g.S.Store now) c.from_residual-in_err-copy.result c.from_residual-in_err-copy.ensures.0
-    (moved_stays g.S.Store c.args.sql.now (bound c.args.params.now) c.requires.plain old c.rows.rows.conn.now now c.rows.invariant.stays
+    leaves_err old (state g.S.Store now) c.from_residual-in_err-copy.result (search rules)
+    (moved_stays g.S.Store c.args.sql.now (bound c.args.params.now) c.requires.sure old c.rows.rows.conn.now now c.rows.invariant.stays
     c.rows.run.items c.rows.invariant.given moved.mode (λ clean. rw c.in_ok-row.was at (moved.same clean)) moved.survives) in
     search rules
 
@@ -95,8 +95,8 @@ returns-in_err-push-clause-leaves g c =
     let now = c.next.follows.lender-at-none.conn.now in
     let moved = c.next.follows.holds-at-none in
     let leaves : Leaves old (state g.S.Store now) c.from_residual-in_err-push.result =
-    leaves_err old (state g.S.Store now) c.from_residual-in_err-push.result c.from_residual-in_err-push.ensures.0
-    (moved_stays g.S.Store c.args.sql.now (bound c.args.params.now) c.requires.plain old c.rows.rows.conn.now now c.rows.invariant.stays
+    leaves_err old (state g.S.Store now) c.from_residual-in_err-push.result (search rules)
+    (moved_stays g.S.Store c.args.sql.now (bound c.args.params.now) c.requires.sure old c.rows.rows.conn.now now c.rows.invariant.stays
     c.rows.run.items c.rows.invariant.given moved.mode (λ clean. rw c.in_ok-row.was at (moved.same clean)) moved.survives) in
     search rules
 
@@ -110,7 +110,7 @@ rows-preserved g c =
     let items : c.push.new.self.items ≡ c.rows.run.items ++ row ∷ [] = search rules in
     record {
       same_reference = moved.same_reference ∙ c.rows.invariant.same_reference;
-      stays = moved_stays g.S.Store c.args.sql.now (bound c.args.params.now) c.requires.plain old was now c.rows.invariant.stays
+      stays = moved_stays g.S.Store c.args.sql.now (bound c.args.params.now) c.requires.sure old was now c.rows.invariant.stays
           c.rows.run.items c.rows.invariant.given moved.mode (λ clean. rw c.in_ok-row.was at (moved.same clean)) moved.survives;
       given = λ clean ours.
           let before : HasCleanDisk (state g.S.Store was) = omega (arith, clean, moved.survives.clean) in

@@ -1,17 +1,14 @@
 use Rattle.sqlite.specs.Held.{state}
 use Rattle.store_sql_rows.proofs.CommandLemmas.{run_ok}
-use Rattle.store_sql_rows.proofs.CommandTexts.{run_runs, run_text}
+use Rattle.store_sql_rows.proofs.CommandTexts.{run_runs, run_sure, run_text}
 use Rattle.sqlite.specs.Listing.{understood}
 use Rattle.store_sql_rows.specs.Schema.{desk_schema}
 use Rattle.store_sql_rows.proofs.RestLemmas.{reads_made}
 use Rattle.store_sql_rows.proofs.StepwiseLemmas.{is_command}
 use Rattle.store_sql_rows.proofs.command_run.run_from.Goals as goal
 
-pub read_run-requires-clause-plain : goal.read_run-requires-clause-plain
-read_run-requires-clause-plain g c = run_runs.plain
-
-pub read_run-requires-clause-unlisted : goal.read_run-requires-clause-unlisted
-read_run-requires-clause-unlisted g c = run_runs.unlisted
+pub read_run-requires-clause-sure : goal.read_run-requires-clause-sure
+read_run-requires-clause-sure g c = rw (c.text.ensures, c.count.ensures) (run_sure c.args.panel.now c.args.from)
 
 pub returns : goal.returns
 returns g c = record {

@@ -1,11 +1,11 @@
 use Rattle.sqlite.specs.Held.{state}
 use Rattle.store_sql_rows.proofs.CommandLemmas.{below_shown}
-use Rattle.store_sql_rows.proofs.CommandTexts.{below_runs}
+use Rattle.store_sql_rows.proofs.CommandTexts.{below_sure}
 use Rattle.store_sql_rows.proofs.RestLemmas.{reads_made}
 use Rattle.store_sql_rows.proofs.commands.below.Goals as goal
 
 pub ask-requires : goal.ask-requires
-ask-requires g c = below_runs.plain
+ask-requires g c = rw (c.text.ensures, c.count.ensures) (below_sure c.args.panel.now c.args.number)
 
 pub returns : goal.returns
 returns g c = record {

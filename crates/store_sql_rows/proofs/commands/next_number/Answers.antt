@@ -1,11 +1,11 @@
 use Rattle.sqlite.specs.Held.{state}
 use Rattle.store_sql_rows.proofs.CommandLemmas.{next_number_shown}
-use Rattle.store_sql_rows.proofs.CommandTexts.{next_number_runs}
+use Rattle.store_sql_rows.proofs.CommandTexts.{next_number_sure}
 use Rattle.store_sql_rows.proofs.RestLemmas.{reads_made}
 use Rattle.store_sql_rows.proofs.commands.next_number.Goals as goal
 
 pub ask-requires : goal.ask-requires
-ask-requires g c = next_number_runs.plain
+ask-requires g c = rw (c.text.ensures, c.count.ensures) (next_number_sure c.args.panel.now c.args.from)
 
 pub returns : goal.returns
 returns g c = record {

@@ -2,12 +2,12 @@ use Rattle.std.proofs.Common.{[], ◌∷◌, codes}
 use Rattle.sqlite.specs.Held.{state}
 use Rattle.store_sql_rows.specs.Schema.{command_tree}
 use Rattle.store_sql_rows.proofs.CommandLemmas.{command_cells}
-use Rattle.store_sql_rows.proofs.CommandTexts.{next_panel_runs, next_panel_text}
+use Rattle.store_sql_rows.proofs.CommandTexts.{next_panel_runs, next_panel_sure, next_panel_text}
 use Rattle.store_sql_rows.proofs.RestLemmas.{least_name, reads_made}
 use Rattle.store_sql_rows.proofs.commands.next_panel.Goals as goal
 
 pub ask-requires : goal.ask-requires
-ask-requires g c = next_panel_runs.plain
+ask-requires g c = rw c.words.ensures (next_panel_sure c.args.from.now)
 
 pub returns : goal.returns
 returns g c = record {

@@ -2,12 +2,12 @@ use Rattle.std.proofs.Common.{[], ◌∷◌, codes}
 use Rattle.sqlite.specs.Held.{state}
 use Rattle.store_sql_rows.specs.Schema.{place_tree}
 use Rattle.store_sql_rows.proofs.PlaceLemmas.{place_cells}
-use Rattle.store_sql_rows.proofs.PlaceTexts.{next_point_runs, next_point_text}
+use Rattle.store_sql_rows.proofs.PlaceTexts.{next_point_runs, next_point_sure, next_point_text}
 use Rattle.store_sql_rows.proofs.RestLemmas.{least_name, reads_made}
 use Rattle.store_sql_rows.proofs.places.next_point.Goals as goal
 
 pub ask-requires : goal.ask-requires
-ask-requires g c = next_point_runs.plain
+ask-requires g c = rw c.words.ensures (next_point_sure c.args.from.now)
 
 pub returns : goal.returns
 returns g c = record {

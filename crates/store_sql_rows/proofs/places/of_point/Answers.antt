@@ -1,11 +1,11 @@
 use Rattle.sqlite.specs.Held.{state}
 use Rattle.store_sql_rows.proofs.PlaceLemmas.{of_point_shown}
-use Rattle.store_sql_rows.proofs.PlaceTexts.{of_point_runs}
+use Rattle.store_sql_rows.proofs.PlaceTexts.{of_point_sure}
 use Rattle.store_sql_rows.proofs.RestLemmas.{reads_made}
 use Rattle.store_sql_rows.proofs.places.of_point.Goals as goal
 
 pub ask-requires : goal.ask-requires
-ask-requires g c = of_point_runs.plain
+ask-requires g c = rw c.text.ensures (of_point_sure c.args.point.now)
 
 pub returns : goal.returns
 returns g c = record {

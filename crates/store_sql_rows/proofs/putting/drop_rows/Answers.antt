@@ -16,4 +16,5 @@ returns g c =
             | else-item-lt-ABOVE w ↦ subst (λ n. drops_the_same c.args.item.now n) (sym w.number-is)
                 (drops_above c.args.item.now w.if-item-lt-ABOVE.false)
           ]));
+      cause = λ clean inside. tt;
     }

@@ -1,11 +1,11 @@
 use Rattle.sqlite.specs.Held.{state}
 use Rattle.store_sql_rows.proofs.ShownLemmas.{find_shown}
-use Rattle.store_sql_rows.proofs.ShownTexts.{find_runs}
+use Rattle.store_sql_rows.proofs.ShownTexts.{find_sure}
 use Rattle.store_sql_rows.proofs.RestLemmas.{reads_made}
 use Rattle.store_sql_rows.proofs.schedules.find.Goals as goal
 
 pub ask-requires : goal.ask-requires
-ask-requires g c = find_runs.plain
+ask-requires g c = rw c.text.ensures (find_sure c.args.schedule.now)
 
 pub returns : goal.returns
 returns g c = record {
