@@ -94,7 +94,7 @@ def whole(ended, run):
     return False
 
 
-# ---- runs without a database
+# ---- runs without a database, and the one that makes it
 
 
 def try_words(program, folder, words, answer):
@@ -123,6 +123,30 @@ def describe_prints_all_or_nothing(program, folder):
 def replay_prints_all_or_a_beginning(program, folder):
     files_for(folder, EACH_KIND)
     try_words(program, folder, ("replay", "building.toml", "list.jsonl"), printed(BUILDING, EACH_KIND).encode())
+
+
+class Rebuilding(ByWords):
+    """A run that makes a database, which is there with status 0 alone, and whole."""
+
+    def run(self, program, folder, environment=None):
+        ended = super().run(program, folder, environment)
+        made = databases.held(folder) if (folder / databases.NAME).exists() else None
+        expect(made, databases.tables_after(BUILDING, EACH_KIND) if ended.status == 0 else None)
+        for path in folder.glob(databases.NAME + "*"):
+            path.unlink()
+        return ended
+
+
+def rebuild_makes_all_or_nothing(program, folder):
+    files_for(folder, EACH_KIND)
+    tables = databases.tables_after(BUILDING, EACH_KIND)
+    names = [{row[0] for row in tables[each]} for each in ("panel", "command", "place", "shown")]
+    counts = len(names[0] | names[1]), len(names[2]), len(names[3]), len(tables["imported"])
+    answer = "tables: {} panels, {} points with values, {} schedules shown, {} imported entries\n".format(*counts).encode()
+    run = Rebuilding(("rebuild", "building.toml", "list.jsonl", databases.NAME), answer)
+    expect(run.run(program, folder), Ended(answer, b"", 0))
+    sizes = sizes_of(run, program, folder)
+    each_refused(folder, chosen(sizes, len(sizes)), lambda refusing: not whole(run.run(program, folder, refusing.environment), run))
 
 
 def straighten_prints_all_or_a_beginning(program, folder):
@@ -256,6 +280,7 @@ TESTS = (
     describe_prints_all_or_nothing,
     replay_prints_all_or_a_beginning,
     straighten_prints_all_or_a_beginning,
+    rebuild_makes_all_or_nothing,
     a_tick_makes_a_database,
     an_import_makes_a_database,
     a_tick_is_made_or_not,
