@@ -1,7 +1,7 @@
 """Tries the backup of deploy/ over the loopback, and a restore: a panel sends commands, also while the desk is stopped for
 the backup, and more after it; the backup is put back, and the panel goes on.
 
-The commands that stop and start the desk are those of this test in place of systemd's.
+The commands that stop and start the desk, and tell whether it runs, are those of this test in place of systemd's.
 """
 import contextlib
 import datetime
@@ -38,6 +38,13 @@ cd "$(dirname "$0")"
 kill -TERM $(cat pid)
 while kill -0 $(cat pid) 2> /dev/null; do sleep 0.01; done
 """
+# A program that finds each building well and no database.
+NO_DATABASE = """#!/bin/sh
+[ "$1" = check ]
+"""
+RUNS = """#!/bin/sh
+kill -0 $(cat "$(dirname "$0")/pid") 2> /dev/null
+"""
 
 
 class Room:
@@ -48,7 +55,7 @@ class Room:
         (folder / "building.toml").write_text(random_lists.toml_of(BUILDING))
         with socket.create_server(("127.0.0.1", 0)) as free:
             self.port = free.getsockname()[1]
-        for name, text in (("start", START), ("stop", STOP)):
+        for name, text in (("start", START), ("stop", STOP), ("runs", RUNS), ("no-database", NO_DATABASE)):
             (folder / name).write_text(text.format(program=program, port=self.port))
             (folder / name).chmod(0o755)
 
@@ -63,7 +70,7 @@ class Room:
             os.kill(int((self.folder / "pid").read_text()), signal.SIGKILL)
 
     def backup(self, database="desk.db", **more):
-        calls = {"DESK_STOP": str(self.folder / "stop"), "DESK_START": str(self.folder / "start")}
+        calls = {f"DESK_{name.upper()}": str(self.folder / name) for name in ("stop", "start", "runs")}
         environment = {**os.environ, "DESK": self.program} | calls
         building, database, record = (self.folder / name for name in ("building.toml", database, recorded.NAME))
         words = [BACKUP, building, database, self.backups, str(DAYS), record]
@@ -215,7 +222,7 @@ def old_copies_go_once_a_new_one_is_whole(room):
             path.touch()
             then = (datetime.datetime.now() - datetime.timedelta(days=days)).timestamp()
             os.utime(path, (then, then))
-    expect(room.backup(DESK="/bin/false").returncode, 1)
+    expect(room.backup(DESK=str(room.folder / "no-database")).returncode, 1)
     expect_backups(room, old, young)
     copy = expect_backed_up(room.backup())
     expect_backups(room, copy, young)
@@ -226,7 +233,7 @@ def the_desk_goes_on_where_a_backup_fails(room):
     panel = Panel(room)
     room.start()
     panel.press()
-    expect(room.backup(DESK="/bin/false").returncode, 1)
+    expect(room.backup(DESK=str(room.folder / "no-database")).returncode, 1)
     panel.press()
     shutil.rmtree(room.backups)
     room.backups.write_text("no folder")
@@ -237,6 +244,30 @@ def the_desk_goes_on_where_a_backup_fails(room):
     expect((ran.returncode, ran.stdout), (1, ""))
     expect([path.name for path in room.folder.glob("none.db*")], [])
     panel.press()
+
+
+def a_building_at_fault_leaves_the_desk_running(room):
+    """It would not start again: so it is not stopped, and the fault is told."""
+    panel = Panel(room)
+    room.start()
+    panel.press()
+    before = (room.folder / "pid").read_text()
+    (room.folder / "building.toml").write_text("[[point]]\n")
+    ran = room.backup()
+    expect((ran.returncode, ran.stdout), (1, ""))
+    expect(ran.stderr, f"desk-backup: {room.folder / 'building.toml'} is at fault: desk: B3 top 0 zone\n")
+    panel.press()
+    expect((room.folder / "pid").read_text(), before)
+
+
+def a_desk_that_was_stopped_stays_stopped(room):
+    room.start()
+    Panel(room).press()
+    room.stop()
+    copy = expect_backed_up(room.backup())
+    expect(databases.held(room.folder)["panel"], [(PANEL, 2)])
+    expect_backups(room, copy)
+    expect(subprocess.run([room.folder / "runs"]).returncode == 0, False)
 
 
 def in_room(test):
@@ -257,4 +288,6 @@ TESTS = [in_room(test) for test in (
     a_copy_alone_is_the_desk_as_it_was,
     old_copies_go_once_a_new_one_is_whole,
     the_desk_goes_on_where_a_backup_fails,
+    a_building_at_fault_leaves_the_desk_running,
+    a_desk_that_was_stopped_stays_stopped,
 )]
