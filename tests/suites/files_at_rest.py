@@ -122,27 +122,39 @@ def a_server_that_is_stopped_leaves_both_files(program, folder):
     expect_whole(folder, "reported", EACH_KIND)
 
 
-def after_an_end(program, folder):
-    """Runs what the unit runs after each end of the desk, over the files of a folder."""
+def by_the_unit(program, folder, when):
+    """Runs what the unit runs before each start of the desk or after each end, over the files of a folder."""
     unit = (ROOT / "deploy" / "desk.service").read_text()
-    line = next(line for line in unit.splitlines() if line.startswith("ExecStopPost="))
+    line = next(line for line in unit.splitlines() if line.startswith(f"{when}="))
     script = line.partition("'")[2].rpartition("'")[0].replace("$$", "$").replace("%%", "%")
-    for path, here in (("/usr/local/bin/desk", program), ("/etc/desk", folder), ("/var/lib/desk", folder)):
+    for path, here in (("/usr/local/bin/desk", program), ("/etc/desk", folder), ("/var/lib/desk", folder), ("/run/desk", folder)):
         script = script.replace(path, str(here))
     return subprocess.run(["/bin/sh", "-c", script], capture_output=True, timeout=SECONDS)
+
+
+def a_building_at_fault_leaves_the_description(program, folder):
+    """The page goes on with the old one, and the desk does not start."""
+    building_in(folder)
+    described = run(program, folder, "describe", "building.toml").printed
+    expect(by_the_unit(program, folder, "ExecStartPre").returncode, 0)
+    expect((folder / "description.json").read_bytes(), described)
+    expect((folder / "description.json").stat().st_mode & 0o777, 0o644)
+    (folder / "building.toml").write_text("[[point]]\n")
+    expect(by_the_unit(program, folder, "ExecStartPre").returncode, 1)
+    expect((folder / "description.json").read_bytes(), described)
 
 
 def the_unit_leaves_it_whole_after_a_kill(program, folder):
     """And begins no database where there is none."""
     building_in(folder)
-    expect((after_an_end(program, folder).returncode, sorted(folder.glob("*.db*"))), (0, []))
+    expect((by_the_unit(program, folder, "ExecStopPost").returncode, sorted(folder.glob("*.db*"))), (0, []))
     replies = run_of(BUILDING, list(EACH_KIND))[0]
     with serving(program, folder, len(EACH_KIND) + 1) as server:
         for delivery, reply in zip(EACH_KIND, replies):
             expect(server.ask(request_of(members_of(delivery))), answered(reply))
         server.ran.kill()
         server.ran.wait(timeout=SECONDS)
-    ended = after_an_end(program, folder)
+    ended = by_the_unit(program, folder, "ExecStopPost")
     expect((ended.returncode, ended.stdout, ended.stderr), (0, b"", b""))
     expect_whole(folder, "after", EACH_KIND)
 
@@ -282,6 +294,7 @@ TESTS = (
     a_server_that_ends_leaves_it_whole,
     a_server_that_is_stopped_leaves_both_files,
     the_unit_leaves_it_whole_after_a_kill,
+    a_building_at_fault_leaves_the_description,
     a_run_that_ends_with_a_fault_leaves_it_whole,
     a_close_that_fails_is_reported_and_loses_nothing,
     a_file_without_its_log_is_reported,
