@@ -4,7 +4,7 @@ PREFIX ?= /usr/local
 # What `make case` tries: the proved program, else the compiled one.
 TRIED = $(firstword $(wildcard build/desk build/unproved/program))
 
-.PHONY: help run try check case desk panel test sweep wrong-bodies bench page install clean python
+.PHONY: help run try check case desk panel test sweep wrong-bodies bench page install package clean python
 
 help: ## lists these targets
 	@sed -n 's/^\([a-z-]*\):.*## /make \1: /p' $(MAKEFILE_LIST)
@@ -51,6 +51,9 @@ install: desk panel ## copies the programs, the backup and the page below PREFIX
 	install -D -m 755 build/panel $(DESTDIR)$(PREFIX)/bin/panel
 	install -D -m 755 deploy/desk-backup $(DESTDIR)$(PREFIX)/bin/desk-backup
 	install -D -m 644 -t $(DESTDIR)$(PREFIX)/share/desk/page deploy/page/*
+
+package: python ## leaves build/desk_VERSION_amd64.deb, a package for Debian
+	@python3 scripts/package
 
 clean: ## removes what was built and kept
 	rm -rf build crates/*/out
