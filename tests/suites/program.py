@@ -1,22 +1,19 @@
 """Tries the program: the cases, lines and words that are refused, and what two documents show.
 
-A case is a folder of tests/cases, named for what it shows: building.toml (without one, the worked building),
-deliveries.jsonl, words (a word a line; without it, replay of these two), and what is wanted: stdout, stderr
-(without it, nothing) and status (without it, 0). Or it has a transcript in place of all these: commands that are
-run one after the other, each after `$ `, and under it what is wanted. A command is `desk` with its words, `sql`
-with a database and a statement, which the C library of SQLite runs; its rows are shown with `|` between the
-columns; or `cat` with a file, which is shown as it is. Of a `desk`, a line `desk: ..` is wanted on the standard
-error, a last line `status N` is the status (without it, 0), and where a fault is reported each file has to be as it
-was before.
+A case is a folder of tests/cases, named for what it shows: its files, building.toml among them (without one, the worked
+building), and a transcript: commands that are run one after the other, each after `$ `, and under it what is wanted. A
+command is `desk` with its words, `sql` with a database and a statement, which the C library of SQLite runs; its rows are
+shown with `|` between the columns; or `cat` with a file, which is shown as it is. Of a `desk`, a line `desk: ..` is wanted
+on the standard error, a last line `status N` is the status (without it, 0), and where a fault is reported each file has to
+be as it was before.
 """
 import contextlib
 import re
-import shlex
 import shutil
 import sqlite3
 import subprocess
 
-from helpers import tables
+from helpers import cases, tables
 from helpers.trying import ROOT, expect_none, named
 
 # The header of a log and that of a frame.
@@ -36,10 +33,6 @@ def difference(ran, status, stdout, stderr):
     found = {"status": ran.returncode, "stdout": ran.stdout, "stderr": ran.stderr}
     wanted = {"status": status, "stdout": stdout, "stderr": stderr}
     return "; ".join(f"{key} {found[key]!r}, wanted {wanted[key]!r}" for key in found if found[key] != wanted[key])
-
-
-def wanted(case, name, default):
-    return (case / name).read_bytes() if (case / name).exists() else default
 
 
 def files_of(room):
@@ -67,10 +60,11 @@ def desk_differs(program, words, shown, room):
     return found or ("a file was changed though a fault was reported" if changed else "")
 
 
-def try_transcript(program, transcript, room):
-    """Runs the commands of a transcript, to the first that differs."""
-    for command, shown in re.findall(r"^\$ (.*)\n((?:[^$].*\n)*)", transcript, re.M):
-        name, *words = shlex.split(command)
+def try_case(program, case, room):
+    """Runs the commands of a case's transcript, to the first that differs."""
+    shutil.copytree(case, room, dirs_exist_ok=True)
+    (room / "building.toml").write_text(cases.building_of(case))
+    for command, (name, *words), shown in cases.commands_of(case):
         if name in ("sql", "cat"):
             found = rows_of(room / words[0], words[1]) if name == "sql" else (room / words[0]).read_text()
             wrong = "" if found == shown else f"found {found!r}, wanted {shown!r}"
@@ -79,17 +73,6 @@ def try_transcript(program, transcript, room):
         if wrong:
             return f"{command}: {wrong}"
     return ""
-
-
-def try_case(program, case, room):
-    shutil.copytree(case, room, dirs_exist_ok=True)
-    if not (room / "building.toml").exists():
-        (room / "building.toml").write_text(tables.WORKED)
-    if (case / "transcript").exists():
-        return try_transcript(program, (case / "transcript").read_text(), room)
-    words = wanted(case, "words", b"replay\nbuilding.toml\ndeliveries.jsonl\n").split(b"\n")[:-1]
-    status = int(wanted(case, "status", b"0"))
-    return difference(run(program, words, room), status, wanted(case, "stdout", b""), wanted(case, "stderr", b""))
 
 
 def try_line(program, line, room):
@@ -142,7 +125,7 @@ def tried(name, look, *what):
 
 
 TESTS = [
-    *(tried(case.name, try_case, case) for case in sorted((ROOT / "tests" / "cases").iterdir())),
+    *(tried(case.name, try_case, case) for case in cases.all_cases()),
     *(tried(f"line refused: {line!r}", try_line, line) for line in tables.LINES_REFUSED),
     *(tried(f"words refused: {words!r}, {part!r}", try_words, words, part) for words, part in tables.WORDS_REFUSED),
     tried("the first run of docs/FIRST_STEPS.md", first_run_of_the_document),

@@ -9,13 +9,12 @@ import json
 import random
 import shutil
 
-from helpers import random_lists, tables
+from helpers import cases, random_lists, tables
 from helpers.deliveries import deliver, deliveries_at, members_of, request_of
 from helpers.serving import all_rows, get, response, serving
-from helpers.trying import ROOT, expect
+from helpers.trying import expect
 from oracle.slow_desk import point_text, report_text, run_of
 
-CASES = ROOT / "tests" / "cases"
 LISTS = 200
 # A list that is longer is served by one server up to its last so many deliveries, and from there on by a new one each.
 ANEW = 10
@@ -26,14 +25,12 @@ DAYS = ["2025-03-30", "2025-10-26", "2025-06-30", "2024-02-29", "1900-01-01", "2
 
 def worked_lists():
     """The name, the building, the deliveries and the replies of each case of a replay, and what is reported of its points."""
-    for case in sorted(CASES.iterdir()):
-        if (case / "deliveries.jsonl").exists() and not ((case / "status").exists() or (case / "words").exists()):
-            lines = [line for line in (case / "deliveries.jsonl").read_bytes().splitlines() if line]
-            reported = (case / "stdout").read_text().splitlines()
-            building = (case / "building.toml").read_text() if (case / "building.toml").exists() else tables.WORKED
-            expect((case.name, [line[:5] for line in reported[len(lines):]]), (case.name, ["POINT"] * (len(reported) - len(lines))))
-            asked = [(request_of(json.loads(line)), reply) for line, reply in zip(lines, reported)]
-            yield case.name, building, asked, reported[len(lines):]
+    for case, shown in cases.replays():
+        lines = [line for line in (case / "deliveries.jsonl").read_bytes().splitlines() if line]
+        reported = shown.splitlines()
+        expect((case.name, [line[:5] for line in reported[len(lines):]]), (case.name, ["POINT"] * (len(reported) - len(lines))))
+        asked = [(request_of(json.loads(line)), reply) for line, reply in zip(lines, reported)]
+        yield case.name, cases.building_of(case), asked, reported[len(lines):]
 
 
 def points_agree(server, lines):

@@ -16,9 +16,9 @@ import tempfile
 from concurrent.futures import ThreadPoolExecutor
 from dataclasses import replace
 
-from helpers import random_lists, tables
+from helpers import cases, random_lists
 from helpers.serving import SECONDS
-from helpers.trying import IN_MEMORY, ROOT, expect, expect_none
+from helpers.trying import IN_MEMORY, expect, expect_none
 from oracle.slow_desk import Building, Command, Content, Import, Panel, Point, Skip, Tick, straight_list, straightened
 from oracle.slow_schedules import Calendar
 
@@ -29,7 +29,6 @@ LONG_LISTS = 6
 FAR_LISTS = 60
 # How many panels send short lists of their own in one list.
 TOGETHER = 32
-CASES = ROOT / "tests" / "cases"
 
 
 # ---- what is promised of one list
@@ -184,11 +183,10 @@ def disagreement(program, seed, index):
 def the_lists_of_the_cases_are_straightened(program, folder):
     """Each list of a case that is replayed to its end."""
     building, listed = folder / "building.toml", folder / "deliveries.jsonl"
-    for case in sorted(CASES.iterdir()):
-        if not (case / "deliveries.jsonl").exists() or (case / "status").exists():
+    for case in cases.all_cases():
+        if not (case / "deliveries.jsonl").exists() or "\nstatus " in (case / "transcript").read_text():
             continue
-        own = case / "building.toml"
-        building.write_text(own.read_text() if own.exists() else tables.WORKED)
+        building.write_text(cases.building_of(case))
         listed.write_bytes((case / "deliveries.jsonl").read_bytes())
         try:
             look_at(program, building, listed)
