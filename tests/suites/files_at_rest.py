@@ -5,6 +5,7 @@ Each test takes the path of the program and a folder of its own.
 """
 import contextlib
 import datetime
+import os
 import shutil
 import signal
 import sqlite3
@@ -122,14 +123,15 @@ def a_server_that_is_stopped_leaves_both_files(program, folder):
     expect_whole(folder, "reported", EACH_KIND)
 
 
-def by_the_unit(program, folder, when):
-    """Runs what the unit runs before each start of the desk or after each end, over the files of a folder."""
+def by_the_unit(program, folder, when, address="127.0.0.1:8080", **environment):
+    """Runs what the unit runs before or after each start of the desk, or after each end, over the files of a folder."""
     unit = (ROOT / "deploy" / "desk.service").read_text()
     line = next(line for line in unit.splitlines() if line.startswith(f"{when}="))
     script = line.partition("'")[2].rpartition("'")[0].replace("$$", "$").replace("%%", "%")
-    for path, here in (("/usr/local/bin/desk", program), ("/etc/desk", folder), ("/var/lib/desk", folder), ("/run/desk", folder)):
+    for path, here in (("/usr/local/bin/desk", program), ("/etc/desk", folder), ("/var/lib/desk", folder), ("/run/desk", folder),
+                       ("127.0.0.1:8080", address)):
         script = script.replace(path, str(here))
-    return subprocess.run(["/bin/sh", "-c", script], capture_output=True, timeout=SECONDS)
+    return subprocess.run(["/bin/sh", "-c", script], capture_output=True, timeout=SECONDS, env={**os.environ, **environment})
 
 
 def a_building_at_fault_leaves_the_description(program, folder):
@@ -157,6 +159,18 @@ def the_unit_leaves_it_whole_after_a_kill(program, folder):
     ended = by_the_unit(program, folder, "ExecStopPost")
     expect((ended.returncode, ended.stdout, ended.stderr), (0, b"", b""))
     expect_whole(folder, "after", EACH_KIND)
+
+
+def a_start_waits_for_the_desk_and_fails_where_it_is_gone(program, folder):
+    """Where there is no curl it waits for nothing."""
+    building_in(folder)
+    with serving(program, folder, 2) as server:
+        process, address = str(server.ran.pid), server.address
+        if shutil.which("curl"):
+            expect(by_the_unit(program, folder, "ExecStartPost", address, MAINPID=process).returncode, 0)
+    expect(by_the_unit(program, folder, "ExecStartPost", address, MAINPID=process, PATH="").returncode, 0)
+    if shutil.which("curl"):
+        expect(by_the_unit(program, folder, "ExecStartPost", address, MAINPID=process).returncode, 1)
 
 
 def a_run_that_ends_with_a_fault_leaves_it_whole(program, folder):
@@ -295,6 +309,7 @@ TESTS = (
     a_server_that_is_stopped_leaves_both_files,
     the_unit_leaves_it_whole_after_a_kill,
     a_building_at_fault_leaves_the_description,
+    a_start_waits_for_the_desk_and_fails_where_it_is_gone,
     a_run_that_ends_with_a_fault_leaves_it_whole,
     a_close_that_fails_is_reported_and_loses_nothing,
     a_file_without_its_log_is_reported,
