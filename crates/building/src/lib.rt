@@ -24,7 +24,7 @@ pub use named_calendar::NamedCalendar;
 pub use named_schedule::{NamedSchedule, OnLeave};
 pub use roster::Roster;
 pub use section::Section;
-pub use time_value::{digit, value_at};
+pub use time_value::{digit, read_time, value_at};
 
 mod building;
 mod building_refusal;

@@ -19,9 +19,16 @@ pub fn read_time_value(text: &str) -> Option<TimeValue>
 {
     let (time, value) = cut_at_equals(text)?;
     Some(TimeValue {
-        time: time_at(time.as_bytes())?,
+        time: read_time(time)?,
         value: value_at(value)?,
     })
+}
+
+/// Reads a time of day, `HH:MM`, `HH:MM:SS` or `HH:MM:SS.hh`, from 00:00 to 23:59:59.99. It takes no memory.
+pub fn read_time(text: &str) -> Option<Time>
+    ensures { result ≡ time_at text.now }
+{
+    time_at(text.as_bytes())
 }
 
 /// The text before the first `=`, and the text after it.

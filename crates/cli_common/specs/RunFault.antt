@@ -12,7 +12,7 @@ use Rattle.store.specs.FaultCode.{code_of}
 use Rattle.cli_common.specs.declared.run_fault.RunFault.{RunFault}
 use Rattle.building_holidays.specs.ImportTexts as holidays
 use Rattle.cli_common.specs.declared.run_fault.RunFault.TheVariants.{Building, CannotListen, CannotRead, CannotWrite, Holidays}
-use Rattle.cli_common.specs.declared.run_fault.RunFault.TheVariants.{NoDatabase, NoMemory, NoPoint, NotARecord, NotDay, NotDelivery}
+use Rattle.cli_common.specs.declared.run_fault.RunFault.TheVariants.{NoDatabase, NoMemory, NoPoint, NotARecord, NotDay, NotDelivery, NotMoment, NotShown}
 use Rattle.cli_common.specs.declared.run_fault.RunFault.TheVariants.{OutputFailed, Store, UnknownTables}
 
 -- the line, without the line end
@@ -22,6 +22,8 @@ line_of (Building fault) = codes "desk: " ++ fault_line fault
 line_of (NotDelivery line) = codes "desk: line " ++ (decimal line ++ codes " is not a delivery")
 line_of (Holidays fault) = codes "desk: " ++ holidays.fault_line fault
 line_of NotDay = codes "desk: not a day"
+line_of (NotMoment text) = codes "desk: " ++ (text.now ++ codes " is not a moment")
+line_of (NotShown text) = codes "desk: the building's clock does not show " ++ text.now
 line_of (NoPoint name) = codes "desk: no point " ++ name.now
 line_of (NoDatabase path) = codes "desk: no database at " ++ path.now
 line_of (CannotListen address) = codes "desk: cannot listen on " ++ address.now

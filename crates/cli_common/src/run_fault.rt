@@ -24,6 +24,10 @@ pub enum RunFault<'a> {
     Holidays(ImportFault),
     /// The day of a report is none.
     NotDay,
+    /// The text is no moment.
+    NotMoment { text: &'a str },
+    /// The building's clock never shows the local time of this text, or not with its offset.
+    NotShown { text: &'a str },
     /// The building has no point of this name.
     NoPoint { name: &'a str },
     /// There is no database at this path.
@@ -94,6 +98,10 @@ impl fmt::Display for RunFault<'_> {
             RunFault::NotDelivery { line } => write!(f, "desk: line {line} is not a delivery"),
             RunFault::Holidays(fault) => write!(f, "desk: {fault}"),
             RunFault::NotDay => f.write_str("desk: not a day"),
+            RunFault::NotMoment { text } => write!(f, "desk: {text} is not a moment"),
+            RunFault::NotShown { text } => {
+                write!(f, "desk: the building's clock does not show {text}")
+            }
             RunFault::NoPoint { name } => write!(f, "desk: no point {name}"),
             RunFault::NoDatabase { path } => write!(f, "desk: no database at {path}"),
             RunFault::CannotListen { address } => write!(f, "desk: cannot listen on {address}"),

@@ -104,7 +104,11 @@ where
 }
 
 /// Prints a reply as a line.
-fn print_reply<'a, W: Write>(alloc: Global, reply: Reply, out: &mut W) -> Result<(), RunFault<'a>>
+pub(crate) fn print_reply<'a, W: Write>(
+    alloc: Global,
+    reply: Reply,
+    out: &mut W,
+) -> Result<(), RunFault<'a>>
     ensures { OnOk result (Appends (W.contents out.old) (W.contents out.new) (reply_line reply)) }
 {
     let line = reply_line(alloc, reply)?;

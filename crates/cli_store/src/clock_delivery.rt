@@ -36,7 +36,7 @@ pub(crate) fn read_asked<'a, L: Read + Drop>(
 
 /// The import of the holiday list of a file.
 #[tactic(auto, unfolding(delivery_json::specs::ClockLine::import_of))]
-fn read_import<'a, L: Read + Drop>(
+pub(crate) fn read_import<'a, L: Read + Drop>(
     alloc: Global,
     building: &Building,
     list: Input<'a, L>,

@@ -1,7 +1,8 @@
 //! What do `desk tick`, `desk import`, `desk report` and `desk serve` print, and what do they leave?
 //!
 //! Each reads the building of a file and opens a store. `deliver` makes one delivery to a desk over it, a tick or an
-//! import, and prints the reply as a line; `report` prints the report of a day. `serve` listens on an address and serves
+//! import, and prints the reply as a line; `report` prints the report of a day; `foretell`
+//! prints what an import would be answered, over a copy of the tables in memory. `serve` listens on an address and serves
 //! its connections (`cli_serve`). Each hands back the store that it opened, as it stands then, also where a fault ended it;
 //! `finish` closes it, and gives the status of the whole run. `deliver` hands back the disk of its record too, if it keeps
 //! one and was answered.
@@ -10,6 +11,7 @@
 pub use clock_delivery::ClockDelivery;
 pub use delivery_run::deliver;
 pub use ended::{Delivered, Ended, finish};
+pub use foretelling::foretell;
 pub use keeper::{Opening, Recording};
 pub use report_run::report;
 pub use server_run::{Serving, serve};
@@ -18,6 +20,7 @@ mod answering;
 mod clock_delivery;
 mod delivery_run;
 mod ended;
+mod foretelling;
 mod keeper;
 mod report_run;
 mod server_run;

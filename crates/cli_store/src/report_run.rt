@@ -1,7 +1,7 @@
 //! The report of a day, from the file of the building to its text.
 ghost use Rattle.std.specs.Prelude.{◌≡◌, List, ℕ, Some, IfErr, IfOk, OnOk};
 ghost use Rattle.std.specs.Io.KnownBytes.{Keeps};
-ghost use Rattle.desk.specs.AskedDay.{SpellsDay};
+ghost use Rattle.dates.specs.Day.{SpellsDay};
 ghost use Rattle.deliveries.specs.declared.delivery.Delivery.{Delivery as a_delivery};
 ghost use Rattle.deliveries.specs.Delivered.{Holds};
 ghost use Rattle.cli_common.specs.Input.{bytes_of};
@@ -16,7 +16,7 @@ use building::Building;
 use cli_common::{Input, RunFault, Status, print_whole, read_building};
 use cli_record::BesideFault;
 use dates::Day;
-use desk::{Desk, read_day};
+use desk::Desk;
 use std::alloc::Global;
 use std::io::{Read, Write};
 use store::{OpenFault, Store};
@@ -67,16 +67,16 @@ where
         → IsReported S.standing (O.post opener) date.now file_bytes left (W.contents out.old) (W.contents out.new)) }
 {
     let building = read_building(alloc, file)?;
-    let day = asked_day(alloc, date)?;
+    let day = asked_day(date)?;
     print_report(alloc, building, opener, day, out)
 }
 
 /// The day that a text spells.
-fn asked_day<'a>(alloc: Global, date: &str) -> Result<Day, RunFault<'a>>
+fn asked_day<'a>(date: &str) -> Result<Day, RunFault<'a>>
     ensures day { IfOk result (λ day. SpellsDay date.now day) }
     ensures none { IfErr result (λ fault. fault ≡ a_fault.NotDay → (day : Date) → SpellsDay date.now day → ⊥) }
 {
-    match read_day(alloc, date)? {
+    match Day::read(date) {
         Some(day) => Ok(day),
         None => Err(RunFault::NotDay),
     }

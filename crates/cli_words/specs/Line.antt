@@ -48,9 +48,10 @@ flag_rule name = record (new_rule name) { long = Some name; action = Some SetTru
 abbrev pub record_rule : Rule
 record_rule = record (new_rule (codes "record")) { long = Some (codes "record"); value_names = 1 }
 
--- `check FILE [DB] [--explain] [--record PATH]`
+-- `check FILE [DB] [--explain] [--hints] [--record PATH]`
 abbrev pub check_app : App
-check_app = with_rule (with_rule (with_rule (file_app (codes "check")) looked_over_rule) (flag_rule (codes "explain"))) record_rule
+check_app = with_rule (with_rule (with_rule (with_rule (file_app (codes "check")) looked_over_rule)
+    (flag_rule (codes "explain"))) (flag_rule (codes "hints"))) record_rule
 
 -- an option that may stand many times, each with a value
 abbrev pub rename_rule : Rule
@@ -74,11 +75,7 @@ deliveries_app name = with_rule (file_app name) (needed_rule (codes "deliveries"
 
 -- a moment up to which a list is read
 abbrev pub until_rule : Rule
-until_rule = record (new_rule (codes "until")) {
-  long = Some (codes "until");
-  parser = Some (vp.Signed (negsuc 9223372036854775807) (pos 9223372036854775807));
-  value_names = 1;
-}
+until_rule = record (new_rule (codes "until")) { long = Some (codes "until"); value_names = 1 }
 
 -- `replay FILE DELIVERIES [--until AT]`
 abbrev pub replay_app : App
@@ -92,9 +89,9 @@ why_app = with_rule (with_rule (deliveries_app (codes "why")) (needed_rule (code
 abbrev pub straighten_app : App
 straighten_app = deliveries_app (codes "straighten")
 
--- `import FILE DB CSV [--record PATH]`
+-- `import FILE DB CSV [--dry-run] [--record PATH]`
 abbrev pub import_app : App
-import_app = with_rule (database_app (codes "import") (needed_rule (codes "holidays"))) record_rule
+import_app = with_rule (with_rule (database_app (codes "import") (needed_rule (codes "holidays"))) (flag_rule (codes "dry-run"))) record_rule
 
 -- `tick FILE DB AT [--record PATH]`
 abbrev pub tick_app : App
@@ -106,9 +103,21 @@ report_app = database_app (codes "report") (needed_rule (codes "date"))
 
 -- an option with a number from 1 to 1,000,000
 abbrev pub requests_rule : Rule
-requests_rule = record (needed_rule (codes "requests")) { long = Some (codes "requests"); parser = Some (vp.Unsigned 1 1_000_000) }
+requests_rule = record (new_rule (codes "requests")) {
+  long = Some (codes "requests");
+  parser = Some (vp.Unsigned 1 1_000_000);
+  value_names = 1;
+}
 
--- `serve FILE DB ADDRESS --requests N [--clock] [--record PATH]`
+-- the last word of `days`, which is there if a database is
+abbrev pub third_rule : Rule
+third_rule = record (new_rule (codes "third")) { value_names = 1 }
+
+-- `days FILE [DB] FROM TO`
+abbrev pub days_app : App
+days_app = with_rule (with_rule (with_rule (file_app (codes "days")) (needed_rule (codes "first"))) (needed_rule (codes "second"))) third_rule
+
+-- `serve FILE DB ADDRESS [--requests N] [--clock] [--record PATH]`
 abbrev pub serve_app : App
 serve_app = with_rule (with_rule (with_rule
     (database_app (codes "serve") (needed_rule (codes "address"))) requests_rule) (flag_rule (codes "clock"))) record_rule
@@ -117,10 +126,10 @@ serve_app = with_rule (with_rule (with_rule
 abbrev pub desk_app : App
 desk_app =
     with_subcommand (with_subcommand (with_subcommand (with_subcommand (with_subcommand (with_subcommand (with_subcommand
-    (with_subcommand (with_subcommand (with_subcommand (with_subcommand
+    (with_subcommand (with_subcommand (with_subcommand (with_subcommand (with_subcommand
     (on_top (λ s. record s { has_version = true; subcommand_required = true }) (new_app (codes "desk")))
     check_app.top) describe_app.top) replay_app.top) why_app.top) straighten_app.top) import_app.top) tick_app.top) report_app.top)
-    serve_app.top) adopt_app.top) rebuild_app.top
+    serve_app.top) adopt_app.top) rebuild_app.top) days_app.top
 
 -- what is made, if memory is had, is the command `app`, with no argument for its subcommands too
 abbrev pub Makes : {E : Type 0} → App → Result Command E → Type 0
@@ -130,36 +139,38 @@ Makes app r = IfOk r (λ c. (app_of c ≡ app) × ((fields_of c).has_globals ≡
 
 -- what a line asks, with the texts that it names
 pub data LineValue : Type 0 where
-  Check : (file : Text) → (database : Option Text) → (explain : Bool) → (of : Option Text) → LineValue
+  Check : (file : Text) → (database : Option Text) → (explain hints : Bool) → (of : Option Text) → LineValue
   Adopt : (file : Text) → (database : Text) → (made : Text) → (renamings : List Text) → (dry_run : Bool) → LineValue
   Rebuild : (file : Text) → (of : Text) → (made : Text) → LineValue
   Describe : (file : Text) → LineValue
-  Replay : (file : Text) → (deliveries : Text) → (until : Option ℤ) → LineValue
-  Why : (file : Text) → (deliveries : Text) → (point : Text) → (until : Option ℤ) → LineValue
+  Replay : (file : Text) → (deliveries : Text) → (until : Option Text) → LineValue
+  Why : (file : Text) → (deliveries : Text) → (point : Text) → (until : Option Text) → LineValue
   Straighten : (file : Text) → (deliveries : Text) → LineValue
-  Import : (file : Text) → (database : Text) → (holidays : Text) → (kept : Option Text) → LineValue
+  Import : (file : Text) → (database : Text) → (holidays : Text) → (dry_run : Bool) → (kept : Option Text) → LineValue
   Tick : (file : Text) → (database : Text) → (at : ℤ) → (kept : Option Text) → LineValue
   Report : (file : Text) → (database : Text) → (date : Text) → LineValue
-  Serve : (file : Text) → (database : Text) → (address : Text) → (requests : ℕ) → (clock : Bool) → (kept : Option Text) → LineValue
+  Days : (file : Text) → (database : Option Text) → (first : Text) → (last : Text) → LineValue
+  Serve : (file : Text) → (database : Text) → (address : Text) → (requests : Option ℕ) → (clock : Bool) → (kept : Option Text) → LineValue
 
--- the path that was among the words, if one was
-abbrev pub path_of : Option (Bor Text) → Option Text
-path_of path = option_map (λ it. it.now) path
+-- the text that was among the words, if one was
+abbrev pub text_of : Option (Bor Text) → Option Text
+text_of text = option_map (λ it. it.now) text
 
 abbrev pub line_value : Line → LineValue
-line_value (line.Check file database explain of) = Check file.now (path_of database) explain (path_of of)
+line_value (line.Check file database explain hints of) = Check file.now (text_of database) explain hints (text_of of)
 line_value (line.Adopt file database made renamings dry_run) =
     Adopt file.now database.now made.now (map (λ text. text.now) renamings.items) dry_run
 line_value (line.Rebuild file of made) = Rebuild file.now of.now made.now
 line_value (line.Describe file) = Describe file.now
-line_value (line.Replay file deliveries until) = Replay file.now deliveries.now until
-line_value (line.Why file deliveries point until) = Why file.now deliveries.now point.now until
+line_value (line.Replay file deliveries until) = Replay file.now deliveries.now (text_of until)
+line_value (line.Why file deliveries point until) = Why file.now deliveries.now point.now (text_of until)
 line_value (line.Straighten file deliveries) = Straighten file.now deliveries.now
-line_value (line.Import file database holidays kept) = Import file.now database.now holidays.now (path_of kept)
-line_value (line.Tick file database at kept) = Tick file.now database.now at (path_of kept)
+line_value (line.Import file database holidays dry_run kept) = Import file.now database.now holidays.now dry_run (text_of kept)
+line_value (line.Tick file database at kept) = Tick file.now database.now at (text_of kept)
 line_value (line.Report file database date) = Report file.now database.now date.now
+line_value (line.Days file database first last) = Days file.now (text_of database) first.now last.now
 line_value (line.Serve file database address requests clock kept) =
-    Serve file.now database.now address.now requests clock (path_of kept)
+    Serve file.now database.now address.now requests clock (text_of kept)
 
 -- the number that a text writes in decimal digits, if it is an i64
 abbrev pub moment_in : Text → Option ℤ
@@ -182,7 +193,7 @@ is_set None = false
 
 abbrev pub check_in : List Row → Option LineValue
 check_in rows = option_map (λ file. Check file (first_of (codes "database") rows) (is_set (first_of (codes "explain") rows))
-    (first_of (codes "record") rows)) (first_of (codes "file") rows)
+    (is_set (first_of (codes "hints") rows)) (first_of (codes "record") rows)) (first_of (codes "file") rows)
 
 -- the values of an option that may stand many times
 abbrev pub values_in : Text → List Row → List Text
@@ -201,15 +212,12 @@ rebuild_in rows = option_and_then (λ file. option_and_then (λ of.
 abbrev pub describe_in : List Row → Option LineValue
 describe_in rows = option_map Describe (first_of (codes "file") rows)
 
-abbrev pub until_in : List Row → Option ℤ
-until_in rows = option_and_then moment_in (first_of (codes "until") rows)
-
 abbrev pub replay_in : List Row → Option LineValue
-replay_in rows = option_and_then (λ file. option_map (λ deliveries. Replay file deliveries (until_in rows))
+replay_in rows = option_and_then (λ file. option_map (λ deliveries. Replay file deliveries (first_of (codes "until") rows))
     (first_of (codes "deliveries") rows)) (first_of (codes "file") rows)
 
 abbrev pub why_in : List Row → Option LineValue
-why_in rows = option_and_then (λ file. option_and_then (λ deliveries. option_map (λ point. Why file deliveries point (until_in rows))
+why_in rows = option_and_then (λ file. option_and_then (λ deliveries. option_map (λ point. Why file deliveries point (first_of (codes "until") rows))
     (first_of (codes "point") rows)) (first_of (codes "deliveries") rows)) (first_of (codes "file") rows)
 
 abbrev pub straighten_in : List Row → Option LineValue
@@ -218,7 +226,7 @@ straighten_in rows = option_and_then (λ file. option_map (λ deliveries. Straig
 
 abbrev pub import_in : List Row → Option LineValue
 import_in rows = option_and_then (λ file. option_and_then (λ database.
-    option_map (λ holidays. Import file database holidays (first_of (codes "record") rows))
+    option_map (λ holidays. Import file database holidays (is_set (first_of (codes "dry-run") rows)) (first_of (codes "record") rows))
     (first_of (codes "holidays") rows)) (first_of (codes "database") rows)) (first_of (codes "file") rows)
 
 abbrev pub tick_in : List Row → Option LineValue
@@ -232,11 +240,20 @@ report_in rows = option_and_then (λ file. option_and_then (λ database.
     option_map (λ date. Report file database date)
     (first_of (codes "date") rows)) (first_of (codes "database") rows)) (first_of (codes "file") rows)
 
+-- three words are the database and the two days, two are the days
+abbrev pub days_of : Text → Text → Text → Option Text → LineValue
+days_of file first second (Some third) = Days file (Some first) second third
+days_of file first second None = Days file None first second
+
+abbrev pub days_in : List Row → Option LineValue
+days_in rows = option_and_then (λ file. option_and_then (λ first.
+    option_map (λ second. days_of file first second (first_of (codes "third") rows))
+    (first_of (codes "second") rows)) (first_of (codes "first") rows)) (first_of (codes "file") rows)
+
 abbrev pub serve_in : List Row → Option LineValue
-serve_in rows = option_and_then (λ file. option_and_then (λ database. option_and_then (λ address.
-    option_map (λ requests. Serve file database address requests (is_set (first_of (codes "clock") rows))
-    (first_of (codes "record") rows))
-    (option_and_then count_in (first_of (codes "requests") rows)))
+serve_in rows = option_and_then (λ file. option_and_then (λ database.
+    option_map (λ address. Serve file database address (option_and_then count_in (first_of (codes "requests") rows))
+    (is_set (first_of (codes "clock") rows)) (first_of (codes "record") rows))
     (first_of (codes "address") rows)) (first_of (codes "database") rows)) (first_of (codes "file") rows)
 
 -- what a subcommand's name and the rows of its arguments ask
@@ -244,6 +261,7 @@ abbrev pub asked_in : Text × List Row → Option LineValue
 asked_in (name, rows) =
     if bytes_eq name (codes "adopt") then adopt_in rows
     else (if bytes_eq name (codes "rebuild") then rebuild_in rows
+    else (if bytes_eq name (codes "days") then days_in rows
     else (if bytes_eq name (codes "check") then check_in rows
     else (if bytes_eq name (codes "describe") then describe_in rows
     else (if bytes_eq name (codes "replay") then replay_in rows
@@ -252,7 +270,7 @@ asked_in (name, rows) =
     else (if bytes_eq name (codes "import") then import_in rows
     else (if bytes_eq name (codes "tick") then tick_in rows
     else (if bytes_eq name (codes "report") then report_in rows
-    else (if bytes_eq name (codes "serve") then serve_in rows else None))))))))))
+    else (if bytes_eq name (codes "serve") then serve_in rows else None)))))))))))
 
 -- what the words ask, the program's name first
 abbrev pub asked : List Text → Option LineValue

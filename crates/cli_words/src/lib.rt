@@ -9,5 +9,6 @@ pub use line::Line;
 pub use version::VERSION;
 
 mod arg_fault;
+mod arguments;
 mod line;
 mod version;

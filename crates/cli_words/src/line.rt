@@ -8,31 +8,38 @@ ghost use Rattle.clap.specs.Words.{rows_of, rule_of, subcommand_rows_of, with_ru
 ghost use Rattle.cli_words.specs.ArgFault.{IsRefusedBy};
 ghost use Rattle.cli_words.specs.Line.{Makes, adopt_app, adopt_in, asked, asked_in, line_value, check_app, check_in};
 ghost use Rattle.cli_words.specs.Line.{count_in, count_of, database_app, deliveries_app};
-ghost use Rattle.cli_words.specs.Line.{describe_app, describe_in, flag_rule};
-ghost use Rattle.cli_words.specs.Line.{desk_app, file_app, import_app, import_in, is_set, looked_over_rule, moment_in};
-ghost use Rattle.cli_words.specs.Line.{needed_rule, rebuild_app, rebuild_in, record_rule, rename_rule, replay_app, replay_in};
+ghost use Rattle.cli_words.specs.Line.{describe_app, describe_in};
+ghost use Rattle.cli_words.specs.Line.{desk_app, file_app, import_app, import_in, is_set, moment_in};
+ghost use Rattle.cli_words.specs.Line.{rebuild_app, rebuild_in, replay_app, replay_in};
 ghost use Rattle.cli_words.specs.Line.{report_app, report_in};
-ghost use Rattle.cli_words.specs.Line.{requests_rule, serve_app, serve_in, straighten_app};
-ghost use Rattle.cli_words.specs.Line.{straighten_in, tick_app, tick_in, until_rule, values_in, why_app, why_in};
+ghost use Rattle.cli_words.specs.Line.{days_app, days_in, serve_app, serve_in, straighten_app};
+ghost use Rattle.cli_words.specs.Line.{straighten_in, tick_app, tick_in, values_in, why_app, why_in};
 
 use crate::ArgFault;
+use crate::arguments::{
+    KEPT, flag, looked_over, needed, record_argument, rename_argument, requests_argument,
+    until_argument,
+};
 use crate::version::VERSION;
 use clap::error::ErrorKind;
-use clap::{Arg, ArgAction, ArgMatches, Command};
+use clap::{Arg, ArgMatches, Command};
 use std::alloc::{AllocError, Global};
 
 /// What the words of a command line ask of the program.
 #[derive(Drop)]
 pub enum Line<'a> {
     /// `check FILE [DB] [--explain] [--record PATH]`: reads the building of the file, and prints what it has, or what
-    /// of the tables in a database does not suit it, or whether they are those of a record.
+    /// of the tables in a database does not suit it, or whether they are those of a record. `check --hints FILE [CSV]`:
+    /// prints what of the building, and of a holiday list, is probably not meant.
     Check {
         /// The path of the building file.
         file: &'a str,
-        /// The path of the database, if it is to be looked over.
+        /// The path of the database, if it is to be looked over; with hints that of the holiday list.
         database: Option<&'a str>,
         /// Whether a fault of the file is explained.
         explain: bool,
+        /// Whether it is for hints.
+        hints: bool,
         /// The path of the record, if the tables are to be compared with it.
         record: Option<&'a str>,
     },
@@ -71,8 +78,8 @@ pub enum Line<'a> {
         file: &'a str,
         /// The path of the list of deliveries.
         deliveries: &'a str,
-        /// Before the first tick that is later than this the list ends, in hundredths of a second since 1970.
-        until: Option<i64>,
+        /// The moment before whose first later tick the list ends, as it was given.
+        until: Option<&'a str>,
     },
     /// `why FILE DELIVERIES POINT [--until AT]`: prints what the deliveries leave in the places of a point, and what
     /// put it there.
@@ -84,7 +91,7 @@ pub enum Line<'a> {
         /// The name of the point.
         point: &'a str,
         /// As that of `replay`.
-        until: Option<i64>,
+        until: Option<&'a str>,
     },
     /// `straighten FILE DELIVERIES`: prints the straight list of the deliveries over the building of the file.
     Straighten {
@@ -93,7 +100,7 @@ pub enum Line<'a> {
         /// The path of the list of deliveries.
         deliveries: &'a str,
     },
-    /// `import FILE DB CSV [--record PATH]`: delivers the import of a holiday list to the desk of a database.
+    /// `import FILE DB CSV [--dry-run] [--record PATH]`: delivers the import of a holiday list to the desk of a database.
     Import {
         /// The path of the building file.
         file: &'a str,
@@ -101,6 +108,8 @@ pub enum Line<'a> {
         database: &'a str,
         /// The path of the holiday list.
         holidays: &'a str,
+        /// Whether nothing is changed.
+        dry_run: bool,
         /// The path of the record, if one is kept.
         record: Option<&'a str>,
     },
@@ -124,7 +133,18 @@ pub enum Line<'a> {
         /// The day, as `YYYY-MM-DD`.
         date: &'a str,
     },
-    /// `serve FILE DB ADDRESS --requests N [--clock] [--record PATH]`: answers requests to the desk of a database.
+    /// `days FILE [DB] FROM TO`: prints the days of a range on which an exception of a schedule speaks.
+    Days {
+        /// The path of the building file.
+        file: &'a str,
+        /// The path of the database whose imported entries count, if there is one.
+        database: Option<&'a str>,
+        /// The first day, as `YYYY-MM-DD`.
+        from: &'a str,
+        /// The last day, as `YYYY-MM-DD`.
+        to: &'a str,
+    },
+    /// `serve FILE DB ADDRESS [--requests N] [--clock] [--record PATH]`: answers requests to the desk of a database.
     Serve {
         /// The path of the building file.
         file: &'a str,
@@ -132,8 +152,8 @@ pub enum Line<'a> {
         database: &'a str,
         /// The address to listen on, an IP address or a host's name, and a port.
         address: &'a str,
-        /// After how many connections it ends, from 1 to 1,000,000.
-        requests: u64,
+        /// After how many connections it ends, from 1 to 1,000,000; without, it goes on until it is ended.
+        requests: Option<u64>,
         /// Whether a tick of the machine's clock comes before each request.
         clock: bool,
         /// The path of the record, if one is kept.
@@ -178,7 +198,8 @@ fn desk_command<'a>(alloc: Global) -> Result<Command<'a>, AllocError>
     let desk = with_subcommand(desk, report_command(alloc));
     let desk = with_subcommand(desk, serve_command(alloc));
     let desk = with_subcommand(desk, adopt_command(alloc));
-    with_subcommand(desk, rebuild_command(alloc))
+    let desk = with_subcommand(desk, rebuild_command(alloc));
+    with_subcommand(desk, days_command(alloc))
 }
 
 /// The subcommand `adopt FILE DB NEW [--rename OLD=NEW].. [--dry-run]`.
@@ -219,7 +240,27 @@ fn rebuild_command<'a>(alloc: Global) -> Result<Command<'a>, AllocError>
     )
 }
 
-/// The subcommand `check FILE [DB] [--explain] [--record PATH]`.
+/// The subcommand `days FILE [DB] FROM TO`.
+fn days_command<'a>(alloc: Global) -> Result<Command<'a>, AllocError>
+    ensures { Makes days_app result }
+{
+    let about = "Prints the days from FROM to TO on which an exception of a schedule speaks";
+    let help = "The database whose imported entries count; without it the first day, as YYYY-MM-DD";
+    let first = needed(alloc, "first", "DB|FROM", help);
+    let second = needed(
+        alloc,
+        "second",
+        "FROM|TO",
+        "The first day; without DB the last one",
+    );
+    let third = Arg::new(alloc, "third")
+        .value_name("TO")
+        .help("The last day, where there is DB");
+    let days = with_argument(file_command(alloc, "days", about), first);
+    with_argument(with_argument(days, second), third)
+}
+
+/// The subcommand `check FILE [DB] [--explain] [--hints] [--record PATH]`.
 fn check_command<'a>(alloc: Global) -> Result<Command<'a>, AllocError>
     ensures { Makes check_app result }
 {
@@ -227,9 +268,11 @@ fn check_command<'a>(alloc: Global) -> Result<Command<'a>, AllocError>
         "Reads a building, and tells what it has or its first fault, or what of a database does not suit it";
     let help = "After a fault of the building, prints which item it is, and what is expected there";
     let check = with_argument(file_command(alloc, "check", about), looked_over(alloc));
+    let check = with_argument(check, flag(alloc, "explain", help));
+    let hints = "Prints what is allowed and probably not meant; beside FILE is then a holiday list";
     let compared = "A record, whose tables those of the database are to be";
     with_argument(
-        with_argument(check, flag(alloc, "explain", help)),
+        with_argument(check, flag(alloc, "hints", hints)),
         record_argument(alloc, compared),
     )
 }
@@ -272,17 +315,16 @@ fn straighten_command<'a>(alloc: Global) -> Result<Command<'a>, AllocError>
     deliveries_command(alloc, "straighten", about)
 }
 
-/// The subcommand `import FILE DB CSV [--record PATH]`.
+/// The subcommand `import FILE DB CSV [--dry-run] [--record PATH]`.
 fn import_command<'a>(alloc: Global) -> Result<Command<'a>, AllocError>
     ensures { Makes import_app result }
 {
     let about = "Adds a list of holidays to the calendars of a database, and prints the reply";
     let help = "The holidays, as CSV with the header calendar,entry";
     let holidays = needed(alloc, "holidays", "CSV", help);
-    with_argument(
-        database_command(alloc, "import", about, holidays),
-        record_argument(alloc, KEPT),
-    )
+    let import = database_command(alloc, "import", about, holidays);
+    let dry_run = flag(alloc, "dry-run", "Prints the reply, and changes nothing");
+    with_argument(with_argument(import, dry_run), record_argument(alloc, KEPT))
 }
 
 /// The subcommand `tick FILE DB AT [--record PATH]`.
@@ -307,7 +349,7 @@ fn report_command<'a>(alloc: Global) -> Result<Command<'a>, AllocError>
     database_command(alloc, "report", about, needed(alloc, "date", "DATE", help))
 }
 
-/// The subcommand `serve FILE DB ADDRESS --requests N [--clock] [--record PATH]`.
+/// The subcommand `serve FILE DB ADDRESS [--requests N] [--clock] [--record PATH]`.
 fn serve_command<'a>(alloc: Global) -> Result<Command<'a>, AllocError>
     ensures { Makes serve_app result }
 {
@@ -394,90 +436,6 @@ fn with_argument<'a>(
     }
 }
 
-/// An argument that has to be there, by its place among the words unless it gets a name.
-fn needed<'a>(alloc: Global, id: &'a str, value_name: &'a str, help: &'a str) -> Arg<'a>
-    ensures rule { rule_of result ≡ needed_rule id.now }
-    ensures local { result.global ≡ false }
-{
-    Arg::new(alloc, id)
-        .required(true)
-        .value_name(value_name)
-        .help(help)
-}
-
-/// The database that is looked over beside a building.
-fn looked_over<'a>(alloc: Global) -> Arg<'a>
-    ensures rule { rule_of result ≡ looked_over_rule }
-    ensures local { result.global ≡ false }
-{
-    Arg::new(alloc, "database")
-        .value_name("DB")
-        .help("The database of the desk, which is only read")
-}
-
-/// The number of connections.
-fn requests_argument<'a>(alloc: Global) -> Arg<'a>
-    ensures rule { rule_of result ≡ requests_rule }
-    ensures local { result.global ≡ false }
-{
-    let help = "After how many connections to end, from 1 to 1000000";
-    needed(alloc, "requests", "N", help)
-        .long("requests")
-        .value_parser(clap::value_parser!(u64).range(1..1_000_001))
-}
-
-/// Where a list of deliveries ends.
-fn until_argument<'a>(alloc: Global) -> Arg<'a>
-    ensures rule { rule_of result ≡ until_rule }
-    ensures local { result.global ≡ false }
-{
-    Arg::new(alloc, "until")
-        .long("until")
-        .value_name("AT")
-        .value_parser(clap::value_parser!(i64))
-        .help(
-            "Ends the list before its first tick later than this, in hundredths of a second since 1970",
-        )
-}
-
-/// What is said of a record that is kept.
-const KEPT: &str =
-    "Writes each delivery down at the end of this list, on the disk before it is made";
-
-/// The path of a record.
-fn record_argument<'a>(alloc: Global, help: &'a str) -> Arg<'a>
-    ensures rule { rule_of result ≡ record_rule }
-    ensures local { result.global ≡ false }
-{
-    Arg::new(alloc, "record")
-        .long("record")
-        .value_name("PATH")
-        .help(help)
-}
-
-/// A renaming, of which there may be many.
-fn rename_argument<'a>(alloc: Global) -> Arg<'a>
-    ensures rule { rule_of result ≡ rename_rule }
-    ensures local { result.global ≡ false }
-{
-    Arg::new(alloc, "rename")
-        .long("rename")
-        .action(ArgAction::Append)
-        .value_name("OLD=NEW")
-        .help("A name of the tables, and the one that the building has for it")
-}
-
-/// A flag.
-fn flag<'a>(alloc: Global, name: &'a str, help: &'a str) -> Arg<'a>
-    ensures rule { rule_of result ≡ flag_rule name.now }
-    ensures local { result.global ≡ false }
-{
-    Arg::new(alloc, name)
-        .long(name)
-        .action(ArgAction::SetTrue)
-        .help(help)
-}
-
 /// What the subcommand that was met asks, or `None` where a value is missing or memory was refused.
 fn line_in<'a>(alloc: Global, matches: &ArgMatches<'a>) -> Option<Line<'a>>
     ensures { IfSome result (λ line. option_and_then asked_in (subcommand_rows_of matches.now) ≡ Some (line_value line)) }
@@ -496,6 +454,7 @@ fn line_without_list<'a>(name: &str, inner: &ArgMatches<'a>) -> Option<Line<'a>>
 {
     match name {
         "rebuild" => rebuild_line(inner),
+        "days" => days_line(inner),
         "check" => check_line(inner),
         "describe" => describe_line(inner),
         "replay" => replay_line(inner),
@@ -572,6 +531,25 @@ fn rebuild_line<'a>(matches: &ArgMatches<'a>) -> Option<Line<'a>>
     }
 }
 
+/// What the arguments of `days` ask.
+fn days_line<'a>(matches: &ArgMatches<'a>) -> Option<Line<'a>>
+    ensures { option_map line_value result ≡ days_in (rows_of (found_of matches.now)) }
+{
+    let file = text_at(matches, "file")?;
+    let first = text_at(matches, "first")?;
+    let second = text_at(matches, "second")?;
+    let (database, from, to) = match text_at(matches, "third") {
+        Some(third) => (Some(first), second, third),
+        None => (None, first, second),
+    };
+    Some(Line::Days {
+        file,
+        database,
+        from,
+        to,
+    })
+}
+
 /// What the arguments of `check` ask.
 fn check_line<'a>(matches: &ArgMatches<'a>) -> Option<Line<'a>>
     ensures { option_map line_value result ≡ check_in (rows_of (found_of matches.now)) }
@@ -579,11 +557,13 @@ fn check_line<'a>(matches: &ArgMatches<'a>) -> Option<Line<'a>>
     let file = text_at(matches, "file")?;
     let database = text_at(matches, "database");
     let explain = is_set(matches, "explain");
+    let hints = is_set(matches, "hints");
     let record = text_at(matches, "record");
     Some(Line::Check {
         file,
         database,
         explain,
+        hints,
         record,
     })
 }
@@ -603,7 +583,7 @@ fn replay_line<'a>(matches: &ArgMatches<'a>) -> Option<Line<'a>>
     if let Some(file) = text_at(matches, "file")
         && let Some(deliveries) = text_at(matches, "deliveries")
     {
-        let until = moment_at(matches, "until");
+        let until = text_at(matches, "until");
         Some(Line::Replay {
             file,
             deliveries,
@@ -622,7 +602,7 @@ fn why_line<'a>(matches: &ArgMatches<'a>) -> Option<Line<'a>>
         && let Some(deliveries) = text_at(matches, "deliveries")
         && let Some(point) = text_at(matches, "point")
     {
-        let until = moment_at(matches, "until");
+        let until = text_at(matches, "until");
         Some(Line::Why {
             file,
             deliveries,
@@ -655,11 +635,13 @@ fn import_line<'a>(matches: &ArgMatches<'a>) -> Option<Line<'a>>
         && let Some(database) = text_at(matches, "database")
         && let Some(holidays) = text_at(matches, "holidays")
     {
+        let dry_run = is_set(matches, "dry-run");
         let record = text_at(matches, "record");
         Some(Line::Import {
             file,
             database,
             holidays,
+            dry_run,
             record,
         })
     } else {
@@ -712,8 +694,8 @@ fn serve_line<'a>(matches: &ArgMatches<'a>) -> Option<Line<'a>>
     if let Some(file) = text_at(matches, "file")
         && let Some(database) = text_at(matches, "database")
         && let Some(address) = text_at(matches, "address")
-        && let Some(requests) = count_at(matches, "requests")
     {
+        let requests = count_at(matches, "requests");
         let clock = is_set(matches, "clock");
         let record = text_at(matches, "record");
         Some(Line::Serve {

@@ -155,7 +155,7 @@ day_of-is y m d day e =
     let parts : HasParts y m d (day_with y m d made.0) = (refl, refl, refl, year) in
     subst (HasParts y m d) made.2 parts
 
-full_date_at-ok : (text : Text) (day : Date) → full_date_at text ≡ Ok day → (text ≡ day_text day) × IsOfYears day
+pub full_date_at-ok : (text : Text) (day : Date) → full_date_at text ≡ Ok day → (text ≡ day_text day) × IsOfYears day
 unfolding full_date_at one_day
 full_date_at-ok text day e = by_test (is_some (cut_at (codes "/") text)) e
   where

@@ -38,6 +38,10 @@ day_text day =
     four_digit_text (unsigned_abs day.year)
     ++ (codes "-" ++ (two_digit_text day.month ++ (codes "-" ++ two_digit_text day.day)))
 
+-- the text is YYYY-MM-DD of a day from 1900-01-01 to 2154-12-31
+abbrev pub SpellsDay : Text → Date → Type 0
+SpellsDay text day = (text ≡ day_text day) × IsOfYears day
+
 -- ---- the day with these parts, if there is one
 
 -- that a test passes, if it does

@@ -1,10 +1,12 @@
 //! The days over which calendars and schedules run.
-ghost use Rattle.std.specs.Prelude.{◌≡◌, ◌↔◌, pos, IsSome, IfSome};
+ghost use Rattle.std.specs.Prelude.{◌≡◌, ◌↔◌, pos, IsSome, IfSome, Some};
 ghost use Rattle.std.specs.Int.{IsInRange};
 ghost use Rattle.jiff_core.specs.Date.{IsYmd, weekday_of};
 ghost use Rattle.jiff_core.specs.Weekday.{monday_zero};
-ghost use Rattle.dates.specs.Day.{days_left, IsDay};
+ghost use Rattle.jiff_core.specs.declared.civil.date.Date.{Date as a_date};
+ghost use Rattle.dates.specs.Day.{days_left, IsDay, SpellsDay};
 
+use crate::date_fields::DateFields;
 use jiff::civil::{Date, Weekday};
 use jiff_core::civil;
 use std::fmt;
@@ -47,6 +49,13 @@ impl Day {
             }),
             Err(_) => None,
         }
+    }
+
+    /// The day from 1900-01-01 to 2154-12-31 that a text spells as `YYYY-MM-DD`, if it is one. Takes no memory.
+    pub fn read(text: &str) -> Option<Day>
+        ensures { (day : a_date) → (result ≡ Some day) ↔ SpellsDay text.now day }
+    {
+        DateFields::read_day(text).ok()
     }
 
     /// The year, 1900 to 2154.

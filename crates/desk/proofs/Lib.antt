@@ -2,7 +2,6 @@ pub mod ClockNames
 pub mod KnownLemmas
 pub mod OpeningLemmas
 pub mod RunLemmas
-pub mod AskedLemmas
 pub mod ReportLemmas
 pub mod SegmentLemmas
 pub mod WeekdayLemmas

@@ -9,14 +9,12 @@
 //!
 //! The report of a day has a line for each schedule, whether it is active on the day and which value it has when
 //! (`report_lines`), and one for each point, how it is now (`points`): the text of `specs/DayReport.antt`, byte for
-//! byte. The day that is asked is read by `read_day` (`asked_day`).
+//! byte.
 #![tactic(auto)]
 
-pub use asked_day::read_day;
 pub use operating::Desk;
 pub use point_state::PointState;
 
-mod asked_day;
 mod opening;
 mod operating;
 mod point_state;

@@ -1,3 +1,4 @@
+pub mod OwnLemmas
 pub mod ItemLemmas
 pub mod PlaceLemmas
 pub mod SuitLemmas

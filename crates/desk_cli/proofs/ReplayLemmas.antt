@@ -22,6 +22,8 @@ use Rattle.cli_common.proofs.PrintedLemmas.{Appends-Appends, Appends-Keeps, Appe
 use Rattle.desk_cli.specs.ListLines.{TakesLine}
 use Rattle.desk_cli.specs.Replay.{Prints, Replays, answers_to, deliveries_in, is_past_until, line_of_point, lines_of, lines_until}
 use Rattle.desk_cli.specs.Replay.{point_lines, state_line}
+use Rattle.desk_cli.specs.Until.{IsUntil, until_line}
+use Rattle.points.specs.Texts.{Text}
 use Rattle.desk_cli.proofs.LineLemmas.{deliveries_in-append, lines-more, parsed_by-append, until-none, until-past}
 use Rattle.delivery_json.specs.ReplyText.{refusal_line, reply_line}
 
@@ -122,28 +124,34 @@ Progress-line b until E bytes line left after old mid new now then p takes withi
     }
 
 -- what is printed stays printed
-pub Replays-Keeps : (until : Option ℤ) (file list : List ℕ) (old mid new : Option (List ℕ)) → Replays until file list old mid
-    → Keeps mid new → Replays until file list old new
-Replays-Keeps until file list old mid new r kept = record {
+pub Replays-Keeps : (said : Option Text) (file list : List ℕ) (old mid new : Option (List ℕ)) → Replays said file list old mid
+    → Keeps mid new → Replays said file list old new
+Replays-Keeps said file list old mid new r kept = record {
   building = r.building;
+  until = r.until;
   parsed = r.parsed;
   building_is = r.building_is;
+  until_is = r.until_is;
   parsed_is = r.parsed_is;
   printed = Appends-Keeps old mid new _ r.printed kept;
 }
 
--- the replies and then the points
-pub Replays-done : (until : Option ℤ) (file list : List ℕ) (b b' b'' : Building) (old mid new : Option (List ℕ)) (now : Content)
-    → building_of file ≡ Ok (contents_of b) → b' ≡ b
-    → Prints b' [] (lines_until b' until (lines_of list)) old mid now → b'' ≡ b' → Appends mid new (point_lines b'' now.tables)
-    → Replays until file list old new
-Replays-done until file list b b' b'' old mid new now file_is same prints still points = record {
-  building = b';
+-- the replies, then the points, and the moment
+pub Replays-done : (said : Option Text) (until : Option ℤ) (file list : List ℕ) (b b' : Building) (old mid shown new : Option (List ℕ))
+    (now : Content) (told : List ℕ)
+    → building_of file ≡ Ok (contents_of b) → IsUntil b said until
+    → Prints b [] (lines_until b until (lines_of list)) old mid now → b' ≡ b → Appends mid shown (point_lines b' now.tables)
+    → told ≡ until_line b until → Appends shown new told → Replays said file list old new
+Replays-done said until file list b b' old mid shown new now told file_is until_is prints still points told_is end = record {
+  building = b;
+  until = until;
   parsed = prints.parsed;
-  building_is = file_is ∙ ap (λ (building : Building). Ok (contents_of building)) (sym same);
+  building_is = file_is;
+  until_is = until_is;
   parsed_is = prints.parsed_is;
-  printed = Appends-Appends old mid new _ _ prints.printed (subst (λ text. Appends mid new text)
-      (ap₂ (λ x (held : Content). point_lines x held.tables) still prints.holds) points);
+  printed = Appends-Appends old mid new _ _ prints.printed (Appends-Appends mid shown new _ _
+      (subst (λ text. Appends mid shown text) (ap₂ (λ x (held : Content). point_lines x held.tables) still prints.holds) points)
+      (subst (λ text. Appends shown new text) told_is end));
 }
 
 -- ---- points, one after another

@@ -18,6 +18,8 @@ use Rattle.points.specs.Beginnings.{AppendsStart}
 use Rattle.cli_common.proofs.PrintedLemmas.{start-Keeps, start-after, start-longer, start-nothing, start-whole}
 use Rattle.desk_cli.specs.Replay.{Prints, PrintsNoMore, PrintsStart, deliveries_in, is_empty_line, is_past_until, lines_of, lines_until}
 use Rattle.desk_cli.specs.Replay.{point_lines}
+use Rattle.desk_cli.specs.Until.{IsUntil, until_line}
+use Rattle.points.specs.Texts.{Text}
 use Rattle.delivery_json.specs.ReplyText.{refusal_line, reply_line}
 use Rattle.desk_cli.proofs.LineLemmas.{parsed_by-append, until-within}
 use Rattle.desk_cli.proofs.ReplayLemmas.{Progress, answers_to-append}
@@ -155,12 +157,14 @@ Progress-stops-at b until E bytes line left after old mid new now p takes within
 
 -- ---- the whole run
 
-pub no_more-lines : (until : Option ℤ) (file list : List ℕ) (b b' : Building) (old mid new : Option (List ℕ)) → building_of file ≡ Ok (contents_of b)
-    → b' ≡ b → PrintsStart b' [] (lines_until b' until (lines_of list)) old mid
-    → Keeps mid new → PrintsNoMore until file list old new
-no_more-lines until file list b b' old mid new file_is same part kept = inr (
-  b',
-  file_is ∙ ap (λ (building : Building). Ok (contents_of building)) (sym same),
+pub no_more-lines : (said : Option Text) (until : Option ℤ) (file list : List ℕ) (b : Building) (old mid new : Option (List ℕ))
+    → building_of file ≡ Ok (contents_of b) → IsUntil b said until → PrintsStart b [] (lines_until b until (lines_of list)) old mid
+    → Keeps mid new → PrintsNoMore said file list old new
+no_more-lines said until file list b old mid new file_is until_is part kept = inr (
+  b,
+  until,
+  file_is,
+  until_is,
   inl (record {
     first = part.first;
     others = part.others;
@@ -171,21 +175,49 @@ no_more-lines until file list b b' old mid new file_is same part kept = inr (
   }),
 )
 
-pub no_more-points : (until : Option ℤ) (file list : List ℕ) (b b' b'' : Building) (old mid new last : Option (List ℕ)) (now : Content)
-    → building_of file ≡ Ok (contents_of b) → b' ≡ b
-    → Prints b' [] (lines_until b' until (lines_of list)) old mid now → b'' ≡ b' → AppendsStart mid new (point_lines b'' now.tables) → Keeps new last
-    → PrintsNoMore until file list old last
-no_more-points until file list b b' b'' old mid new last now file_is same prints still points kept = inr (
-  b',
-  file_is ∙ ap (λ (building : Building). Ok (contents_of building)) (sym same),
+-- all lines, and a beginning of what follows them
+pub no_more-rest : (said : Option Text) (until : Option ℤ) (file list : List ℕ) (b : Building) (old mid new last : Option (List ℕ))
+    (now : Content)
+    → building_of file ≡ Ok (contents_of b) → IsUntil b said until → (prints : Prints b [] (lines_until b until (lines_of list)) old mid now)
+    → AppendsStart mid new (point_lines b (tables b (deliveries_in prints.parsed)) ++ until_line b until) → Keeps new last
+    → PrintsNoMore said file list old last
+no_more-rest said until file list b old mid new last now file_is until_is prints rest kept = inr (
+  b,
+  until,
+  file_is,
+  until_is,
   inr (record {
     parsed = prints.parsed;
     parsed_is = prints.parsed_is;
-    printed = start-Keeps old new last _
-        (start-after old mid new _ _ prints.printed (subst (λ text. AppendsStart mid new text)
-        (λ i. point_lines (still i) (prints.holds i).tables) points)) kept;
+    printed = start-Keeps old new last _ (start-after old mid new _ _ prints.printed rest) kept;
   }),
 )
+
+points_of : (b b' : Building) (E : List Delivery) (now : Content) → b' ≡ b → now ≡ sound (tables b E)
+    → point_lines b' now.tables ≡ point_lines b (tables b E)
+points_of b b' E now still holds i = point_lines (still i) (holds i).tables
+
+-- a beginning of the points
+pub no_more-points : (said : Option Text) (until : Option ℤ) (file list : List ℕ) (b b' : Building) (old mid new last : Option (List ℕ))
+    (now : Content)
+    → building_of file ≡ Ok (contents_of b) → IsUntil b said until → Prints b [] (lines_until b until (lines_of list)) old mid now
+    → b' ≡ b → AppendsStart mid new (point_lines b' now.tables) → Keeps new last → PrintsNoMore said file list old last
+no_more-points said until file list b b' old mid new last now file_is until_is prints still points kept =
+    no_more-rest said until file list b old mid new last now file_is until_is prints
+    (start-longer mid new _ (until_line b until)
+    (subst (λ text. AppendsStart mid new text) (points_of b b' (deliveries_in prints.parsed) now still prints.holds) points)) kept
+
+-- the points, and a beginning of the moment
+pub no_more-told : (said : Option Text) (until : Option ℤ) (file list : List ℕ) (b b' : Building)
+    (old mid shown new last : Option (List ℕ)) (now : Content) (told : List ℕ)
+    → building_of file ≡ Ok (contents_of b) → IsUntil b said until → Prints b [] (lines_until b until (lines_of list)) old mid now
+    → b' ≡ b → Appends mid shown (point_lines b' now.tables) → told ≡ until_line b until → AppendsStart shown new told → Keeps new last
+    → PrintsNoMore said file list old last
+no_more-told said until file list b b' old mid shown new last now told file_is until_is prints still points told_is end kept =
+    no_more-rest said until file list b old mid new last now file_is until_is prints
+    (start-after mid shown new _ _
+    (subst (λ text. Appends mid shown text) (points_of b b' (deliveries_in prints.parsed) now still prints.holds) points)
+    (subst (λ text. AppendsStart shown new text) told_is end)) kept
 
 pub Keeps-Keeps : (a b c : Option (List ℕ)) → Keeps a b → Keeps b c → Keeps a c
 Keeps-Keeps None b c h k = tt
@@ -194,15 +226,17 @@ Keeps-Keeps (Some xs) (Some ys) None h k = absurd k
 Keeps-Keeps (Some xs) (Some ys) (Some zs) h k = k ∙ h
 
 -- what is printed stays printed
-pub no_more-Keeps : (until : Option ℤ) (file list : List ℕ) (old mid new : Option (List ℕ)) → PrintsNoMore until file list old mid
-    → Keeps mid new → PrintsNoMore until file list old new
-no_more-Keeps until file list old mid new said kept = ⊎_elim
+pub no_more-Keeps : (said : Option Text) (file list : List ℕ) (old mid new : Option (List ℕ)) → PrintsNoMore said file list old mid
+    → Keeps mid new → PrintsNoMore said file list old new
+no_more-Keeps said file list old mid new printed kept = ⊎_elim
     (λ nothing. inl (Keeps-Keeps old mid new nothing kept))
     (λ some. ⊎_elim
-    (λ first. no_more-lines until file list some.0 some.0 old mid new some.1 refl first kept)
+    (λ first. no_more-lines said some.1 file list some.0 old mid new some.2 some.3 first kept)
     (λ all. inr (
       some.0,
       some.1,
+      some.2,
+      some.3,
       inr (record {
         parsed = all.parsed;
         parsed_is = all.parsed_is;
@@ -210,5 +244,5 @@ no_more-Keeps until file list old mid new said kept = ⊎_elim
             all.printed kept;
       }),
     ))
-    some.2)
-    said
+    some.4)
+    printed

@@ -1,3 +1,4 @@
+pub mod Until
 pub mod Replay
 pub mod Describe
 pub mod LineAnswer

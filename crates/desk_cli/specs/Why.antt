@@ -1,5 +1,5 @@
 -- What is printed where it is asked why a point has its value.
-use Rattle.std.specs.Prelude.{◌≡◌, ◌⊎◌, ℕ, ℤ, List, Option, Some, Ok, option_and_then}
+use Rattle.std.specs.Prelude.{◌≡◌, ◌⊎◌, ℕ, ℤ, List, ◌++◌, Option, Some, Ok, option_and_then}
 use Rattle.std.specs.Io.KnownBytes.{Appends, Keeps}
 use Rattle.desk_why.specs.Authors.{places_of}
 use Rattle.desk_why.specs.NextChanges.{next_changes}
@@ -13,37 +13,41 @@ use Rattle.points.specs.Beginnings.{AppendsStart}
 use Rattle.points.specs.declared.point.Point.{Point}
 use Rattle.points.specs.PriorityArray.{present_of}
 use Rattle.points.specs.Rights.{point_named}
-use Rattle.points.specs.Texts.{name_of}
+use Rattle.points.specs.Texts.{Text, name_of}
+use Rattle.desk_cli.specs.Until.{IsUntil, until_line}
 use Rattle.desk_why.specs.WhyLines.{why_text}
 
--- the text of a point after deliveries: what it presents, what its places hold and by whom, and when the schedules that
--- target it change next
-abbrev pub explanation : Building → List Delivery → Point → List ℕ
-explanation building deliveries point = why_text building point
+-- the text of a point after deliveries up to a moment: what it presents, what its places hold and by whom, when the
+-- schedules that target it change next, and which moment that was
+abbrev pub explanation : Building → List Delivery → Point → Option ℤ → List ℕ
+explanation building deliveries point until = why_text building point
     (present_of ((machine building deliveries).places point.name) point.relinquish_default)
     (places_of building deliveries point.name)
     (next_changes building deliveries point.name)
+    ++ until_line building until
 
 -- the point that a word names
 abbrev pub point_of : Building → List ℕ → Option Point
 point_of building word = option_and_then (point_named building.points) (name_of word)
 
--- the file is a building, the word names a point of it, each line of the list up to a moment tells something, and these
--- deliveries and this point are so
-pub record Asks (file list word : List ℕ) (until : Option ℤ) : Type 0 where
+-- the file is a building, the word names a point of it, each line of the list up to the moment that is said tells
+-- something, and these deliveries and this point are so
+pub record Asks (file list word : List ℕ) (said : Option Text) : Type 0 where
   pub building : Building
   pub point : Point
+  pub until : Option ℤ
   pub read : List ParsedLine
   pub building_is : building_of file ≡ Ok (contents_of building)
   pub point_is : point_of building word ≡ Some point
+  pub until_is : IsUntil building said until
   pub read_is : parsed_by building (lines_until building until (lines_of list)) ≡ Some read
 
 -- and the text of the point after these deliveries was printed
-abbrev pub Explains : (file list word : List ℕ) → Option ℤ → Option (List ℕ) → Option (List ℕ) → Type 0
-Explains file list word until old new = (asked : Asks file list word until)
-    × Appends old new (explanation asked.building (deliveries_in asked.read) asked.point)
+abbrev pub Explains : (file list word : List ℕ) → Option Text → Option (List ℕ) → Option (List ℕ) → Type 0
+Explains file list word said old new = (asked : Asks file list word said)
+    × Appends old new (explanation asked.building (deliveries_in asked.read) asked.point asked.until)
 
 -- nothing was printed; or a beginning of that text was
-abbrev pub ExplainsNoMore : (file list word : List ℕ) → Option ℤ → Option (List ℕ) → Option (List ℕ) → Type 0
-ExplainsNoMore file list word until old new = Keeps old new ⊎ ((asked : Asks file list word until)
-    × AppendsStart old new (explanation asked.building (deliveries_in asked.read) asked.point))
+abbrev pub ExplainsNoMore : (file list word : List ℕ) → Option Text → Option (List ℕ) → Option (List ℕ) → Type 0
+ExplainsNoMore file list word said old new = Keeps old new ⊎ ((asked : Asks file list word said)
+    × AppendsStart old new (explanation asked.building (deliveries_in asked.read) asked.point asked.until))

@@ -32,5 +32,6 @@ mod list_reading;
 mod members;
 mod replay_run;
 mod straighten_run;
+mod until;
 mod why_run;
 mod zone;

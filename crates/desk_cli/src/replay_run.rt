@@ -1,6 +1,6 @@
 //! The run of a list of deliveries over a building, in memory.
 
-ghost use Rattle.std.specs.Prelude.{◌≡◌, List, ℕ, [], ◌∷◌, IfOk, Ok, OnOk, Some, string_bytes};
+ghost use Rattle.std.specs.Prelude.{◌≡◌, List, Option, ℕ, [], ◌∷◌, IfOk, Ok, OnOk, Some, string_bytes};
 ghost use Rattle.std.specs.Io.Buffered.{reader_remaining};
 ghost use Rattle.std.specs.Io.KnownBytes.{Appends, Keeps};
 ghost use Rattle.points.specs.Rights.{point_named};
@@ -12,11 +12,14 @@ ghost use Rattle.deliveries.specs.declared.delivery.Delivery.{Delivery as a_deli
 ghost use Rattle.cli_common.specs.Input.{bytes_of};
 ghost use Rattle.points.specs.Beginnings.{AppendsStart};
 ghost use Rattle.desk_cli.specs.Replay.{Opens, Prints, PrintsNoMore, PrintsStart, Replays};
+ghost use Rattle.desk_cli.specs.Until.{IsUntil, said_in};
+ghost use Rattle.points.specs.Texts.{Text};
 ghost use Rattle.desk_cli.specs.Replay.{lines_of, lines_until, point_lines, state_line};
 
 use crate::line_answer::answer_line;
 use crate::list_end::is_past;
 use crate::list_lines::{is_empty, read_line};
+use crate::until::{until_line, until_of};
 use cli_common::{Input, ListInput, RunFault, Status, flush, print_text, read_building};
 use delivery_json::LineFault;
 use desk::Desk;
@@ -30,21 +33,21 @@ use store_memory::MemStore;
 /// Runs the deliveries of a list over the building of a file, in memory: prints each reply as a line,
 /// and then the POINT line of each point in file order. Empty lines are passed over, also with a CR.
 ///
-/// Where `until` is a moment, in hundredths of a second since 1970-01-01T00:00:00Z, the list ends before its first line
-/// that has a tick later than it, whatever is wrong with that tick: that line and those after it are not answered, and
-/// the points are as the lines before it leave them.
+/// Where `until` is a moment (`moments`), the list ends before its first line that has a tick later than it, whatever is
+/// wrong with that tick: that line and those after it are not answered, the points are as the lines before it leave them,
+/// and a last line tells which moment of the building's clock that was.
 ///
-/// The building is read, and refused, before the list is opened. A fault is printed to `fault` as one line,
+/// The building is read, and refused, then the moment, before the list is opened. A fault is printed to `fault` as one line,
 /// in one write, and ends the run: the replies before it stand, and no POINT line follows a line that
 /// is no delivery. A line of an import whose holiday list is at fault is answered with its refusal, and
 /// nothing is delivered. Whatever the end, nothing else is printed: a beginning of what the first lines are
-/// answered, or of all answers and the points. `out` is flushed where no further line is at hand, and at the
+/// answered, or of all answers, the points and the moment. `out` is flushed where no further line is at hand, and at the
 /// end of the run, whatever it was; if that loses output, this is the fault that is reported.
 pub fn replay<B: Read + Drop, D: Read + Drop, O, W: Write, F: Write>(
     alloc: Global,
     file: Input<'_, B>,
     deliveries: ListInput<'_, O>,
-    until: Option<i64>,
+    until: Option<&str>,
     out: &mut W,
     fault: &mut F,
 ) -> Status
@@ -54,12 +57,12 @@ where
     ensures done { result ≡ Status.Done → (file_bytes list_bytes : List ℕ)
         → bytes_of B.remaining file.entry.reader ≡ Some file_bytes
         → Opens (O.post deliveries.entry.open) (bytes_of (reader_remaining D.remaining)) list_bytes
-        → Replays until file_bytes list_bytes (W.contents out.old) (W.contents out.new) }
+        → Replays (said_in until.entry) file_bytes list_bytes (W.contents out.old) (W.contents out.new) }
     ensures quiet { result ≡ Status.Done → Keeps (F.contents fault.old) (F.contents fault.new) }
     ensures no_more { (file_bytes list_bytes : List ℕ)
         → bytes_of B.remaining file.entry.reader ≡ Some file_bytes
         → Opens (O.post deliveries.entry.open) (bytes_of (reader_remaining D.remaining)) list_bytes
-        → PrintsNoMore until file_bytes list_bytes (W.contents out.old) (W.contents out.new) }
+        → PrintsNoMore (said_in until.entry) file_bytes list_bytes (W.contents out.old) (W.contents out.new) }
 {
     match replay_over(alloc, file, deliveries, until, out) {
         Ok(()) => Status::Done,
@@ -75,7 +78,7 @@ fn replay_over<'a, B: Read + Drop, D: Read + Drop, O, W: Write>(
     alloc: Global,
     file: Input<'a, B>,
     deliveries: ListInput<'a, O>,
-    until: Option<i64>,
+    said: Option<&'a str>,
     out: &mut W,
 ) -> Result<(), RunFault<'a>>
 where
@@ -84,18 +87,19 @@ where
     ensures done { OnOk result ((file_bytes list_bytes : List ℕ)
         → bytes_of B.remaining file.entry.reader ≡ Some file_bytes
         → Opens (O.post deliveries.entry.open) (bytes_of (reader_remaining D.remaining)) list_bytes
-        → Replays until file_bytes list_bytes (W.contents out.old) (W.contents out.new)) }
+        → Replays (said_in said.entry) file_bytes list_bytes (W.contents out.old) (W.contents out.new)) }
     ensures no_more { (file_bytes list_bytes : List ℕ)
         → bytes_of B.remaining file.entry.reader ≡ Some file_bytes
         → Opens (O.post deliveries.entry.open) (bytes_of (reader_remaining D.remaining)) list_bytes
-        → PrintsNoMore until file_bytes list_bytes (W.contents out.old) (W.contents out.new) }
+        → PrintsNoMore (said_in said.entry) file_bytes list_bytes (W.contents out.old) (W.contents out.new) }
 {
     let building = read_building(alloc, file)?;
+    let until = until_of(&building, said)?;
     let mut desk = Desk::new(alloc, building, MemStore::new(alloc));
     print_list(alloc, &mut desk, deliveries, until, out)
 }
 
-/// Answers each line of the list, and then prints the points. The desk is lent, so that no exit here drops one: at the
+/// Answers each line of the list up to a moment, and then prints the points and which moment that was. The desk is lent, so that no exit here drops one: at the
 /// type of one store that is dear to prove.
 fn print_list<'a, S: Store + Drop, D: Read + Drop, O, W: Write>(
     alloc: Global,
@@ -107,23 +111,25 @@ fn print_list<'a, S: Store + Drop, D: Read + Drop, O, W: Write>(
 where
     O: FnOnce() -> io::Result<BufReader<D>>,
     requires { O.IsAlwaysCallable deliveries.open }
-    ensures done { OnOk result ((file_bytes list_bytes : List ℕ) → (S.standing desk.new.store).is_honest
-        → building_of file_bytes ≡ Ok (contents_of desk.old.building)
+    ensures done { OnOk result ((file_bytes list_bytes : List ℕ) (said : Option Text) → (S.standing desk.new.store).is_honest
+        → building_of file_bytes ≡ Ok (contents_of desk.old.building) → IsUntil desk.old.building said until
         → Opens (O.post deliveries.entry.open) (bytes_of (reader_remaining D.remaining)) list_bytes
         → Holds desk.old.building [] (S.standing desk.old.store)
-        → Replays until file_bytes list_bytes (W.contents out.old) (W.contents out.new)) }
-    ensures no_more { (file_bytes list_bytes : List ℕ) → (S.standing desk.new.store).is_honest
-        → building_of file_bytes ≡ Ok (contents_of desk.old.building)
+        → Replays said file_bytes list_bytes (W.contents out.old) (W.contents out.new)) }
+    ensures no_more { (file_bytes list_bytes : List ℕ) (said : Option Text) → (S.standing desk.new.store).is_honest
+        → building_of file_bytes ≡ Ok (contents_of desk.old.building) → IsUntil desk.old.building said until
         → Opens (O.post deliveries.entry.open) (bytes_of (reader_remaining D.remaining)) list_bytes
         → Holds desk.old.building [] (S.standing desk.old.store)
-        → PrintsNoMore until file_bytes list_bytes (W.contents out.old) (W.contents out.new) }
+        → PrintsNoMore said file_bytes list_bytes (W.contents out.old) (W.contents out.new) }
 {
+    let told = until_line(alloc, desk.building(), until)?;
     let ListInput { path, open } = deliveries;
     match open() {
         Ok(reader) => print_replies(alloc, desk, path, reader, until, out)?,
         Err(error) => return Err(RunFault::of_read(&error, path)),
     }
     print_points(alloc, desk, out)?;
+    print_text(out, told.as_bytes())?;
     flush(out)
 }
 

@@ -4,9 +4,11 @@ ghost use Rattle.std.specs.Io.Buffered.{reader_remaining};
 ghost use Rattle.std.specs.Io.KnownBytes.{Keeps};
 ghost use Rattle.desk_cli.specs.Replay.{Opens};
 ghost use Rattle.cli_common.specs.Input.{bytes_of};
+ghost use Rattle.desk_cli.specs.Until.{said_in};
 ghost use Rattle.desk_cli.specs.Why.{Explains, ExplainsNoMore, explanation, point_of};
 
 use crate::list_reading::list_deliveries;
+use crate::until::{until_line, until_of};
 use building::Building;
 use cli_common::{Input, ListInput, RunFault, Status, flush, print_text, read_building};
 use deliveries::Delivery;
@@ -17,11 +19,11 @@ use std::io::{self, BufReader, Read, Write};
 
 /// Prints what a point of the building of a file presents after the deliveries of a list, what put each value in its
 /// places, and when the schedules that target it change next on the local day of the last tick: `desk why`. Empty lines
-/// of the list are passed over, also with a CR, and so is an import whose holiday list is at fault. Where `until` is a
-/// moment, in hundredths of a second since 1970-01-01T00:00:00Z, the list ends before its first line that has a tick
-/// later than it, and that line and those after it are not looked at.
+/// of the list are passed over, also with a CR, and so is an import whose holiday list is at fault. Where `until`
+/// is a moment (`moments`), the list ends before its first line that has a tick later than it, that line and those after it
+/// are not looked at, and a last line tells which moment of the building's clock that was.
 ///
-/// The building is read, and refused, before the point is looked for, and that before the list is opened; the whole
+/// The building is read, and refused, before the point is looked for, then the moment, and then the list is opened; the whole
 /// list is read before anything is printed. A fault is one line on `fault`, in one write, and ends the run: a file that
 /// can't be read or is no building, a name of no point of it, a line that is no delivery, lack of memory, or an output
 /// that fails. By then nothing is printed, or, where the output ended the run, a beginning of the text. `out` is
@@ -31,7 +33,7 @@ pub fn why<B: Read + Drop, D: Read + Drop, O, W: Write, F: Write>(
     file: Input<'_, B>,
     list: ListInput<'_, O>,
     point: &str,
-    until: Option<i64>,
+    until: Option<&str>,
     out: &mut W,
     fault: &mut F,
 ) -> Status
@@ -41,12 +43,12 @@ where
     ensures done { result ≡ Status.Done → (file_bytes list_bytes : List ℕ)
         → bytes_of B.remaining file.entry.reader ≡ Some file_bytes
         → Opens (O.post list.entry.open) (bytes_of (reader_remaining D.remaining)) list_bytes
-        → Explains file_bytes list_bytes point.now until (W.contents out.old) (W.contents out.new) }
+        → Explains file_bytes list_bytes point.now (said_in until.entry) (W.contents out.old) (W.contents out.new) }
     ensures quiet { result ≡ Status.Done → Keeps (F.contents fault.old) (F.contents fault.new) }
     ensures no_more { (file_bytes list_bytes : List ℕ)
         → bytes_of B.remaining file.entry.reader ≡ Some file_bytes
         → Opens (O.post list.entry.open) (bytes_of (reader_remaining D.remaining)) list_bytes
-        → ExplainsNoMore file_bytes list_bytes point.now until (W.contents out.old) (W.contents out.new) }
+        → ExplainsNoMore file_bytes list_bytes point.now (said_in until.entry) (W.contents out.old) (W.contents out.new) }
 {
     match why_over(alloc, file, list, point, until, out) {
         Ok(()) => Status::Done,
@@ -63,7 +65,7 @@ fn why_over<'a, B: Read + Drop, D: Read + Drop, O, W: Write>(
     file: Input<'a, B>,
     list: ListInput<'a, O>,
     name: &'a str,
-    until: Option<i64>,
+    said: Option<&'a str>,
     out: &mut W,
 ) -> Result<(), RunFault<'a>>
 where
@@ -72,18 +74,19 @@ where
     ensures done { OnOk result ((file_bytes list_bytes : List ℕ)
         → bytes_of B.remaining file.entry.reader ≡ Some file_bytes
         → Opens (O.post list.entry.open) (bytes_of (reader_remaining D.remaining)) list_bytes
-        → Explains file_bytes list_bytes name.now until (W.contents out.old) (W.contents out.new)) }
+        → Explains file_bytes list_bytes name.now (said_in said.entry) (W.contents out.old) (W.contents out.new)) }
     ensures no_more { (file_bytes list_bytes : List ℕ)
         → bytes_of B.remaining file.entry.reader ≡ Some file_bytes
         → Opens (O.post list.entry.open) (bytes_of (reader_remaining D.remaining)) list_bytes
-        → ExplainsNoMore file_bytes list_bytes name.now until (W.contents out.old) (W.contents out.new) }
+        → ExplainsNoMore file_bytes list_bytes name.now (said_in said.entry) (W.contents out.old) (W.contents out.new) }
 {
     let building = read_building(alloc, file)?;
     let Some(point) = point_of(&building, name) else {
         return Err(RunFault::NoPoint { name });
     };
+    let until = until_of(&building, said)?;
     let deliveries = list_deliveries(alloc, &building, list, until)?;
-    let text = explanation(alloc, &building, deliveries.as_slice(), point)?;
+    let text = explanation(alloc, &building, deliveries.as_slice(), point, until)?;
     print_text(out, text.as_bytes())?;
     flush(out)
 }
@@ -95,15 +98,19 @@ fn point_of<'b>(building: &'b Building, name: &str) -> Option<&'b Point>
     building.find_point(&name_of(name)?)
 }
 
-/// What is printed of a point after deliveries.
+/// What is printed of a point after deliveries up to a moment.
 fn explanation(
     alloc: Global,
     building: &Building,
     deliveries: &[Delivery],
     point: &Point,
+    until: Option<i64>,
 ) -> Result<String, AllocError>
-    ensures { IfOk result (λ text. string_bytes text ≡ explanation building.now deliveries.now point.now) }
+    ensures { IfOk result (λ text. string_bytes text ≡ explanation building.now deliveries.now point.now until) }
 {
     let at_end = point_at_end(alloc, building, deliveries, point)?;
-    why_text(alloc, building, point, &at_end)
+    let mut text = why_text(alloc, building, point, &at_end)?;
+    let until = until_line(alloc, building, until)?;
+    text.push_str(until.as_str())?;
+    Ok(text)
 }

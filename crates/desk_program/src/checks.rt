@@ -1,11 +1,11 @@
 //! The check of a building file and a database beside it, and of a record beside both.
 use cli_check::{Detail, check_database};
-use cli_common::{Input, ListInput, Status};
+use cli_common::{Input, ListInput, Status, print_fault};
 use cli_record::check_record;
 use std::fs;
 use std::io::{self, BufReader, BufWriter, ErrorKind, Read, Write};
 use store::{OpenFault, Store};
-use store_file::find_store;
+use store_file::{find_store, refusal_at};
 
 /// Whether there is no file at a path, or an empty one.
 pub fn is_nothing_at(rt: &HostRuntime, path: &str) -> bool {
@@ -16,7 +16,7 @@ pub fn is_nothing_at(rt: &HostRuntime, path: &str) -> bool {
 }
 
 /// A store that is found. A database that has no table at all is none that is known.
-fn one_of<S: Drop>(found: Result<Option<S>, OpenFault>) -> Result<S, OpenFault> {
+pub fn one_of<S: Drop>(found: Result<Option<S>, OpenFault>) -> Result<S, OpenFault> {
     match found {
         Ok(Some(store)) => Ok(store),
         Ok(None) => Err(OpenFault::UnknownTables),
@@ -24,17 +24,32 @@ fn one_of<S: Drop>(found: Result<Option<S>, OpenFault>) -> Result<S, OpenFault> 
     }
 }
 
+/// A store that is found; of a database that is not opened (S2) the reason is printed first.
+fn explained<S: Drop>(
+    rt: &HostRuntime,
+    path: &str,
+    found: Result<S, OpenFault>,
+) -> Result<S, OpenFault> {
+    if let Err(OpenFault::Failed) = &found {
+        let refusal = refusal_at(rt, path);
+        if let Ok(line) = format!(in rt.alloc(); "desk: {path}: {refusal}") {
+            print_fault(rt.alloc(), &line, &mut rt.stderr());
+        }
+    }
+    found
+}
+
 /// The database of a path, with the call that opens it.
 #[derive(Drop)]
-struct Found<'a, O> {
-    path: &'a str,
+pub struct Found<'a, O> {
+    pub path: &'a str,
     /// Whether there is nothing at the path.
-    is_missing: bool,
-    opener: O,
+    pub is_missing: bool,
+    pub opener: O,
 }
 
 /// The store of a database, if there is one.
-fn store_of<S: Drop, O>(is_missing: bool, opener: O) -> Result<Option<S>, OpenFault>
+pub fn store_of<S: Drop, O>(is_missing: bool, opener: O) -> Result<Option<S>, OpenFault>
 where
     O: FnOnce() -> Result<S, OpenFault>,
     O: Drop,
@@ -65,7 +80,7 @@ pub fn run<'a>(
     let found = Found {
         path: database,
         is_missing: is_nothing_at(rt, database),
-        opener: || one_of(find_store(rt, database)),
+        opener: || explained(rt, database, one_of(find_store(rt, database))),
     };
     Ok(run_over(rt, building, detail, found, &mut out, &mut rt.stderr()))
 }
@@ -114,7 +129,7 @@ pub fn run_record<'a>(
     let found = Found {
         path: database,
         is_missing: is_nothing_at(rt, database),
-        opener: || one_of(find_store(rt, database)),
+        opener: || explained(rt, database, one_of(find_store(rt, database))),
     };
     Ok(run_record_over(rt, building, list, found, &mut out, &mut rt.stderr()))
 }

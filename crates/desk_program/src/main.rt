@@ -5,6 +5,7 @@ use crate::rebuilds::Rebuild;
 use crate::runs::DatabaseRun;
 use cli_check::{Detail, check};
 use cli_common::{Input, ListInput, Status};
+use cli_days::Bounds;
 use cli_store::Serving;
 use cli_words::{ArgFault, Line};
 use desk_cli::{describe, replay, straighten, why};
@@ -16,9 +17,12 @@ use std::process::ExitCode;
 
 mod adoptions;
 mod checks;
+mod day_lists;
+mod hints;
 mod new_database;
 mod rebuilds;
 mod runs;
+mod tried_import;
 
 /// The null device, opened for reading, where it gets the number of a standard descriptor that is closed. Where no
 /// descriptor is left to be had no file gets such a number either.
@@ -62,8 +66,8 @@ fn open_list(rt: &HostRuntime, path: &str) -> io::Result<BufReader<File>> {
     BufReader::new(rt.alloc(), fs::open(rt, path)?)
 }
 
-/// The building file of a path.
-fn building_at<'a>(rt: &HostRuntime, path: &'a str) -> Input<'a, File> {
+/// The file of a path.
+fn input_at<'a>(rt: &HostRuntime, path: &'a str) -> Input<'a, File> {
     Input {
         path,
         reader: fs::open(rt, path),
@@ -81,7 +85,7 @@ fn run_check<'a>(
     }
     let alloc = rt.alloc();
     let mut out = BufWriter::new(alloc, io::writer(rt))?;
-    let building = building_at(rt, file);
+    let building = input_at(rt, file);
     Ok(check(alloc, building, detail, &mut out, &mut rt.stderr()))
 }
 
@@ -104,7 +108,7 @@ fn run_record(
 fn run_describe(rt: &HostRuntime, file: &str) -> io::Result<Status> {
     let alloc = rt.alloc();
     let mut out = BufWriter::new(alloc, io::writer(rt))?;
-    let building = building_at(rt, file);
+    let building = input_at(rt, file);
     Ok(describe(alloc, building, &mut out, &mut rt.stderr()))
 }
 
@@ -112,11 +116,16 @@ fn run_describe(rt: &HostRuntime, file: &str) -> io::Result<Status> {
 #[derive(Clone, Copy)]
 enum ListRun<'a> {
     /// The replies and then the points, up to a moment: `desk replay`.
-    Replay { until: Option<i64> },
+    Replay {
+        until: Option<&'a str>,
+    },
     /// The list that a perfect network would have brought: `desk straighten`.
     Straighten,
     /// What each place of a point has, up to a moment, and why: `desk why`.
-    Why { point: &'a str, until: Option<i64> },
+    Why {
+        point: &'a str,
+        until: Option<&'a str>,
+    },
 }
 
 /// Makes a run over the building and the list of these paths. It is an error where memory for the output's buffer is
@@ -130,7 +139,7 @@ fn run_list(
     let alloc = rt.alloc();
     let mut out = BufWriter::new(alloc, io::writer(rt))?;
     let fault = &mut rt.stderr();
-    let building = building_at(rt, file);
+    let building = input_at(rt, file);
     let list = ListInput {
         path: deliveries,
         open: || open_list(rt, deliveries),
@@ -203,9 +212,13 @@ fn run(rt: &HostRuntime, words: &[String]) -> io::Result<Status> {
                 file,
                 database,
                 explain,
+                hints: asks_hints,
                 record,
             },
         ) => {
+            if asks_hints {
+                return hints::run(rt, file, database);
+            }
             if let Some(record) = record {
                 return run_record(rt, file, database, record);
             }
@@ -254,15 +267,21 @@ fn run(rt: &HostRuntime, words: &[String]) -> io::Result<Status> {
                 file,
                 database,
                 holidays,
+                dry_run,
                 record,
             },
-        ) => runs::run(
-            rt,
-            file,
-            database,
-            record,
-            &DatabaseRun::Import { holidays },
-        ),
+        ) => {
+            if dry_run {
+                return tried_import::run(rt, file, database, holidays);
+            }
+            runs::run(
+                rt,
+                file,
+                database,
+                record,
+                &DatabaseRun::Import { holidays },
+            )
+        }
         Ok(
             Line::Tick {
                 file,
@@ -279,6 +298,14 @@ fn run(rt: &HostRuntime, words: &[String]) -> io::Result<Status> {
             },
         ) => runs::run(rt, file, database, None, &DatabaseRun::Report { date }),
         Ok(
+            Line::Days {
+                file,
+                database,
+                from,
+                to,
+            },
+        ) => day_lists::run(rt, file, database, Bounds { from, to }),
+        Ok(
             Line::Serve {
                 file,
                 database,
@@ -290,7 +317,7 @@ fn run(rt: &HostRuntime, words: &[String]) -> io::Result<Status> {
         ) => {
             let serving = Serving {
                 address,
-                requests,
+                requests: requests.unwrap_or(u64::MAX),
                 clock,
             };
             runs::run(rt, file, database, record, &DatabaseRun::Serve(serving))

@@ -19,7 +19,8 @@ fn shown_text(alloc: Global, moment: i64, local: Option<LocalTime>) -> Result<St
     }
 }
 
-fn moment_text(alloc: Global, building: &Building, moment: i64) -> Result<String, AllocError>
+/// What the building's clock shows at a moment, as `YYYY-MM-DD HH:MM:SS.hh`; where it shows nothing the moment itself.
+pub fn moment_text(alloc: Global, building: &Building, moment: i64) -> Result<String, AllocError>
     ensures { IfOk result (λ text. string_bytes text ≡ moment_text building.now moment) }
 {
     shown_text(alloc, moment, local_time(building.zone(), moment))

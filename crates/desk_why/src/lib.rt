@@ -15,6 +15,7 @@
 #![tactic(auto)]
 
 pub use author::{Author, Held, Place, Settling};
+pub use author_texts::moment_text;
 pub use laws::place_has_its_authors_value;
 pub use place_lines::why_text;
 pub use scheduled::ScheduledChange;

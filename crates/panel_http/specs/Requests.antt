@@ -2,7 +2,7 @@
 use Rattle.std.specs.Prelude.{◌≡◌, ◌<◌, ◌≤◌, ◌↔◌, ◌⊎◌, ℕ, List, [], length, take, Option, Some, None, Result, Ok, Err}
 use Rattle.jiff_core.specs.declared.civil.date.Date.{Date}
 use Rattle.building.specs.Building.{Building}
-use Rattle.desk.specs.AskedDay.{SpellsDay}
+use Rattle.dates.specs.Day.{SpellsDay}
 use Rattle.httparse.specs.Grammar.{RequestHead}
 use Rattle.panel_http.specs.AskedRoute.{RouteAndLength, route_asked}
 use Rattle.delivery_json.specs.ClockLine.{import_of}

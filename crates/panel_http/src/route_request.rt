@@ -14,7 +14,6 @@ use crate::route::Route;
 use building::Building;
 use dates::Day;
 use delivery_json::LineFault;
-use desk::read_day;
 use std::alloc::{AllocError, Global};
 
 /// The request to a route with its body, for the building.
@@ -32,7 +31,7 @@ pub(crate) fn request_to(
         Route::Tick => or_refused(tick_body(alloc, body)),
         Route::Imports => or_refused(import_body(alloc, building, body)),
         Route::Point { point } => Ok(Request::Point(named(*point))),
-        Route::Report { date } => Ok(Request::Report(day_of(alloc, *date)?)),
+        Route::Report { date } => Ok(Request::Report(day_of(*date))),
     }
 }
 
@@ -48,11 +47,11 @@ fn or_refused(said: Result<Request, LineFault>) -> Result<Request, AllocError>
 }
 
 /// The day that a segment of the target spells.
-fn day_of(alloc: Global, segment: Option<&str>) -> Result<Option<Day>, AllocError>
-    ensures { IfOk result (IsDay (option_map (λ s. s.now) segment.entry)) }
+fn day_of(segment: Option<&str>) -> Option<Day>
+    ensures { IsDay (option_map (λ s. s.now) segment.entry) result }
 {
     match segment {
-        Some(text) => read_day(alloc, text),
-        None => Ok(None),
+        Some(text) => Day::read(text),
+        None => None,
     }
 }

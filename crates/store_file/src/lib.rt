@@ -7,7 +7,7 @@
 //! `closed` copies the log into the database file, which has the tables alone then (`specs/Closed.antt`): at the end of
 //! each run, and once the tables of a new database are made. `find_store` has the store of a database that is there,
 //! and makes none; `find_store_as_it_is` leaves tables of version 1 as they are, too (`finding`). `open_record` has the
-//! file of a record. All that knows the types of a real file stands in these calls, so that what they cost to prove is
+//! file of a record. `refusal_at` says why a database was not opened. All that knows the types of a real file stands in these calls, so that what they cost to prove is
 //! paid once.
 #![tactic(auto)]
 
@@ -17,9 +17,11 @@ pub use database_file::{
     DeskStore, RecordFile, close_store, find_store, find_store_as_it_is, open_record, open_store,
 };
 pub use finding::Found;
+pub use refusal::{Refusal, refusal_at};
 
 mod closing;
 mod connecting;
 mod database_file;
 mod finding;
 mod lost_part;
+mod refusal;

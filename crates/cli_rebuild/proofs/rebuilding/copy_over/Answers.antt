@@ -1,5 +1,5 @@
 use Rattle.std.proofs.Common.{◌∙◌, ap}
-use Rattle.cli_rebuild.proofs.OwnLemmas.{own_remembered}
+use Rattle.desk_adopt.proofs.OwnLemmas.{own_remembered}
 use Rattle.store.proofs.ReadLemmas.{kept-read}
 use Rattle.store.specs.Standing.{Content, sound}
 use Rattle.store_copy.specs.Remembered.{remembered}

@@ -7,6 +7,7 @@ pub returns : goal.returns
 returns c =
     let desk : App = on_top (λ s. record s { has_version = true; subcommand_required = true }) (new_app (codes "desk")) in
     c.with_subcommand.ensures _ _
+    (c.with_subcommand-desk-11.ensures _ _
     (c.with_subcommand-desk-10.ensures _ _
     (c.with_subcommand-desk-9.ensures _ _
     (c.with_subcommand-desk-8.ensures _ _
@@ -20,4 +21,5 @@ returns c =
     c.describe_command.ensures) c.replay_command.ensures) c.why_command.ensures) c.straighten_command.ensures) c.import_command.ensures)
     c.tick_command.ensures) c.report_command.ensures) c.serve_command.ensures)
     c.adopt_command.ensures)
-    c.rebuild_command.ensures
+    c.rebuild_command.ensures)
+    c.days_command.ensures

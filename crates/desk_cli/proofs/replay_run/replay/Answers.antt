@@ -1,5 +1,6 @@
 use Rattle.cli_common.proofs.PrintedLemmas.{Keeps-same}
 use Rattle.desk_cli.proofs.StopLemmas.{no_more-Keeps}
+use Rattle.desk_cli.specs.Until.{said_in}
 use Rattle.desk_cli.proofs.replay_run.replay.Goals as goal
 
 pub returns-in-Ok : goal.returns-in-Ok
@@ -9,6 +10,6 @@ pub returns-in-Err : goal.returns-in-Err
 returns-in-Err g c = record {
   done = λ e file_bytes list_bytes file list. absurd (c.status.ensures e);
   quiet = λ e. absurd (c.status.ensures e);
-  no_more = λ file_bytes list_bytes file list. no_more-Keeps c.args.until file_bytes list_bytes _ _ _
+  no_more = λ file_bytes list_bytes file list. no_more-Keeps (said_in c.args.until) file_bytes list_bytes _ _ _
       (c.in-Err.ensures.no_more file_bytes list_bytes file list) c.flush.ensures.bytes;
 }

@@ -1,0 +1,5 @@
+pub mod EntryDayLemmas
+pub mod SomeBetweenLemmas
+pub mod NullListLemmas
+pub mod NearestLemmas
+pub mod ChangeLemmas

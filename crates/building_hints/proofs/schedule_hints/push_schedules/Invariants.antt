@@ -1,0 +1,8 @@
+use Rattle.std.proofs.Common.{◌≡◌, ◌++◌, take, string_bytes}
+use Rattle.std.specs.List.{flat_map}
+use Rattle.building_hints.specs.HintLines.{schedule_hints}
+use Rattle.building_hints.proofs.schedule_hints.push_schedules.Given as goal
+
+-- the hints so far
+abbrev pub invariant-loop-schedule : goal.invariant-loop-schedule
+invariant-loop-schedule l = string_bytes l.text ≡ string_bytes l.initial.text ++ flat_map schedule_hints (take l.schedule-index l.schedules)

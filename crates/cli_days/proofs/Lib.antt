@@ -1,0 +1,9 @@
+pub mod OrderLemmas
+pub mod PartLemmas
+pub mod SpeakLemmas
+pub mod WeekdayLemmas
+pub mod SameLemmas
+pub mod CalendarLemmas
+pub mod PrintLemmas
+pub mod ListedLemmas
+pub mod DaysLemmas
