@@ -46,10 +46,15 @@ bench: desk ## prints what the program takes, beside a plain C++ program
 page: desk ## shows the page for staff over the example office
 	@python3 scripts/show_page
 
-install: desk panel ## copies the programs, the backup and the page below PREFIX
+install: desk panel ## copies the programs, the backup, the units and the page below PREFIX
 	install -D -m 755 build/desk $(DESTDIR)$(PREFIX)/bin/desk
 	install -D -m 755 build/panel $(DESTDIR)$(PREFIX)/bin/panel
 	install -D -m 755 deploy/desk-backup $(DESTDIR)$(PREFIX)/bin/desk-backup
+	install -D -m 755 deploy/desk-unit $(DESTDIR)$(PREFIX)/lib/desk/desk-unit
+	install -D -m 644 -t $(DESTDIR)$(PREFIX)/lib/systemd/system deploy/*.service deploy/*.timer
+	for unit in desk.service desk-tick.service desk-tick.timer desk-backup.service desk-backup.timer; do \
+		sed -f deploy/instance.sed deploy/$$unit > $(DESTDIR)$(PREFIX)/lib/systemd/system/$${unit%.*}@.$${unit##*.}; \
+	done
 	install -D -m 644 -t $(DESTDIR)$(PREFIX)/share/desk/page deploy/page/*
 
 package: python ## leaves build/desk_VERSION_amd64.deb, a package for Debian
