@@ -94,7 +94,7 @@ def page_of(server, folder):
 def deployed_page_of(server, folder):
     """The port of the proxy of deploy/nginx.conf, whose certificates and description stand in the folder."""
     port, servers = free_port(), DEPLOYED.read_text()
-    for old, new in (("/etc/desk/", f"{folder}/"), ("/usr/local/share/desk/page", str(PAGE)), ("/run/desk", str(folder)), ("/var/log/nginx/", f"{folder}/"),
+    for old, new in (("/etc/desk/", f"{folder}/"), ("/usr/local/share/desk/page", str(PAGE)), ("/run/desk", str(folder)), ("/var/log/desk/", f"{folder}/"),
                      ("listen 443 ssl", f"listen 127.0.0.1:{port} ssl"), ("127.0.0.1:8080", server.address)):
         expect(old in servers, True)
         servers = servers.replace(old, new)

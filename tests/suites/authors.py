@@ -39,8 +39,13 @@ def time_text(now):
 
 
 def moment_text(building, moment):
-    day, now = local_time(building.zone, moment)
-    return f"{day.isoformat()} {time_text(now)}"
+    shown = local_time(building.zone, moment)
+    return str(moment) if shown is None else f"{shown[0].isoformat()} {time_text(shown[1])}"
+
+
+def until_text(building, until):
+    """The last line of a list that is read up to a moment."""
+    return "" if until is None else f"until {moment_text(building, until)}\n"
 
 
 def source_text(schedule, calendars, day, now):
@@ -199,10 +204,10 @@ def look_at(program, building, deliveries, until, rng):
         cut = before(deliveries, until)
         for point in building.points:
             found = run(program, "why", file, listed, point.name, *until_words(until))
-            expect((point.name, until, text, found), (point.name, until, text, (explained(building, cut, point), "", 0)))
+            expect((point.name, until, text, found), (point.name, until, text, (explained(building, cut, point) + until_text(building, until), "", 0)))
         if not any(line in text for line in random_lists.NOTHING[2:]):
             found = run(program, "replay", file, listed, *until_words(until))
-            expect((until, text, found), (until, text, (printed(building, cut), "", 0)))
+            expect((until, text, found), (until, text, (printed(building, cut) + until_text(building, until), "", 0)))
 
 
 def disagreement(program, seed, index):

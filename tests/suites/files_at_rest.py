@@ -5,11 +5,13 @@ Each test takes the path of the program and a folder of its own.
 """
 import contextlib
 import datetime
+import json
 import os
 import shutil
 import signal
 import sqlite3
 import subprocess
+import time
 
 from helpers import databases, random_lists, shims
 from helpers.deliveries import members_of, request_of
@@ -126,12 +128,11 @@ def a_server_that_is_stopped_leaves_both_files(program, folder):
 def by_the_unit(program, folder, when, address="127.0.0.1:8080", **environment):
     """Runs what the unit runs before or after each start of the desk, or after each end, over the files of a folder."""
     unit = (ROOT / "deploy" / "desk.service").read_text()
-    line = next(line for line in unit.splitlines() if line.startswith(f"{when}="))
-    script = line.partition("'")[2].rpartition("'")[0].replace("$$", "$").replace("%%", "%")
-    for path, here in (("/usr/local/bin/desk", program), ("/etc/desk", folder), ("/var/lib/desk", folder), ("/run/desk", folder),
-                       ("127.0.0.1:8080", address)):
-        script = script.replace(path, str(here))
-    return subprocess.run(["/bin/sh", "-c", script], capture_output=True, timeout=SECONDS, env={**os.environ, **environment})
+    line = [line for line in unit.splitlines() if line.startswith(f"{when}=")][-1].partition("=")[2].lstrip("+-")
+    for path, here in (("/usr/local/lib/desk", ROOT / "deploy"), ("/etc/desk", folder), ("/var/lib/desk", folder), ("127.0.0.1:8080", address)):
+        line = line.replace(path, str(here))
+    environment = {**os.environ, "DESK": program, "RUNTIME_DIRECTORY": str(folder), **environment}
+    return subprocess.run(line.split(), capture_output=True, timeout=SECONDS, env=environment)
 
 
 def a_building_at_fault_leaves_the_description(program, folder):
@@ -168,9 +169,61 @@ def a_start_waits_for_the_desk_and_fails_where_it_is_gone(program, folder):
         process, address = str(server.ran.pid), server.address
         if shutil.which("curl"):
             expect(by_the_unit(program, folder, "ExecStartPost", address, MAINPID=process).returncode, 0)
-    expect(by_the_unit(program, folder, "ExecStartPost", address, MAINPID=process, PATH="").returncode, 0)
+    (folder / "bin").mkdir()
+    for word in ("rm", "sh"):
+        (folder / "bin" / word).symlink_to(shutil.which(word))
+    expect(by_the_unit(program, folder, "ExecStartPost", address, MAINPID=process, PATH=str(folder / "bin")).returncode, 0)
     if shutil.which("curl"):
         expect(by_the_unit(program, folder, "ExecStartPost", address, MAINPID=process).returncode, 1)
+
+
+def by_the_helper(folder, *words, **environment):
+    """Runs the units' helper: its status, and what it says."""
+    environment = {**os.environ, "RUNTIME_DIRECTORY": str(folder), **environment}
+    ran = subprocess.run([ROOT / "deploy" / "desk-unit", *words], capture_output=True, text=True, timeout=SECONDS, env=environment)
+    return ran.returncode, ran.stdout + ran.stderr
+
+
+def stand_in(folder, word, script):
+    """A program of this name, which comes before that of the system."""
+    (folder / "bin").mkdir(exist_ok=True)
+    (folder / "bin" / word).write_text(f"#!/bin/sh\n{script}\n")
+    (folder / "bin" / word).chmod(0o755)
+    return f"{folder}/bin:{os.environ['PATH']}"
+
+
+def the_journal_names_the_status(program, folder):
+    for status, named in (("1", "the data, a file or the address"), ("2", "the command line"), ("3", "the database, the record or memory")):
+        ended = by_the_helper(folder, "ended", "building.toml", "desk.db", DESK=program, EXIT_CODE="exited", EXIT_STATUS=status)
+        expect(ended, (0, f"desk-unit: status {status}: {named}\n"))
+    expect(by_the_helper(folder, "ended", "building.toml", "desk.db", DESK=program, EXIT_CODE="exited", EXIT_STATUS="0"), (0, ""))
+
+
+def failed_starts_wait_the_longer(program, folder):
+    path = stand_in(folder, "sleep", f'echo "sleep $1" >> {folder}/done')
+    stand_in(folder, "systemctl", f'test "$1" = show && cat {folder}/restarts || echo "systemctl $*" >> {folder}/done')
+    for restarts in [*range(9), 0]:
+        (folder / "restarts").write_text(str(restarts))
+        expect(by_the_helper(folder, "slow", "desk.service", PATH=path), (0, ""))
+    told = "systemctl start --no-block desk-failed@desk.service.service"
+    expect((folder / "done").read_text().splitlines(), [*(f"sleep {seconds}" for seconds in (0, 1, 2, 4, 8)), told,
+                                                        *(f"sleep {seconds}" for seconds in (16, 32, 60, 60, 0))])
+
+
+def a_tick_that_is_skipped_for_an_hour_is_a_failure(program, folder):
+    path = stand_in(folder, "timedatectl", "echo no")
+    skipped = "desk-unit: no tick: the machine's clock is not synchronized\n"
+    expect(by_the_helper(folder, "tick", "127.0.0.1:1", PATH=path), (0, skipped))
+    hour_ago = time.time() - 3700
+    os.utime(folder / "last-tick", (hour_ago, hour_ago))
+    expect(by_the_helper(folder, "tick", "127.0.0.1:1", PATH=path), (1, skipped.replace("no tick:", "no tick for an hour:")))
+    building_in(folder)
+    stand_in(folder, "timedatectl", "echo yes")
+    if shutil.which("curl"):
+        with serving(program, folder, 1) as server:
+            status, reply = by_the_helper(folder, "tick", server.address, PATH=path)
+        expect((status, json.loads(reply)["answer"]), (0, "tick"))
+        expect((folder / "last-tick").stat().st_mtime > hour_ago + 3000, True)
 
 
 def a_run_that_ends_with_a_fault_leaves_it_whole(program, folder):
@@ -289,12 +342,29 @@ def a_beginning_that_was_stopped_is_taken_for_none(program, folder):
         expect_whole(room, "begun", (light(1),))
 
 
+def not_opened(name, reason):
+    """How a check ends that does not open a database."""
+    return Ended(b"", f"desk: {name}: {reason}\ndesk: store fault S2\n".encode(), 3)
+
+
+def a_check_says_why_a_database_is_not_opened(program, folder):
+    """Another process holds it, it is a folder, or it has a second name."""
+    building_in(folder)
+    with serving(program, folder, 1) as server:
+        expect(run(program, folder, "check", "building.toml", databases.NAME), not_opened(databases.NAME, "another process holds it"))
+        server.ask(request_of(members_of(light(1))))
+    (folder / "folder").mkdir()
+    os.link(folder / databases.NAME, folder / "second.db")
+    for name in ("folder", databases.NAME):
+        expect(run(program, folder, "check", "building.toml", name), not_opened(name, "it is no plain file, or has a second name"))
+
+
 def a_check_begins_nothing(program, folder):
     """Beside a database of one page without its log it tells S2, and with a log of no length S4; the file stays."""
     room = building_in(folder / "begun")
     one_page(room, 512)
     page = (room / databases.NAME).read_bytes()
-    expect(run(program, room, "check", "building.toml", databases.NAME), Ended(b"", b"desk: store fault S2\n", 3))
+    expect(run(program, room, "check", "building.toml", databases.NAME), not_opened(databases.NAME, "it or its -wal is missing"))
     expect([path.name for path in room.glob(databases.NAME + "*")], [databases.NAME])
     (room / f"{databases.NAME}-wal").touch()
     expect(run(program, room, "check", "building.toml", databases.NAME), Ended(b"", b"desk: store fault S4\n", 3))
@@ -303,6 +373,7 @@ def a_check_begins_nothing(program, folder):
 
 TESTS = (
     a_check_begins_nothing,
+    a_check_says_why_a_database_is_not_opened,
     a_new_database_is_whole_after_a_report,
     a_tick_and_an_import_leave_it_whole,
     a_server_that_ends_leaves_it_whole,
@@ -310,6 +381,9 @@ TESTS = (
     the_unit_leaves_it_whole_after_a_kill,
     a_building_at_fault_leaves_the_description,
     a_start_waits_for_the_desk_and_fails_where_it_is_gone,
+    the_journal_names_the_status,
+    failed_starts_wait_the_longer,
+    a_tick_that_is_skipped_for_an_hour_is_a_failure,
     a_run_that_ends_with_a_fault_leaves_it_whole,
     a_close_that_fails_is_reported_and_loses_nothing,
     a_file_without_its_log_is_reported,

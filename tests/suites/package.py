@@ -23,11 +23,12 @@ SECONDS = 600
 MOMENT, MOMENT_LISTED = 1_748_845_800, "2025-06-02 06:30"
 UNITS, EXAMPLES = "usr/lib/systemd/system", "usr/share/doc/desk/examples"
 # What the package has beside the units, the page and the documents.
-WANTED = ["etc/desk/", "usr/bin/desk", "usr/bin/desk-backup", "usr/bin/panel", f"{EXAMPLES}/nginx.conf", f"{EXAMPLES}/office.toml",
+OF_SEVERAL = ["desk@.service", "desk-tick@.service", "desk-tick@.timer", "desk-backup@.service", "desk-backup@.timer"]
+WANTED = ["etc/logrotate.d/desk", "usr/lib/desk/desk-unit", "etc/desk/", "usr/bin/desk", "usr/bin/desk-backup", "usr/bin/panel", f"{EXAMPLES}/nginx.conf", f"{EXAMPLES}/office.toml",
           "usr/share/doc/desk/changelog.gz", "usr/share/doc/desk/copyright", "usr/share/man/man1/desk-backup.1.gz",
           "usr/share/man/man1/desk.1.gz", "usr/share/man/man1/panel.1.gz"]
 # What the system has, and what the units make as they run.
-ELSEWHERE = ("/bin/sh", "/dev/null", "/etc/desk/", "/var/lib/desk", "/var/backups/desk", "/var/log/nginx/", "/run/desk")
+ELSEWHERE = ("/bin/sh", "/dev/null", "/etc/desk/", "/var/lib/desk", "/var/backups", "/var/log/desk/", "/run/desk", "/tick")
 
 
 def run(*words, status=0, **how):
@@ -70,10 +71,11 @@ def listed(made):
 def root_owns_its_files_with_plain_modes(program, _folder):
     found = listed(packed(program)[0])
     wanted = [*WANTED, *(f"usr/share/desk/page/{path.name}" for path in (ROOT / "deploy" / "page").iterdir()),
-              *(f"{UNITS}/{path.name}" for kind in ("service", "timer") for path in (ROOT / "deploy").glob(f"*.{kind}"))]
+              *(f"{UNITS}/{path.name}" for kind in ("service", "timer") for path in (ROOT / "deploy").glob(f"*.{kind}")),
+              *(f"{UNITS}/{name}" for name in OF_SEVERAL)]
     expect([path for path in wanted if path not in found], [])
     for path, each in found.items():
-        mode = "drwxr-xr-x" if path[-1:] in ("", "/") else "-rwxr-xr-x" if path.startswith("usr/bin/") else "-rw-r--r--"
+        mode = "drwxr-xr-x" if path[-1:] in ("", "/") else "-rwxr-xr-x" if path.startswith(("usr/bin/", "usr/lib/desk/d")) else "-rw-r--r--"
         expect(each, (mode, "root/root", MOMENT_LISTED), path)
 
 
@@ -89,12 +91,12 @@ def its_programs_are_those_that_were_given(program, _folder):
 def what_its_units_name_is_in_it(program, _folder):
     """No path is that of `make install`. What starts is in the package, or a shell."""
     files = packed(program)[1]
-    for path in (*(files / UNITS).iterdir(), files / "usr/bin/desk-backup", files / EXAMPLES / "nginx.conf"):
+    for path in (*(files / UNITS).iterdir(), files / "usr/bin/desk-backup", files / "usr/lib/desk/desk-unit", files / EXAMPLES / "nginx.conf"):
         text = re.sub(r"^#(?!!).*", "", path.read_text(), flags=re.M)
         named = re.findall(r"(?<![\w$.}/:*])/[a-z][\w./-]+", text) if path.name != "nginx.conf" else re.findall(r"root (/usr.*);", text)
         lost = [each for each in named if not each.startswith(ELSEWHERE) and not (files / each[1:]).exists()]
         expect((path.name, lost), (path.name, []))
-        starts = re.findall(r"^Exec\w+=-?(\S+)", text, re.M)
+        starts = re.findall(r"^Exec\w+=[+-]*(\S+)", text, re.M)
         expect([each for each in starts if each != "/bin/sh" and not os.access(files / each[1:], os.X_OK)], [], path.name)
 
 

@@ -304,8 +304,8 @@ def an_address_that_is_taken_is_reported(program, folder):
             expect((ran.returncode, ran.stdout, ran.stderr), (1, b"", f"desk: cannot listen on {word}\n".encode()))
 
 
-def the_number_of_requests_has_to_be_reported(program, folder):
-    for more in ([], ["--requests", "0"], ["--requests", "1000001"], ["--requests", "x"], ["--requests", "1", "--clock=1"]):
+def a_number_of_requests_out_of_range_is_reported(program, folder):
+    for more in (["--requests", "0"], ["--requests", "1000001"], ["--requests", "x"], ["--requests", "1", "--clock=1"]):
         words = [program, "serve", "building.toml", "desk.db", "127.0.0.1:0", *more]
         ran = subprocess.run(words, cwd=folder, capture_output=True, timeout=SECONDS)
         expect((more, ran.returncode, ran.stdout), (more, 2, b""))
@@ -349,7 +349,7 @@ TESTS = [tables.in_worked(test) for test in (
     a_client_that_leaves_ends_nothing,
     broken_requests_end_nothing,
     an_address_that_is_taken_is_reported,
-    the_number_of_requests_has_to_be_reported,
+    a_number_of_requests_out_of_range_is_reported,
     curl_gets_each_route,
     no_client_holds_the_desk,
 )]
