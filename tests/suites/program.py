@@ -1,7 +1,7 @@
 """Tries the program: the cases, lines and words that are refused, and what two documents show.
 
-A case is a folder of tests/cases, named for what it shows: its files, building.toml among them (without one, the worked
-building), and a transcript: commands that are run one after the other, each after `$ `, and under it what is wanted. A
+A case is a file of tests/cases, named for what it shows: a transcript, and the files that it reads, each after a line
+`-- NAME --`, building.toml among them (without one, the worked building). The transcript is commands that are run one after the other, each after `$ `, and under it what is wanted. A
 command is `desk` with its words, `sql` with a database and a statement, which the C library of SQLite runs; its rows are
 shown with `|` between the columns; or `cat` with a file, which is shown as it is. Of a `desk`, a line `desk: ..` is wanted
 on the standard error, a last line `status N` is the status (without it, 0), and where a fault is reported each file has to
@@ -9,7 +9,6 @@ be as it was before.
 """
 import contextlib
 import re
-import shutil
 import sqlite3
 import subprocess
 
@@ -62,9 +61,10 @@ def desk_differs(program, words, shown, room):
 
 def try_case(program, case, room):
     """Runs the commands of a case's transcript, to the first that differs."""
-    shutil.copytree(case, room, dirs_exist_ok=True)
-    (room / "building.toml").write_text(cases.building_of(case))
-    for command, (name, *words), shown in cases.commands_of(case):
+    (room / "building.toml").write_text(case.building())
+    for name, content in case.files.items():
+        (room / name).write_bytes(content)
+    for command, (name, *words), shown in case.commands():
         if name in ("sql", "cat"):
             found = rows_of(room / words[0], words[1]) if name == "sql" else (room / words[0]).read_text()
             wrong = "" if found == shown else f"found {found!r}, wanted {shown!r}"

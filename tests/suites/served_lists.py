@@ -26,11 +26,11 @@ DAYS = ["2025-03-30", "2025-10-26", "2025-06-30", "2024-02-29", "1900-01-01", "2
 def worked_lists():
     """The name, the building, the deliveries and the replies of each case of a replay, and what is reported of its points."""
     for case, shown in cases.replays():
-        lines = [line for line in (case / "deliveries.jsonl").read_bytes().splitlines() if line]
+        lines = [line for line in case.files["deliveries.jsonl"].splitlines() if line]
         reported = shown.splitlines()
         expect((case.name, [line[:5] for line in reported[len(lines):]]), (case.name, ["POINT"] * (len(reported) - len(lines))))
         asked = [(request_of(json.loads(line)), reply) for line, reply in zip(lines, reported)]
-        yield case.name, cases.building_of(case), asked, reported[len(lines):]
+        yield case.name, case.building(), asked, reported[len(lines):]
 
 
 def points_agree(server, lines):

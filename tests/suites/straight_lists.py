@@ -184,10 +184,10 @@ def the_lists_of_the_cases_are_straightened(program, folder):
     """Each list of a case that is replayed to its end."""
     building, listed = folder / "building.toml", folder / "deliveries.jsonl"
     for case in cases.all_cases():
-        if not (case / "deliveries.jsonl").exists() or "\nstatus " in (case / "transcript").read_text():
+        if "deliveries.jsonl" not in case.files or "\nstatus " in case.transcript:
             continue
-        building.write_text(cases.building_of(case))
-        listed.write_bytes((case / "deliveries.jsonl").read_bytes())
+        building.write_text(case.building())
+        listed.write_bytes(case.files["deliveries.jsonl"])
         try:
             look_at(program, building, listed)
         except AssertionError as error:
