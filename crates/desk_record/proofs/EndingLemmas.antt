@@ -1,7 +1,7 @@
 -- A file of which the last whole line tells a delivery, or which has no line.
-use Rattle.std.proofs.Common.{◌≡◌, ℕ, ◌≤◌, List, [], ◌∷◌, ◌++◌, Option, Some, None, Result, Ok, Err, length, length-append, take, sym, ap, ◌∙◌, subst, append_assoc, arith, inl, inr}
+use Rattle.std.proofs.Common.{◌≡◌, ℕ, ◌≤◌, List, [], ◌∷◌, ◌++◌, Option, Some, None, Result, Ok, Err, length, length-append, take, refl, sym, ap, ◌∙◌, subst, append_assoc, arith, inl, inr}
 use Rattle.std.proofs.Math.Seq.{take-append_seam}
-use Rattle.std.proofs.lemmas.List.{append-nil}
+use Rattle.std.proofs.lemmas.List.{append-nil, same_from_push}
 use Rattle.std.specs.Result.{OnErr}
 use Rattle.building.specs.Building.{Building}
 use Rattle.deliveries.specs.declared.delivery.Delivery.{Delivery}
@@ -87,35 +87,66 @@ module _ (b : Building) (file new : List ℕ) (whole : ℕ) (delivery : Option D
 
 -- ---- the store
 
-no-last : (list earlier : List Delivery) (last : Delivery) → list ≡ [] → list ≡ earlier ++ last ∷ [] → ⊥
+no-last : (list before : List Delivery) (last : Delivery) → list ≡ [] → list ≡ before ++ last ∷ [] → ⊥
 no-last list [] last none some = let both : [] ≡ last ∷ [] = sym none ∙ some in cc
-no-last list (first ∷ earlier) last none some = let both : [] ≡ first ∷ (earlier ++ last ∷ []) = sym none ∙ some in cc
+no-last list (first ∷ before) last none some = let both : [] ≡ first ∷ (before ++ last ∷ []) = sym none ∙ some in cc
 
-only-whole : (b : Building) (list : List Delivery) (content : Content) → list ≡ [] → Follows b list content → content ≡ sound (tables b list)
-only-whole b list content none (inl whole) = whole
-only-whole b list content none (inr (earlier, last, is, held)) = absurd (no-last list earlier last none is)
+only-whole : (b : Building) (E list : List Delivery) (content : Content) → list ≡ [] → Follows b E list content
+    → content ≡ sound (tables b (E ++ list))
+only-whole b E list content none (inl whole) = whole
+only-whole b E list content none (inr (before, last, is, held)) = absurd (no-last list before last none is)
 
-pub has-none : (b : Building) (file : List ℕ) (whole : ℕ) (delivery : Option Delivery) (store : Standing) → delivery ≡ None
-    → TellsLast b file whole delivery → IsBehind b (listed b file) store → HasTables b (listed b file) store
-has-none b file whole None store is (start, none) behind = record {
-  holds = λ opened. only-whole b (listed b file) store.content (listed-none b file none.0) (behind.holds opened);
-  leaves = λ content left. only-whole b (listed b file) content (listed-none b file none.0) (behind.leaves content left);
+pub has-none : (b : Building) (E : List Delivery) (file : List ℕ) (whole : ℕ) (delivery : Option Delivery) (store : Standing)
+    → delivery ≡ None → TellsLast b file whole delivery → IsBehind b E (listed b file) store → HasTables b (E ++ listed b file) store
+has-none b E file whole None store is (start, none) behind = record {
+  holds = λ opened. only-whole b E (listed b file) store.content (listed-none b file none.0) (behind.holds opened);
+  leaves = λ content left. only-whole b E (listed b file) content (listed-none b file none.0) (behind.leaves content left);
 }
-has-none b file whole (Some d) store is tells behind = absurd (let no : ⊥ = cc in no)
+has-none b E file whole (Some d) store is tells behind = absurd (let no : ⊥ = cc in no)
 
-module _ (b : Building) (file : List ℕ) (whole : ℕ) (d : Delivery) (old new : Standing) where
+-- of a list that ends with a delivery the earlier ones may stand in front of it
+joined : (b : Building) (E list : List Delivery) (d : Delivery) (content : Content) → Follows b E (list ++ d ∷ []) content
+    → Follows b [] ((E ++ list) ++ d ∷ []) content
+joined b E list d content (inl whole) = inl (whole ∙ ap (λ it. sound (tables b it)) (sym (append_assoc E list (d ∷ []))))
+joined b E list d content (inr (before, last, is, held)) =
+    inr (E ++ list, d, refl, held ∙ ap (λ it. sound (tables b (E ++ it))) (sym (same_from_push list before d last is).0))
+
+apart : (b : Building) (E list : List Delivery) (d : Delivery) (content : Content) → Follows b [] ((E ++ list) ++ d ∷ []) content
+    → Follows b E (list ++ d ∷ []) content
+apart b E list d content (inl whole) = inl (whole ∙ ap (λ it. sound (tables b it)) (append_assoc E list (d ∷ [])))
+apart b E list d content (inr (before, last, is, held)) =
+    inr (list, d, refl, held ∙ ap (λ it. sound (tables b it)) (sym (same_from_push (E ++ list) before d last is).0))
+
+module _ (b : Building) (E : List Delivery) (file : List ℕ) (whole : ℕ) (d : Delivery) (old new : Standing) where
+  -- the store that follows the file's list follows it with the earlier ones in front
+  in-front : (list : List Delivery) → listed b file ≡ list ++ d ∷ [] → IsBehind b E (listed b file) old
+      → IsBehind b [] ((E ++ list) ++ d ∷ []) old
+  in-front list lists behind =
+      let same = subst (λ it. IsBehind b E it old) lists behind in
+      record {
+        holds = λ opened. joined b E list d old.content (same.holds opened);
+        leaves = λ content left. joined b E list d content (same.leaves content left);
+      }
+
   pub has-last : (delivery : Option Delivery) → delivery ≡ Some d → TellsLast b file whole delivery
-      → ((earlier : List Delivery) → IsBehind b (earlier ++ d ∷ []) old → HasTables b (earlier ++ d ∷ []) new)
-      → IsBehind b (listed b file) old → HasTables b (listed b file) new
+      → ((earlier : List Delivery) → IsBehind b [] (earlier ++ d ∷ []) old → HasTables b (earlier ++ d ∷ []) new)
+      → IsBehind b E (listed b file) old → HasTables b (E ++ listed b file) new
   has-last delivery is tells made behind =
       let (before, line, after, all, size, first, reported, none) = subst (TellsLast b file whole) is tells in
+      let list = listed b before in
       let lists = listed-last b file before line after d all first reported none.0 in
-      subst (λ list. HasTables b list new) (sym lists) (made (listed b before) (subst (λ list. IsBehind b list old) lists behind))
+      subst (λ it. HasTables b it new) (append_assoc E list (d ∷ []) ∙ ap (λ it. E ++ it) (sym lists))
+      (made (E ++ list) (in-front list lists behind))
 
   pub stays-behind : (delivery : Option Delivery) → delivery ≡ Some d → TellsLast b file whole delivery
-      → ((earlier : List Delivery) → IsBehind b (earlier ++ d ∷ []) old → IsBehind b (earlier ++ d ∷ []) new)
-      → IsBehind b (listed b file) old → IsBehind b (listed b file) new
+      → ((earlier : List Delivery) → IsBehind b [] (earlier ++ d ∷ []) old → IsBehind b [] (earlier ++ d ∷ []) new)
+      → IsBehind b E (listed b file) old → IsBehind b E (listed b file) new
   stays-behind delivery is tells kept behind =
       let (before, line, after, all, size, first, reported, none) = subst (TellsLast b file whole) is tells in
+      let list = listed b before in
       let lists = listed-last b file before line after d all first reported none.0 in
-      subst (λ list. IsBehind b list new) (sym lists) (kept (listed b before) (subst (λ list. IsBehind b list old) lists behind))
+      let now = kept (E ++ list) (in-front list lists behind) in
+      subst (λ it. IsBehind b E it new) (sym lists) record {
+        holds = λ opened. apart b E list d new.content (now.holds opened);
+        leaves = λ content left. apart b E list d content (now.leaves content left);
+      }

@@ -1,5 +1,5 @@
 -- A record and a store, from call to call.
-use Rattle.std.proofs.Common.{◌≡◌, ℕ, false, List, [], ◌∷◌, ◌++◌, Option, Some, None, Ok, Err, refl, sym, ap, ◌∙◌, subst, inl, inr}
+use Rattle.std.proofs.Common.{◌≡◌, ℕ, false, List, [], ◌∷◌, ◌++◌, Option, Some, None, Ok, Err, refl, sym, ap, append_assoc, ◌∙◌, subst, inl, inr}
 use Rattle.std.specs.List.{flat_map}
 use Rattle.std.proofs.lemmas.Bool.{false≢true}
 use Rattle.std.proofs.lemmas.List.Concat.{flat_map-append}
@@ -45,52 +45,53 @@ listed-put b d bytes line whole is =
     (whole-append bytes (line ++ 10 ∷ []) whole ∙ ap (λ lines. whole_lines bytes ++ lines) (whole_lines-one line is.one))
 
 -- a record that a delivery was written down in tells it last
-pub listed-written : (b : Building) (d : Delivery) (old new : RecordStanding) (store : Standing) → InStep b old store → HasWritten b d old new
-    → listed b new.bytes ≡ listed b old.bytes ++ d ∷ []
-listed-written b d old new store step (line, is, put) =
+pub listed-written : (b : Building) (d : Delivery) (E : List Delivery) (old new : RecordStanding) (store : Standing)
+    → InStep b E old store → HasWritten b d old new → listed b new.bytes ≡ listed b old.bytes ++ d ∷ []
+listed-written b d E old new store step (line, is, put) =
     ap (listed b) put.bytes ∙ listed-put b d old.bytes line (step.level put.was_open).whole is
 
 -- what a stop leaves of one line more
-pub Follows-between : (b : Building) (d : Delivery) (bytes line left : List ℕ) (content : Content) → IsWhole bytes → IsLineOf b d line
-    → IsBetween bytes (bytes ++ (line ++ 10 ∷ [])) left → content ≡ sound (tables b (listed b bytes)) → Follows b (listed b left) content
-Follows-between b d bytes line left content whole is between held = elim (between-lines bytes line left whole is.one between) [
-  | inl same ↦ inl (held ∙ ap (λ list. sound (tables b list)) (sym (listed-same b bytes left same)))
+pub Follows-between : (b : Building) (E : List Delivery) (d : Delivery) (bytes line left : List ℕ) (content : Content) → IsWhole bytes
+    → IsLineOf b d line → IsBetween bytes (bytes ++ (line ++ 10 ∷ [])) left → content ≡ sound (tables b (E ++ listed b bytes))
+    → Follows b E (listed b left) content
+Follows-between b E d bytes line left content whole is between held = elim (between-lines bytes line left whole is.one between) [
+  | inl same ↦ inl (held ∙ ap (λ list. sound (tables b (E ++ list))) (sym (listed-same b bytes left same)))
   | inr more ↦ inr (listed b bytes, d, listed-more b d bytes line left is more, held)
 ]
 
 -- ---- the record's own calls
 
-module _ (b : Building) (old new : RecordStanding) (store : Standing) (step : InStep b old store) where
-  pub InStep-untouched : IsUntouched old new → InStep b new store
+module _ (b : Building) (E : List Delivery) (old new : RecordStanding) (store : Standing) (step : InStep b E old store) where
+  pub InStep-untouched : IsUntouched old new → InStep b E new store
   InStep-untouched same = record {
     level = λ opened.
         let was = step.level (sym same.is_shut ∙ opened) in
         record {
           whole = subst IsWhole (sym same.bytes) was.whole;
           on_disk = λ bytes left. was.on_disk bytes (same.leaves bytes left) ∙ sym same.bytes;
-          holds = λ going. was.holds going ∙ ap (λ bytes. sound (tables b (listed b bytes))) (sym same.bytes);
-          leaves = λ content left. was.leaves content left ∙ ap (λ bytes. sound (tables b (listed b bytes))) (sym same.bytes);
+          holds = λ going. was.holds going ∙ ap (λ bytes. sound (tables b (E ++ listed b bytes))) (sym same.bytes);
+          leaves = λ content left. was.leaves content left ∙ ap (λ bytes. sound (tables b (E ++ listed b bytes))) (sym same.bytes);
         };
     held = λ going bytes left. step.held going bytes (same.leaves bytes left);
     left = λ bytes content left. step.left bytes content (same.leaves bytes left);
   }
 
-  pub InStep-unwritten : (d : Delivery) → FailsToWrite b d old new → InStep b new store
+  pub InStep-unwritten : (d : Delivery) → FailsToWrite b d old new → InStep b E new store
   InStep-unwritten d fails = record {
     level = λ opened. absurd (false≢true (sym opened ∙ fails.shut));
     held = λ going bytes left. elim (fails.leaves bytes left) [
       | inl before ↦ step.held going bytes before
       | inr (line, is, opened, between) ↦
-          let was = step.level opened in Follows-between b d old.bytes line bytes store.content was.whole is between (was.holds going)
+          let was = step.level opened in Follows-between b E d old.bytes line bytes store.content was.whole is between (was.holds going)
     ];
     left = λ bytes content left held. elim (fails.leaves bytes left) [
       | inl before ↦ step.left bytes content before held
       | inr (line, is, opened, between) ↦
-          let was = step.level opened in Follows-between b d old.bytes line bytes content was.whole is between (was.leaves content held)
+          let was = step.level opened in Follows-between b E d old.bytes line bytes content was.whole is between (was.leaves content held)
     ];
   }
 
-  pub InStep-refused : (d : Delivery) (fault : RecordFault) → new.is_honest → WritesDown b d (Some fault) old new → InStep b new store
+  pub InStep-refused : (d : Delivery) (fault : RecordFault) → new.is_honest → WritesDown b d (Some fault) old new → InStep b E new store
   InStep-refused d recording.NoMemory honest writes = InStep-untouched (writes.unchanged honest refl)
   InStep-refused d recording.Failed honest writes = InStep-unwritten d (writes.failed honest refl)
 
@@ -110,24 +111,25 @@ HasTables-settled b list fault old new honest goes opened held = record {
   leaves = λ content left. goes.settled honest opened content left ∙ held;
 }
 
-module _ (b : Building) (d : Delivery) (line : List ℕ) (first written : RecordStanding) (old new : Standing) (step : InStep b first old)
-    (is : IsLineOf b d line) (put : PutsLast (line ++ 10 ∷ []) first written) where
-  was : AreLevel b first old
+module _ (b : Building) (E : List Delivery) (d : Delivery) (line : List ℕ) (first written : RecordStanding) (old new : Standing)
+    (step : InStep b E first old) (is : IsLineOf b d line) (put : PutsLast (line ++ 10 ∷ []) first written) where
+  was : AreLevel b E first old
   was = step.level put.was_open
 
   one_more : listed b written.bytes ≡ listed b first.bytes ++ d ∷ []
   one_more = ap (listed b) put.bytes ∙ listed-put b d first.bytes line was.whole is
 
-  same_tables : (content : Content) → content ≡ sound (tables b (listed b first.bytes ++ d ∷ []))
-      → content ≡ sound (tables b (listed b written.bytes))
-  same_tables content held = held ∙ ap (λ list. sound (tables b list)) (sym one_more)
+  same_tables : (list : List Delivery) (content : Content) → list ≡ listed b first.bytes ++ d ∷ []
+      → content ≡ sound (tables b ((E ++ listed b first.bytes) ++ d ∷ [])) → content ≡ sound (tables b (E ++ list))
+  same_tables list content is held =
+      held ∙ ap (λ it. sound (tables b it)) (append_assoc E (listed b first.bytes) (d ∷ []) ∙ ap (λ it. E ++ it) (sym is))
 
   pub InStep-answered : (reply : Reply) → new.is_honest → Goes None old new
-      → ((earlier : List Delivery) → Holds b earlier old → Delivers b earlier d (Ok reply) new) → InStep b written new
+      → ((earlier : List Delivery) → Holds b earlier old → Delivers b earlier d (Ok reply) new) → InStep b E written new
   InStep-answered reply honest goes delivers =
       let opened = was_open None old new goes (λ e. cc) in
-      let held = same_tables new.content (delivers (listed b first.bytes) (was.holds opened)).1 in
-      let has = HasTables-settled b (listed b written.bytes) None old new honest goes (stays_open old new goes) held in
+      let held = same_tables (listed b written.bytes) new.content one_more (delivers (E ++ listed b first.bytes) (was.holds opened)).1 in
+      let has = HasTables-settled b (E ++ listed b written.bytes) None old new honest goes (stays_open old new goes) held in
       record {
         level = λ going. record {
           whole = subst IsWhole (sym put.bytes) (IsWhole-more first.bytes line);
@@ -135,13 +137,13 @@ module _ (b : Building) (d : Delivery) (line : List ℕ) (first written : Record
           holds = has.holds;
           leaves = has.leaves;
         };
-        held = λ going bytes left. inl (has.holds going ∙ ap (λ it. sound (tables b (listed b it))) (sym (put.on_disk bytes left)));
+        held = λ going bytes left. inl (has.holds going ∙ ap (λ it. sound (tables b (E ++ listed b it))) (sym (put.on_disk bytes left)));
         left = λ bytes content left kept.
-            inl (has.leaves content kept ∙ ap (λ it. sound (tables b (listed b it))) (sym (put.on_disk bytes left)));
+            inl (has.leaves content kept ∙ ap (λ it. sound (tables b (E ++ listed b it))) (sym (put.on_disk bytes left)));
       }
 
   pub InStep-failed : (last : RecordStanding) → last.is_honest → Shuts written last → Goes (Some Failed) old new
-      → ((earlier : List Delivery) → Holds b earlier old → Delivers b earlier d (Err Failed) new) → InStep b last new
+      → ((earlier : List Delivery) → Holds b earlier old → Delivers b earlier d (Err Failed) new) → InStep b E last new
   InStep-failed last honest shuts goes delivers =
       let opened = was_open (Some Failed) old new goes (λ e. cc) in
       record {
@@ -150,19 +152,19 @@ module _ (b : Building) (d : Delivery) (line : List ℕ) (first written : Record
         left = λ bytes content left kept.
             let list : listed b bytes ≡ listed b first.bytes ++ d ∷ [] =
             ap (listed b) (put.on_disk bytes (shuts.leaves honest bytes left)) ∙ one_more in
-            elim (delivers (listed b first.bytes) (was.holds opened) content kept) [
+            elim (delivers (E ++ listed b first.bytes) (was.holds opened) content kept) [
               | inl before ↦ inr (listed b first.bytes, d, list, before)
-              | inr after ↦ inl (after ∙ ap (λ it. sound (tables b it)) (sym list))
+              | inr after ↦ inl (same_tables (listed b bytes) content list after)
             ];
       }
 
   -- a delivery that is not made leaves the store what it had
   kept : (fault : StoreFault) → (fault ≡ Failed → ⊥) → new.is_honest → Goes (Some fault) old new
-      → ((earlier : List Delivery) → Holds b earlier old → Delivers b earlier d (Err fault) new) → HasTables b (listed b first.bytes) new
+      → ((earlier : List Delivery) → Holds b earlier old → Delivers b earlier d (Err fault) new) → HasTables b (E ++ listed b first.bytes) new
   kept NoMemory other honest goes delivers =
       let opened = was_open (Some NoMemory) old new goes (λ e. cc) in
-      HasTables-settled b (listed b first.bytes) (Some NoMemory) old new honest goes (goes.goes_on (λ e. cc) ∙ opened)
-      (delivers (listed b first.bytes) (was.holds opened))
+      HasTables-settled b (E ++ listed b first.bytes) (Some NoMemory) old new honest goes (goes.goes_on (λ e. cc) ∙ opened)
+      (delivers (E ++ listed b first.bytes) (was.holds opened))
   kept Failed other honest goes delivers = absurd (other refl)
   kept Shut other honest goes delivers =
       let shut = goes.shut.0 refl in
@@ -172,15 +174,15 @@ module _ (b : Building) (d : Delivery) (line : List ℕ) (first written : Record
         leaves = λ content left. was.leaves content (same.leaves content left);
       }
   kept BadRow other honest goes delivers =
-      let opened = was_open (Some BadRow) old new goes (λ e. cc) in absurd (delivers (listed b first.bytes) (was.holds opened))
+      let opened = was_open (Some BadRow) old new goes (λ e. cc) in absurd (delivers (E ++ listed b first.bytes) (was.holds opened))
 
   pub InStep-taken : (last : RecordStanding) (fault : StoreFault) → (fault ≡ Failed → ⊥) → new.is_honest → Goes (Some fault) old new
       → ((earlier : List Delivery) → Holds b earlier old → Delivers b earlier d (Err fault) new) → TakesLast written last
-      → InStep b last new
+      → InStep b E last new
   InStep-taken last fault other honest goes delivers takes =
       let has = kept fault other honest goes delivers in
       let back : last.bytes ≡ first.bytes = takes.bytes ∙ put.before in
-      let tables_at = λ (bytes : List ℕ). sound (tables b (listed b bytes)) in
+      let tables_at = λ (bytes : List ℕ). sound (tables b (E ++ listed b bytes)) in
       record {
         level = λ going. record {
           whole = subst IsWhole (sym back) was.whole;
@@ -194,7 +196,7 @@ module _ (b : Building) (d : Delivery) (line : List ℕ) (first written : Record
 
   pub InStep-untaken : (last : RecordStanding) (fault : StoreFault) → (fault ≡ Failed → ⊥) → new.is_honest → Goes (Some fault) old new
       → ((earlier : List Delivery) → Holds b earlier old → Delivers b earlier d (Err fault) new) → FailsToTake written last
-      → InStep b last new
+      → InStep b E last new
   InStep-untaken last fault other honest goes delivers fails =
       let has = kept fault other honest goes delivers in
       record {
@@ -205,7 +207,7 @@ module _ (b : Building) (d : Delivery) (line : List ℕ) (first written : Record
               let part : IsBetween first.bytes (first.bytes ++ (line ++ 10 ∷ [])) bytes =
               subst (λ file. IsBetween first.bytes file bytes) put.bytes
               (subst (λ file. IsBetween file written.bytes bytes) put.before between) in
-              Follows-between b d first.bytes line bytes new.content was.whole is part (has.holds going)
+              Follows-between b E d first.bytes line bytes new.content was.whole is part (has.holds going)
         ];
         left = λ bytes content left held. elim (fails.leaves bytes left) [
           | inl there ↦ inr (listed b first.bytes, d, ap (listed b) (put.on_disk bytes there) ∙ one_more, has.leaves content held)
@@ -213,13 +215,13 @@ module _ (b : Building) (d : Delivery) (line : List ℕ) (first written : Record
               let part : IsBetween first.bytes (first.bytes ++ (line ++ 10 ∷ [])) bytes =
               subst (λ file. IsBetween first.bytes file bytes) put.bytes
               (subst (λ file. IsBetween file written.bytes bytes) put.before between) in
-              Follows-between b d first.bytes line bytes content was.whole is part (has.leaves content held)
+              Follows-between b E d first.bytes line bytes content was.whole is part (has.leaves content held)
         ];
       }
 
   pub InStep-back : (last : RecordStanding) (fault : StoreFault) (failed : RecordFault) → (fault ≡ Failed → ⊥) → new.is_honest → last.is_honest
       → Goes (Some fault) old new → ((earlier : List Delivery) → Holds b earlier old → Delivers b earlier d (Err fault) new)
-      → TakesBack (Some failed) written last → InStep b last new
+      → TakesBack (Some failed) written last → InStep b E last new
   InStep-back last fault recording.NoMemory other honest honest_record goes delivers takes = absurd (takes.never_memory honest_record refl)
   InStep-back last fault recording.Failed other honest honest_record goes delivers takes =
       InStep-untaken last fault other honest goes delivers (takes.failed honest_record refl)

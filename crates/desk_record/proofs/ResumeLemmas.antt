@@ -21,14 +21,14 @@ use Rattle.store.specs.Standing.{Content, Goes, Standing, sound}
 use Rattle.store.proofs.ReadLemmas.{stays_open, was_open}
 
 -- tables of a list that ends with a delivery are those with it or those without it
-either-of : (b : Building) (E : List Delivery) (d : Delivery) (content : Content) → Follows b (E ++ d ∷ []) content
+either-of : (b : Building) (E : List Delivery) (d : Delivery) (content : Content) → Follows b [] (E ++ d ∷ []) content
     → (content ≡ sound (tables b (E ++ d ∷ []))) ⊎ (content ≡ sound (tables b E))
 either-of b E d content (inl whole) = inl whole
 either-of b E d content (inr (earlier, last, is, held)) =
     inr (held ∙ ap (λ list. sound (tables b list)) (sym (same_from_push E earlier d last is).0))
 
 module _ (b : Building) (E : List Delivery) (d : Delivery) (old new : Standing) (distinct : HasDistinctSchedules b)
-    (behind : IsBehind b (E ++ d ∷ []) old) (honest : new.is_honest) where
+    (behind : IsBehind b [] (E ++ d ∷ []) old) (honest : new.is_honest) where
   pub made-again : (reply : Reply) → Goes None old new
       → ((earlier : List Delivery) → Holds b earlier old → Delivers b earlier d (Ok reply) new) → HasTables b (E ++ d ∷ []) new
   made-again reply goes delivers =
@@ -41,22 +41,22 @@ module _ (b : Building) (E : List Delivery) (d : Delivery) (old new : Standing) 
 
   -- an open store that has refused a delivery holds what it held
   refused : (fault : StoreFault) → (fault ≡ Failed → ⊥) → (fault ≡ Shut → ⊥) → Goes (Some fault) old new
-      → ((earlier : List Delivery) → Holds b earlier old → Holds b earlier new) → IsBehind b (E ++ d ∷ []) new
+      → ((earlier : List Delivery) → Holds b earlier old → Holds b earlier new) → IsBehind b [] (E ++ d ∷ []) new
   refused fault other not_shut goes keeps =
       let opened = was_open (Some fault) old new goes (λ e. not_shut (let same : fault ≡ Shut = cc in same)) in
       let stays = goes.goes_on (λ e. other (let same : fault ≡ Failed = cc in same)) ∙ opened in
-      let held : Follows b (E ++ d ∷ []) new.content =
+      let held : Follows b [] (E ++ d ∷ []) new.content =
       elim (either-of b E d old.content (behind.holds opened)) [
         | inl whole ↦ inl (keeps (E ++ d ∷ []) whole)
         | inr without ↦ inr (E, d, refl, keeps E without)
       ] in
       record {
         holds = λ going. held;
-        leaves = λ content left. subst (Follows b (E ++ d ∷ [])) (sym (goes.settled honest stays content left)) held;
+        leaves = λ content left. subst (Follows b [] (E ++ d ∷ [])) (sym (goes.settled honest stays content left)) held;
       }
 
   pub behind-again : (fault : StoreFault) → Goes (Some fault) old new
-      → ((earlier : List Delivery) → Holds b earlier old → Delivers b earlier d (Err fault) new) → IsBehind b (E ++ d ∷ []) new
+      → ((earlier : List Delivery) → Holds b earlier old → Delivers b earlier d (Err fault) new) → IsBehind b [] (E ++ d ∷ []) new
   behind-again NoMemory goes delivers = refused NoMemory (λ e. cc) (λ e. cc) goes delivers
   behind-again Failed goes delivers =
       let opened = was_open (Some Failed) old new goes (λ e. cc) in

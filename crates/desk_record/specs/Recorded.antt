@@ -28,34 +28,37 @@ pub record IsLineOf (building : Building) (delivery : Delivery) (line : List ℕ
   pub one : IsLine line
   pub tells : parse_line building line ≡ Some (parsed.Delivery delivery)
 
--- tables of the deliveries, or of all but the last, which was written down and not made
-abbrev pub Follows : Building → List Delivery → Content → Type 0
-Follows building deliveries content =
-    (content ≡ sound (tables building deliveries))
-    ⊎ ((earlier : List Delivery) × (last : Delivery) × (deliveries ≡ earlier ++ last ∷ []) × (content ≡ sound (tables building earlier)))
+-- after earlier deliveries the tables of a list, or of all but its last, which was written down and not made
+abbrev pub Follows : Building → (earlier deliveries : List Delivery) → Content → Type 0
+Follows building earlier deliveries content =
+    (content ≡ sound (tables building (earlier ++ deliveries)))
+    ⊎ ((before : List Delivery) × (last : Delivery) × (deliveries ≡ before ++ last ∷ [])
+    × (content ≡ sound (tables building (earlier ++ before))))
 
--- a store that follows a list: while it is open, and as a stop leaves it
-pub record IsBehind (building : Building) (deliveries : List Delivery) (store : Standing) : Type 0 where
-  pub holds : store.is_shut ≡ false → Follows building deliveries store.content
-  pub leaves : (content : Content) → store.may_leave content → Follows building deliveries content
+-- a store that follows a list after earlier deliveries: while it is open, and as a stop leaves it
+pub record IsBehind (building : Building) (earlier deliveries : List Delivery) (store : Standing) : Type 0 where
+  pub holds : store.is_shut ≡ false → Follows building earlier deliveries store.content
+  pub leaves : (content : Content) → store.may_leave content → Follows building earlier deliveries content
 
 -- a store that has the tables of a list: while it is open, and as a stop leaves it
 pub record HasTables (building : Building) (deliveries : List Delivery) (store : Standing) : Type 0 where
   pub holds : store.is_shut ≡ false → Holds building deliveries store
   pub leaves : (content : Content) → store.may_leave content → content ≡ sound (tables building deliveries)
 
--- a record that is open: its bytes are whole lines, and a stop leaves just them; the store has the tables of their
--- deliveries, while it is open and as a stop leaves it
-pub record AreLevel (building : Building) (record_now : RecordStanding) (store : Standing) : Type 0 where
+-- a record that is open, and began after earlier deliveries: its bytes are whole lines, and a stop leaves just them; the store
+-- has the tables of these and of their deliveries, while it is open and as a stop leaves it
+pub record AreLevel (building : Building) (earlier : List Delivery) (record_now : RecordStanding) (store : Standing) : Type 0 where
   pub whole : IsWhole record_now.bytes
   pub on_disk : IsOnDisk record_now
-  pub holds : store.is_shut ≡ false → Holds building (listed building record_now.bytes) store
-  pub leaves : (content : Content) → store.may_leave content → content ≡ sound (tables building (listed building record_now.bytes))
+  pub holds : store.is_shut ≡ false → Holds building (earlier ++ listed building record_now.bytes) store
+  pub leaves : (content : Content) → store.may_leave content
+      → content ≡ sound (tables building (earlier ++ listed building record_now.bytes))
 
--- a record and a store: level while the record is open; what an open store holds, and what a stop leaves of it, follows whatever
--- a stop leaves of the record
-pub record InStep (building : Building) (record_now : RecordStanding) (store : Standing) : Type 0 where
-  pub level : record_now.is_shut ≡ false → AreLevel building record_now store
-  pub held : store.is_shut ≡ false → (bytes : List ℕ) → record_now.may_leave bytes → Follows building (listed building bytes) store.content
+-- a record that began after earlier deliveries, and a store: level while the record is open; what an open store holds, and what
+-- a stop leaves of it, follows whatever a stop leaves of the record
+pub record InStep (building : Building) (earlier : List Delivery) (record_now : RecordStanding) (store : Standing) : Type 0 where
+  pub level : record_now.is_shut ≡ false → AreLevel building earlier record_now store
+  pub held : store.is_shut ≡ false → (bytes : List ℕ) → record_now.may_leave bytes
+      → Follows building earlier (listed building bytes) store.content
   pub left : (bytes : List ℕ) (content : Content) → record_now.may_leave bytes → store.may_leave content
-      → Follows building (listed building bytes) content
+      → Follows building earlier (listed building bytes) content

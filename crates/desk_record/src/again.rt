@@ -17,11 +17,11 @@ pub(crate) fn deliver_again<S: Store + Drop>(
 ) -> Result<(), StoreFault>
     ensures goes { Goes (result_err result) (S.standing desk.old.store) (S.standing desk.new.store) }
     ensures made { (earlier : List a_delivery) → (S.standing desk.new.store).is_honest
-        → IsBehind desk.old.building (earlier ++ delivery.now ∷ []) (S.standing desk.old.store)
+        → IsBehind desk.old.building [] (earlier ++ delivery.now ∷ []) (S.standing desk.old.store)
         → OnOk result (HasTables desk.old.building (earlier ++ delivery.now ∷ []) (S.standing desk.new.store)) }
     ensures behind { (earlier : List a_delivery) → (S.standing desk.new.store).is_honest
-        → IsBehind desk.old.building (earlier ++ delivery.now ∷ []) (S.standing desk.old.store)
-        → OnErr result (IsBehind desk.old.building (earlier ++ delivery.now ∷ []) (S.standing desk.new.store)) }
+        → IsBehind desk.old.building [] (earlier ++ delivery.now ∷ []) (S.standing desk.old.store)
+        → OnErr result (IsBehind desk.old.building [] (earlier ++ delivery.now ∷ []) (S.standing desk.new.store)) }
     ensures building { desk.new.building ≡ desk.old.building }
 {
     // so that an import that is known is known again

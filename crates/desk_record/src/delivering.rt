@@ -57,9 +57,9 @@ pub fn deliver<S: Store + Drop, R: Recorder>(
     ensures goes_on { OnOk result (Goes None (S.standing desk.old.store) (S.standing desk.new.store)) }
     ensures written { OnOk result ((R.standing recorder.new).is_honest
         → HasWritten desk.old.building delivery.now (R.standing recorder.old) (R.standing recorder.new)) }
-    ensures recorded { (S.standing desk.new.store).is_honest → (R.standing recorder.new).is_honest
-        → InStep desk.old.building (R.standing recorder.old) (S.standing desk.old.store)
-        → InStep desk.old.building (R.standing recorder.new) (S.standing desk.new.store) }
+    ensures recorded { (earlier : List a_delivery) → (S.standing desk.new.store).is_honest → (R.standing recorder.new).is_honest
+        → InStep desk.old.building earlier (R.standing recorder.old) (S.standing desk.old.store)
+        → InStep desk.old.building earlier (R.standing recorder.new) (S.standing desk.new.store) }
     ensures not_recorded { result ≡ Err Undelivered.NotRecorded → IsTrue (R.standing recorder.new).is_shut }
     ensures honest { (S.standing desk.new.store).is_honest → (S.standing desk.old.store).is_honest }
     ensures honest_record { (R.standing recorder.new).is_honest → (R.standing recorder.old).is_honest }

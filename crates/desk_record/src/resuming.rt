@@ -1,7 +1,8 @@
 //! A record that is taken up again.
-ghost use Rattle.std.specs.Prelude.{◌≡◌, ◌+◌, ◌<◌, ◌^◌, ℕ, List, length, Err, IfErr, IfOk, OnErr, OnOk};
+ghost use Rattle.std.specs.Prelude.{◌≡◌, ◌+◌, ◌++◌, ◌<◌, ◌^◌, ℕ, List, length, Err, IfErr, IfOk, OnErr, OnOk};
 ghost use Rattle.std.specs.Bool.{IsTrue};
 ghost use Rattle.sqlite_disk.specs.Disk.{Cut, Only};
+ghost use Rattle.deliveries.specs.declared.delivery.Delivery.{Delivery as a_delivery};
 ghost use Rattle.desk_record.specs.LastLine.{TellsLast};
 ghost use Rattle.desk_record.specs.Recorded.{HasTables, InStep, IsBehind, listed};
 ghost use Rattle.desk_record.specs.Resuming.{IsEndOf, IsMended, KeepsLines, LosesTorn};
@@ -69,14 +70,14 @@ fn mend<D: Disk>(disk: &mut D, whole: usize) -> Result<(), ResumeFault>
 /// Makes the delivery of the last line once more, if there is one.
 fn catch_up_store<S: Store + Drop>(desk: &mut Desk<S>, ending: &Ending) -> Result<(), ResumeFault>
     ensures honest { (S.standing desk.new.store).is_honest → (S.standing desk.old.store).is_honest }
-    ensures caught_up { (file : List ℕ) → OnOk result ((S.standing desk.new.store).is_honest
+    ensures caught_up { (earlier : List a_delivery) (file : List ℕ) → OnOk result ((S.standing desk.new.store).is_honest
         → TellsLast desk.old.building file ending.now.whole ending.now.delivery
-        → IsBehind desk.old.building (listed desk.old.building file) (S.standing desk.old.store)
-        → HasTables desk.old.building (listed desk.old.building file) (S.standing desk.new.store)) }
-    ensures behind { (file : List ℕ) → OnErr result ((S.standing desk.new.store).is_honest
+        → IsBehind desk.old.building earlier (listed desk.old.building file) (S.standing desk.old.store)
+        → HasTables desk.old.building (earlier ++ listed desk.old.building file) (S.standing desk.new.store)) }
+    ensures behind { (earlier : List a_delivery) (file : List ℕ) → OnErr result ((S.standing desk.new.store).is_honest
         → TellsLast desk.old.building file ending.now.whole ending.now.delivery
-        → IsBehind desk.old.building (listed desk.old.building file) (S.standing desk.old.store)
-        → IsBehind desk.old.building (listed desk.old.building file) (S.standing desk.new.store)) }
+        → IsBehind desk.old.building earlier (listed desk.old.building file) (S.standing desk.old.store)
+        → IsBehind desk.old.building earlier (listed desk.old.building file) (S.standing desk.new.store)) }
     ensures reported { IfErr result (λ fault. fault ≡ ResumeFault.NotDelivery → ⊥) }
     ensures building { desk.new.building ≡ desk.old.building }
 {
@@ -103,15 +104,15 @@ fn catch_up<S: Store + Drop, D: Disk>(
     ensures len { IfOk result (λ whole. whole ≡ length (D.Disk.seen disk.new)) }
     ensures mended { OnOk result (IsTrue (D.Disk.is_clean disk.new)
         → IsMended desk.old.building (D.Disk.seen disk.old) (D.Disk.seen disk.new) (D.Disk.may_leave disk.new)) }
-    ensures caught_up { OnOk result ((S.standing desk.new.store).is_honest → IsTrue (D.Disk.is_clean disk.new)
-        → IsBehind desk.old.building (listed desk.old.building (D.Disk.seen disk.old)) (S.standing desk.old.store)
-        → HasTables desk.old.building (listed desk.old.building (D.Disk.seen disk.old)) (S.standing desk.new.store)) }
+    ensures caught_up { OnOk result ((earlier : List a_delivery) → (S.standing desk.new.store).is_honest → IsTrue (D.Disk.is_clean disk.new)
+        → IsBehind desk.old.building earlier (listed desk.old.building (D.Disk.seen disk.old)) (S.standing desk.old.store)
+        → HasTables desk.old.building (earlier ++ listed desk.old.building (D.Disk.seen disk.old)) (S.standing desk.new.store)) }
     ensures keeps { OnErr result (IsTrue (D.Disk.is_clean disk.new)
         → KeepsLines desk.old.building (D.Disk.seen disk.old) (D.Disk.seen disk.new)) }
     ensures refused { result ≡ Err ResumeFault.NotDelivery → D.Disk.seen disk.new ≡ D.Disk.seen disk.old }
-    ensures behind { OnErr result ((S.standing desk.new.store).is_honest → IsTrue (D.Disk.is_clean disk.new)
-        → IsBehind desk.old.building (listed desk.old.building (D.Disk.seen disk.old)) (S.standing desk.old.store)
-        → IsBehind desk.old.building (listed desk.old.building (D.Disk.seen disk.old)) (S.standing desk.new.store)) }
+    ensures behind { OnErr result ((earlier : List a_delivery) → (S.standing desk.new.store).is_honest → IsTrue (D.Disk.is_clean disk.new)
+        → IsBehind desk.old.building earlier (listed desk.old.building (D.Disk.seen disk.old)) (S.standing desk.old.store)
+        → IsBehind desk.old.building earlier (listed desk.old.building (D.Disk.seen disk.old)) (S.standing desk.new.store)) }
     ensures building { desk.new.building ≡ desk.old.building }
 {
     if !disk.may_be_used() {
@@ -138,17 +139,17 @@ pub fn resume<S: Store + Drop, D: Disk + Drop>(
         → listed desk.old.building (D.Disk.seen taken.lines.disk) ≡ listed desk.old.building (D.Disk.seen disk)) }
     ensures torn { IfOk result (λ taken. IsTrue (D.Disk.is_clean taken.lines.disk)
         → LosesTorn (D.Disk.seen disk) (D.Disk.seen taken.lines.disk)) }
-    ensures in_step { IfOk result (λ taken. (S.standing desk.new.store).is_honest
+    ensures in_step { IfOk result (λ taken. (earlier : List a_delivery) → (S.standing desk.new.store).is_honest
         → IsTrue (D.Disk.is_clean taken.lines.disk)
-        → IsBehind desk.old.building (listed desk.old.building (D.Disk.seen disk)) (S.standing desk.old.store)
-        → InStep desk.old.building (⟦<Record<D> as Recorder>⟧.standing taken) (S.standing desk.new.store)) }
+        → IsBehind desk.old.building earlier (listed desk.old.building (D.Disk.seen disk)) (S.standing desk.old.store)
+        → InStep desk.old.building earlier (⟦<Record<D> as Recorder>⟧.standing taken) (S.standing desk.new.store)) }
     ensures clean { IfOk result (λ taken. IsTrue (D.Disk.is_clean taken.lines.disk) → IsTrue (D.Disk.is_clean disk)) }
     ensures keeps { IfErr result (λ end. IsTrue (D.Disk.is_clean end.disk)
         → KeepsLines desk.old.building (D.Disk.seen disk) (D.Disk.seen end.disk)) }
     ensures refused { IfErr result (λ end. end.fault ≡ ResumeFault.NotDelivery → D.Disk.seen end.disk ≡ D.Disk.seen disk) }
-    ensures behind { IfErr result (λ end. (S.standing desk.new.store).is_honest → IsTrue (D.Disk.is_clean end.disk)
-        → IsBehind desk.old.building (listed desk.old.building (D.Disk.seen disk)) (S.standing desk.old.store)
-        → IsBehind desk.old.building (listed desk.old.building (D.Disk.seen disk)) (S.standing desk.new.store)) }
+    ensures behind { IfErr result (λ end. (earlier : List a_delivery) → (S.standing desk.new.store).is_honest → IsTrue (D.Disk.is_clean end.disk)
+        → IsBehind desk.old.building earlier (listed desk.old.building (D.Disk.seen disk)) (S.standing desk.old.store)
+        → IsBehind desk.old.building earlier (listed desk.old.building (D.Disk.seen disk)) (S.standing desk.new.store)) }
     ensures honest { (S.standing desk.new.store).is_honest → (S.standing desk.old.store).is_honest }
     ensures building { desk.new.building ≡ desk.old.building }
 {

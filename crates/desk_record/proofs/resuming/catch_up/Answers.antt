@@ -1,6 +1,7 @@
-use Rattle.std.proofs.Common.{subst}
+use Rattle.std.proofs.Common.{List, subst}
 use Rattle.sqlite_disk.specs.Disk.{Cut}
 use Rattle.std.specs.Bool.{IsTrue}
+use Rattle.deliveries.specs.declared.delivery.Delivery.{Delivery}
 use Rattle.desk_record.specs.LastLine.{TellsLast}
 use Rattle.desk_record.specs.Recorded.{IsBehind, listed}
 use Rattle.desk_record.specs.Resuming.{KeepsLines}
@@ -41,12 +42,12 @@ returns-in_err-catch_up_store-clause-keeps g c = on-err _ (IsTrue (g.D.Disk.is_c
     (kept_lines g (goal.at.returns-in_err-catch_up_store-clause-keeps g c).After-mend)
 
 pub returns-in_err-catch_up_store-clause-behind : goal.returns-in_err-catch_up_store-clause-behind
-returns-in_err-catch_up_store-clause-behind g c = on-err _ ((g.S.Store.standing c.catch_up_store.new.desk.store).is_honest
+returns-in_err-catch_up_store-clause-behind g c = on-err _ ((earlier : List Delivery) → (g.S.Store.standing c.catch_up_store.new.desk.store).is_honest
     → IsTrue (g.D.Disk.is_clean c.mend.new.disk)
-    → IsBehind c.args.desk.now.building (listed c.args.desk.now.building (g.D.Disk.seen c.args.disk.now)) (g.S.Store.standing c.args.desk.now.store)
-    → IsBehind c.args.desk.now.building (listed c.args.desk.now.building (g.D.Disk.seen c.args.disk.now))
-    (g.S.Store.standing c.catch_up_store.new.desk.store)) (λ honest now behind.
-    c.in_err-catch_up_store.ensures.behind (g.D.Disk.seen c.args.disk.now) honest (last_line g (goal.at.returns-in_err-catch_up_store-clause-behind g c).After-mend now) behind)
+    → IsBehind c.args.desk.now.building earlier (listed c.args.desk.now.building (g.D.Disk.seen c.args.disk.now)) (g.S.Store.standing c.args.desk.now.store)
+    → IsBehind c.args.desk.now.building earlier (listed c.args.desk.now.building (g.D.Disk.seen c.args.disk.now))
+    (g.S.Store.standing c.catch_up_store.new.desk.store)) (λ earlier honest now behind.
+    c.in_err-catch_up_store.ensures.behind earlier (g.D.Disk.seen c.args.disk.now) honest (last_line g (goal.at.returns-in_err-catch_up_store-clause-behind g c).After-mend now) behind)
 
 pub returns-clause-mended : goal.returns-clause-mended
 returns-clause-mended g c = λ now.
@@ -55,5 +56,5 @@ returns-clause-mended g c = λ now.
     (g.D.Disk.may_leave c.mend.new.disk) c.in_ok-mend.ensures.len c.in_ok-mend.ensures.on_disk
 
 pub returns-clause-caught_up : goal.returns-clause-caught_up
-returns-clause-caught_up g c = λ honest now behind.
-    c.in_ok-catch_up_store.ensures.caught_up (g.D.Disk.seen c.args.disk.now) honest (last_line g (goal.at.returns-clause-caught_up g c).After-mend now) behind
+returns-clause-caught_up g c = λ earlier honest now behind.
+    c.in_ok-catch_up_store.ensures.caught_up earlier (g.D.Disk.seen c.args.disk.now) honest (last_line g (goal.at.returns-clause-caught_up g c).After-mend now) behind
