@@ -124,9 +124,9 @@ Progress-line b until E bytes line left after old mid new now then p takes withi
     }
 
 -- what is printed stays printed
-pub Replays-Keeps : (said : Option Text) (file list : List ℕ) (old mid new : Option (List ℕ)) → Replays said file list old mid
-    → Keeps mid new → Replays said file list old new
-Replays-Keeps said file list old mid new r kept = record {
+pub Replays-Keeps : (said : Option Text) (file : List ℕ) (E : List Delivery) (list : List ℕ) (old mid new : Option (List ℕ))
+    → Replays said file E list old mid → Keeps mid new → Replays said file E list old new
+Replays-Keeps said file E list old mid new r kept = record {
   building = r.building;
   until = r.until;
   parsed = r.parsed;
@@ -137,12 +137,12 @@ Replays-Keeps said file list old mid new r kept = record {
 }
 
 -- the replies, then the points, and the moment
-pub Replays-done : (said : Option Text) (until : Option ℤ) (file list : List ℕ) (b b' : Building) (old mid shown new : Option (List ℕ))
-    (now : Content) (told : List ℕ)
+pub Replays-done : (said : Option Text) (until : Option ℤ) (file : List ℕ) (E : List Delivery) (list : List ℕ) (b b' : Building)
+    (old mid shown new : Option (List ℕ)) (now : Content) (told : List ℕ)
     → building_of file ≡ Ok (contents_of b) → IsUntil b said until
-    → Prints b [] (lines_until b until (lines_of list)) old mid now → b' ≡ b → Appends mid shown (point_lines b' now.tables)
-    → told ≡ until_line b until → Appends shown new told → Replays said file list old new
-Replays-done said until file list b b' old mid shown new now told file_is until_is prints still points told_is end = record {
+    → Prints b E (lines_until b until (lines_of list)) old mid now → b' ≡ b → Appends mid shown (point_lines b' now.tables)
+    → told ≡ until_line b until → Appends shown new told → Replays said file E list old new
+Replays-done said until file E list b b' old mid shown new now told file_is until_is prints still points told_is end = record {
   building = b;
   until = until;
   parsed = prints.parsed;

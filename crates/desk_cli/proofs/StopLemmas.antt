@@ -157,10 +157,11 @@ Progress-stops-at b until E bytes line left after old mid new now p takes within
 
 -- ---- the whole run
 
-pub no_more-lines : (said : Option Text) (until : Option ℤ) (file list : List ℕ) (b : Building) (old mid new : Option (List ℕ))
-    → building_of file ≡ Ok (contents_of b) → IsUntil b said until → PrintsStart b [] (lines_until b until (lines_of list)) old mid
-    → Keeps mid new → PrintsNoMore said file list old new
-no_more-lines said until file list b old mid new file_is until_is part kept = inr (
+pub no_more-lines : (said : Option Text) (until : Option ℤ) (file : List ℕ) (E : List Delivery) (list : List ℕ) (b : Building)
+    (old mid new : Option (List ℕ))
+    → building_of file ≡ Ok (contents_of b) → IsUntil b said until → PrintsStart b E (lines_until b until (lines_of list)) old mid
+    → Keeps mid new → PrintsNoMore said file E list old new
+no_more-lines said until file E list b old mid new file_is until_is part kept = inr (
   b,
   until,
   file_is,
@@ -176,12 +177,12 @@ no_more-lines said until file list b old mid new file_is until_is part kept = in
 )
 
 -- all lines, and a beginning of what follows them
-pub no_more-rest : (said : Option Text) (until : Option ℤ) (file list : List ℕ) (b : Building) (old mid new last : Option (List ℕ))
-    (now : Content)
-    → building_of file ≡ Ok (contents_of b) → IsUntil b said until → (prints : Prints b [] (lines_until b until (lines_of list)) old mid now)
-    → AppendsStart mid new (point_lines b (tables b (deliveries_in prints.parsed)) ++ until_line b until) → Keeps new last
-    → PrintsNoMore said file list old last
-no_more-rest said until file list b old mid new last now file_is until_is prints rest kept = inr (
+pub no_more-rest : (said : Option Text) (until : Option ℤ) (file : List ℕ) (E : List Delivery) (list : List ℕ) (b : Building)
+    (old mid new last : Option (List ℕ)) (now : Content)
+    → building_of file ≡ Ok (contents_of b) → IsUntil b said until → (prints : Prints b E (lines_until b until (lines_of list)) old mid now)
+    → AppendsStart mid new (point_lines b (tables b (E ++ deliveries_in prints.parsed)) ++ until_line b until) → Keeps new last
+    → PrintsNoMore said file E list old last
+no_more-rest said until file E list b old mid new last now file_is until_is prints rest kept = inr (
   b,
   until,
   file_is,
@@ -198,25 +199,25 @@ points_of : (b b' : Building) (E : List Delivery) (now : Content) → b' ≡ b �
 points_of b b' E now still holds i = point_lines (still i) (holds i).tables
 
 -- a beginning of the points
-pub no_more-points : (said : Option Text) (until : Option ℤ) (file list : List ℕ) (b b' : Building) (old mid new last : Option (List ℕ))
-    (now : Content)
-    → building_of file ≡ Ok (contents_of b) → IsUntil b said until → Prints b [] (lines_until b until (lines_of list)) old mid now
-    → b' ≡ b → AppendsStart mid new (point_lines b' now.tables) → Keeps new last → PrintsNoMore said file list old last
-no_more-points said until file list b b' old mid new last now file_is until_is prints still points kept =
-    no_more-rest said until file list b old mid new last now file_is until_is prints
+pub no_more-points : (said : Option Text) (until : Option ℤ) (file : List ℕ) (E : List Delivery) (list : List ℕ) (b b' : Building)
+    (old mid new last : Option (List ℕ)) (now : Content)
+    → building_of file ≡ Ok (contents_of b) → IsUntil b said until → Prints b E (lines_until b until (lines_of list)) old mid now
+    → b' ≡ b → AppendsStart mid new (point_lines b' now.tables) → Keeps new last → PrintsNoMore said file E list old last
+no_more-points said until file E list b b' old mid new last now file_is until_is prints still points kept =
+    no_more-rest said until file E list b old mid new last now file_is until_is prints
     (start-longer mid new _ (until_line b until)
-    (subst (λ text. AppendsStart mid new text) (points_of b b' (deliveries_in prints.parsed) now still prints.holds) points)) kept
+    (subst (λ text. AppendsStart mid new text) (points_of b b' (E ++ deliveries_in prints.parsed) now still prints.holds) points)) kept
 
 -- the points, and a beginning of the moment
-pub no_more-told : (said : Option Text) (until : Option ℤ) (file list : List ℕ) (b b' : Building)
+pub no_more-told : (said : Option Text) (until : Option ℤ) (file : List ℕ) (E : List Delivery) (list : List ℕ) (b b' : Building)
     (old mid shown new last : Option (List ℕ)) (now : Content) (told : List ℕ)
-    → building_of file ≡ Ok (contents_of b) → IsUntil b said until → Prints b [] (lines_until b until (lines_of list)) old mid now
+    → building_of file ≡ Ok (contents_of b) → IsUntil b said until → Prints b E (lines_until b until (lines_of list)) old mid now
     → b' ≡ b → Appends mid shown (point_lines b' now.tables) → told ≡ until_line b until → AppendsStart shown new told → Keeps new last
-    → PrintsNoMore said file list old last
-no_more-told said until file list b b' old mid shown new last now told file_is until_is prints still points told_is end kept =
-    no_more-rest said until file list b old mid new last now file_is until_is prints
+    → PrintsNoMore said file E list old last
+no_more-told said until file E list b b' old mid shown new last now told file_is until_is prints still points told_is end kept =
+    no_more-rest said until file E list b old mid new last now file_is until_is prints
     (start-after mid shown new _ _
-    (subst (λ text. Appends mid shown text) (points_of b b' (deliveries_in prints.parsed) now still prints.holds) points)
+    (subst (λ text. Appends mid shown text) (points_of b b' (E ++ deliveries_in prints.parsed) now still prints.holds) points)
     (subst (λ text. AppendsStart shown new text) told_is end)) kept
 
 pub Keeps-Keeps : (a b c : Option (List ℕ)) → Keeps a b → Keeps b c → Keeps a c
@@ -226,12 +227,12 @@ Keeps-Keeps (Some xs) (Some ys) None h k = absurd k
 Keeps-Keeps (Some xs) (Some ys) (Some zs) h k = k ∙ h
 
 -- what is printed stays printed
-pub no_more-Keeps : (said : Option Text) (file list : List ℕ) (old mid new : Option (List ℕ)) → PrintsNoMore said file list old mid
-    → Keeps mid new → PrintsNoMore said file list old new
-no_more-Keeps said file list old mid new printed kept = ⊎_elim
+pub no_more-Keeps : (said : Option Text) (file : List ℕ) (E : List Delivery) (list : List ℕ) (old mid new : Option (List ℕ))
+    → PrintsNoMore said file E list old mid → Keeps mid new → PrintsNoMore said file E list old new
+no_more-Keeps said file E list old mid new printed kept = ⊎_elim
     (λ nothing. inl (Keeps-Keeps old mid new nothing kept))
     (λ some. ⊎_elim
-    (λ first. no_more-lines said some.1 file list some.0 old mid new some.2 some.3 first kept)
+    (λ first. no_more-lines said some.1 file E list some.0 old mid new some.2 some.3 first kept)
     (λ all. inr (
       some.0,
       some.1,

@@ -15,18 +15,18 @@ use Rattle.desk_cli.specs.Until.{IsUntil}
 use Rattle.desk_cli.specs.Why.{Asks, Explains, ExplainsNoMore, explanation, point_of}
 
 -- what a run has found before it prints
-pub record Found (file list word : List ℕ) (said : Option Text) (b : Building) (point : Point) (deliveries : List Delivery)
-    (text : List ℕ) : Type 0 where
+pub record Found (file : List ℕ) (E : List Delivery) (list word : List ℕ) (said : Option Text) (b : Building) (point : Point)
+    (deliveries : List Delivery) (text : List ℕ) : Type 0 where
   pub until : Option ℤ
   pub building_is : building_of file ≡ Ok (contents_of b)
   pub point_is : point_of b word ≡ Some point
   pub until_is : IsUntil b said until
   pub collects : Collects b (lines_until b until (lines_of list)) [] deliveries
-  pub text_is : text ≡ explanation b deliveries point until
+  pub text_is : text ≡ explanation b E deliveries point until
 
-abbrev asks : (file list word : List ℕ) (said : Option Text) (b : Building) (point : Point) (deliveries : List Delivery) (text : List ℕ)
-    → Found file list word said b point deliveries text → Asks file list word said
-asks file list word said b point deliveries text found = record {
+abbrev asks : (file : List ℕ) (E : List Delivery) (list word : List ℕ) (said : Option Text) (b : Building) (point : Point)
+    (deliveries : List Delivery) (text : List ℕ) → Found file E list word said b point deliveries text → Asks file list word said
+asks file E list word said b point deliveries text found = record {
   building = b;
   point = point;
   until = found.until;
@@ -37,30 +37,30 @@ asks file list word said b point deliveries text found = record {
   read_is = found.collects.read_is;
 }
 
-pub explains_whole : (file list word : List ℕ) (said : Option Text) (b : Building) (point : Point) (deliveries : List Delivery)
-    (text : List ℕ) (old mid new : Option (List ℕ)) → Found file list word said b point deliveries text
-    → Appends old mid text → Keeps mid new → Explains file list word said old new
-explains_whole file list word said b point deliveries text old mid new found printed kept = (
-  asks file list word said b point deliveries text found,
+pub explains_whole : (file : List ℕ) (E : List Delivery) (list word : List ℕ) (said : Option Text) (b : Building) (point : Point)
+    (deliveries : List Delivery) (text : List ℕ) (old mid new : Option (List ℕ)) → Found file E list word said b point deliveries text
+    → Appends old mid text → Keeps mid new → Explains file E list word said old new
+explains_whole file E list word said b point deliveries text old mid new found printed kept = (
+  asks file E list word said b point deliveries text found,
   subst (λ (shown : List ℕ). Appends old new shown)
-      (found.text_is ∙ ap (λ (ds : List Delivery). explanation b ds point found.until) found.collects.added)
+      (found.text_is ∙ ap (λ (ds : List Delivery). explanation b E ds point found.until) found.collects.added)
       (Appends-Keeps old mid new text printed kept),
 )
 
-pub explains_start : (file list word : List ℕ) (said : Option Text) (b : Building) (point : Point) (deliveries : List Delivery)
-    (text : List ℕ) (old mid new : Option (List ℕ)) → Found file list word said b point deliveries text
-    → AppendsStart old mid text → Keeps mid new → ExplainsNoMore file list word said old new
-explains_start file list word said b point deliveries text old mid new found printed kept = inr (
-  asks file list word said b point deliveries text found,
+pub explains_start : (file : List ℕ) (E : List Delivery) (list word : List ℕ) (said : Option Text) (b : Building) (point : Point)
+    (deliveries : List Delivery) (text : List ℕ) (old mid new : Option (List ℕ)) → Found file E list word said b point deliveries text
+    → AppendsStart old mid text → Keeps mid new → ExplainsNoMore file E list word said old new
+explains_start file E list word said b point deliveries text old mid new found printed kept = inr (
+  asks file E list word said b point deliveries text found,
   subst (λ (shown : List ℕ). AppendsStart old new shown)
-      (found.text_is ∙ ap (λ (ds : List Delivery). explanation b ds point found.until) found.collects.added)
+      (found.text_is ∙ ap (λ (ds : List Delivery). explanation b E ds point found.until) found.collects.added)
       (start-Keeps old mid new text printed kept),
 )
 
 -- what is printed stays printed
-pub explains-Keeps : (file list word : List ℕ) (said : Option Text) (old mid new : Option (List ℕ))
-    → ExplainsNoMore file list word said old mid → Keeps mid new → ExplainsNoMore file list word said old new
-explains-Keeps file list word said old mid new printed kept = ⊎_elim
+pub explains-Keeps : (file : List ℕ) (E : List Delivery) (list word : List ℕ) (said : Option Text) (old mid new : Option (List ℕ))
+    → ExplainsNoMore file E list word said old mid → Keeps mid new → ExplainsNoMore file E list word said old new
+explains-Keeps file E list word said old mid new printed kept = ⊎_elim
     (λ nothing. inl (Keeps-Keeps old mid new nothing kept))
     (λ some. inr (some.0, start-Keeps old mid new _ some.1 kept))
     printed

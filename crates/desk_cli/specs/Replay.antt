@@ -117,8 +117,9 @@ pub record Prints (building : Building) (earlier : List Delivery) (lines : List 
   pub holds : now ≡ sound (tables building (earlier ++ deliveries_in parsed))
 
 -- the file is a building, each line of the list up to the moment that is said tells something, and what was printed is
--- what they are answered, then the points as their deliveries leave them, and which moment that was
-pub record Replays (said : Option Text) (file list : List ℕ) (old new : Option (List ℕ)) : Type 0 where
+-- what they are answered after earlier deliveries, then the points as their deliveries leave them, and which moment that was
+pub record Replays (said : Option Text) (file : List ℕ) (earlier : List Delivery) (list : List ℕ) (old new : Option (List ℕ)) :
+    Type 0 where
   pub building : Building
   pub until : Option ℤ
   pub parsed : List ParsedLine
@@ -126,8 +127,8 @@ pub record Replays (said : Option Text) (file list : List ℕ) (old new : Option
   pub until_is : IsUntil building said until
   pub parsed_is : parsed_by building (lines_until building until (lines_of list)) ≡ Some parsed
   pub printed : Appends old new
-      (answers_to building [] parsed
-      ++ (point_lines building (tables building (deliveries_in parsed)) ++ until_line building until))
+      (answers_to building earlier parsed
+      ++ (point_lines building (tables building (earlier ++ deliveries_in parsed)) ++ until_line building until))
 
 -- ---- what is printed at most, whatever the end
 
@@ -141,23 +142,24 @@ pub record PrintsStart (building : Building) (earlier : List Delivery) (lines : 
   pub parsed_is : parsed_by building first ≡ Some parsed
   pub printed : AppendsStart old new (answers_to building earlier parsed)
 
--- each line up to a moment tells something, and a beginning of what they are answered, the points and the moment was
--- printed
-pub record PrintsAllLines (building : Building) (until : Option ℤ) (list : List ℕ) (old new : Option (List ℕ)) : Type 0 where
+-- each line up to a moment tells something, and a beginning of what they are answered after earlier deliveries, the points
+-- and the moment was printed
+pub record PrintsAllLines (building : Building) (until : Option ℤ) (earlier : List Delivery) (list : List ℕ)
+    (old new : Option (List ℕ)) : Type 0 where
   pub parsed : List ParsedLine
   pub parsed_is : parsed_by building (lines_until building until (lines_of list)) ≡ Some parsed
   pub printed : AppendsStart old new
-      (answers_to building [] parsed
-      ++ (point_lines building (tables building (deliveries_in parsed)) ++ until_line building until))
+      (answers_to building earlier parsed
+      ++ (point_lines building (tables building (earlier ++ deliveries_in parsed)) ++ until_line building until))
 
 -- nothing was printed; or the file is a building, and a beginning of what the first lines up to the moment that is said
--- are answered was printed, or of what all of them are, the points and the moment
-abbrev pub PrintsNoMore : Option Text → List ℕ → List ℕ → Option (List ℕ) → Option (List ℕ) → Type 0
-PrintsNoMore said file list old new =
+-- are answered after earlier deliveries was printed, or of what all of them are, the points and the moment
+abbrev pub PrintsNoMore : Option Text → List ℕ → List Delivery → List ℕ → Option (List ℕ) → Option (List ℕ) → Type 0
+PrintsNoMore said file earlier list old new =
     Keeps old new
     ⊎ ((building : Building) × (until : Option ℤ) × (building_of file ≡ Ok (contents_of building)) × IsUntil building said until
-    × (PrintsStart building [] (lines_until building until (lines_of list)) old new
-    ⊎ PrintsAllLines building until list old new))
+    × (PrintsStart building earlier (lines_until building until (lines_of list)) old new
+    ⊎ PrintsAllLines building until earlier list old new))
 
 -- whatever reader a call may open, it has these bytes left
 abbrev pub Opens : {R : Type 0} → (R → Type 0) → (R → Option (List ℕ)) → List ℕ → Type 0

@@ -17,13 +17,13 @@ use Rattle.points.specs.Texts.{Text, name_of}
 use Rattle.desk_cli.specs.Until.{IsUntil, until_line}
 use Rattle.desk_why.specs.WhyLines.{why_text}
 
--- the text of a point after deliveries up to a moment: what it presents, what its places hold and by whom, when the
--- schedules that target it change next, and which moment that was
-abbrev pub explanation : Building → List Delivery → Point → Option ℤ → List ℕ
-explanation building deliveries point until = why_text building point
-    (present_of ((machine building deliveries).places point.name) point.relinquish_default)
-    (places_of building deliveries point.name)
-    (next_changes building deliveries point.name)
+-- the text of a point after the deliveries of a record, which begins behind earlier ones, up to a moment: what it presents,
+-- what its places hold and by whom, when the schedules that target it change next, and which moment that was
+abbrev pub explanation : Building → (earlier deliveries : List Delivery) → Point → Option ℤ → List ℕ
+explanation building earlier deliveries point until = why_text building point
+    (present_of ((machine building (earlier ++ deliveries)).places point.name) point.relinquish_default)
+    (places_of building earlier deliveries point.name)
+    (next_changes building (earlier ++ deliveries) point.name)
     ++ until_line building until
 
 -- the point that a word names
@@ -42,12 +42,13 @@ pub record Asks (file list word : List ℕ) (said : Option Text) : Type 0 where
   pub until_is : IsUntil building said until
   pub read_is : parsed_by building (lines_until building until (lines_of list)) ≡ Some read
 
--- and the text of the point after these deliveries was printed
-abbrev pub Explains : (file list word : List ℕ) → Option Text → Option (List ℕ) → Option (List ℕ) → Type 0
-Explains file list word said old new = (asked : Asks file list word said)
-    × Appends old new (explanation asked.building (deliveries_in asked.read) asked.point asked.until)
+-- and the text of the point after these deliveries, behind earlier ones, was printed
+abbrev pub Explains : (file : List ℕ) → List Delivery → (list word : List ℕ) → Option Text → Option (List ℕ) → Option (List ℕ) → Type 0
+Explains file earlier list word said old new = (asked : Asks file list word said)
+    × Appends old new (explanation asked.building earlier (deliveries_in asked.read) asked.point asked.until)
 
 -- nothing was printed; or a beginning of that text was
-abbrev pub ExplainsNoMore : (file list word : List ℕ) → Option Text → Option (List ℕ) → Option (List ℕ) → Type 0
-ExplainsNoMore file list word said old new = Keeps old new ⊎ ((asked : Asks file list word said)
-    × AppendsStart old new (explanation asked.building (deliveries_in asked.read) asked.point asked.until))
+abbrev pub ExplainsNoMore : (file : List ℕ) → List Delivery → (list word : List ℕ) → Option Text
+    → Option (List ℕ) → Option (List ℕ) → Type 0
+ExplainsNoMore file earlier list word said old new = Keeps old new ⊎ ((asked : Asks file list word said)
+    × AppendsStart old new (explanation asked.building earlier (deliveries_in asked.read) asked.point asked.until))

@@ -1,6 +1,6 @@
 //! The run of a list of deliveries over a building, in memory.
 
-ghost use Rattle.std.specs.Prelude.{◌≡◌, List, Option, ℕ, [], ◌∷◌, IfOk, Ok, OnOk, Some, string_bytes};
+ghost use Rattle.std.specs.Prelude.{◌≡◌, List, ℕ, [], ◌∷◌, IfOk, Ok, OnOk, Some, string_bytes};
 ghost use Rattle.std.specs.Io.Buffered.{reader_remaining};
 ghost use Rattle.std.specs.Io.KnownBytes.{Appends, Keeps};
 ghost use Rattle.points.specs.Rights.{point_named};
@@ -9,17 +9,18 @@ ghost use Rattle.building.specs.BuildingFile.{building_of};
 ghost use Rattle.desk.specs.PointState.{state_of};
 ghost use Rattle.deliveries.specs.Delivered.{Holds};
 ghost use Rattle.deliveries.specs.declared.delivery.Delivery.{Delivery as a_delivery};
+ghost use Rattle.cli_base.specs.Base.{StandsOn};
 ghost use Rattle.cli_common.specs.Input.{bytes_of};
 ghost use Rattle.points.specs.Beginnings.{AppendsStart};
 ghost use Rattle.desk_cli.specs.Replay.{Opens, Prints, PrintsNoMore, PrintsStart, Replays};
-ghost use Rattle.desk_cli.specs.Until.{IsUntil, said_in};
-ghost use Rattle.points.specs.Texts.{Text};
+ghost use Rattle.desk_cli.specs.Until.{said_in};
 ghost use Rattle.desk_cli.specs.Replay.{lines_of, lines_until, point_lines, state_line};
 
 use crate::line_answer::answer_line;
 use crate::list_end::is_past;
 use crate::list_lines::{is_empty, read_line};
 use crate::until::{until_line, until_of};
+use cli_base::desk_on;
 use cli_common::{Input, ListInput, RunFault, Status, flush, print_text, read_building};
 use delivery_json::LineFault;
 use desk::Desk;
@@ -31,22 +32,24 @@ use store::Store;
 use store_memory::MemStore;
 
 /// Runs the deliveries of a list over the building of a file, in memory: prints each reply as a line,
-/// and then the POINT line of each point in file order. Empty lines are passed over, also with a CR.
+/// and then the POINT line of each point in file order. Empty lines are passed over, also with a CR. The list begins on
+/// the tables of its base, or on empty ones where it has none.
 ///
 /// Where `until` is a moment (`moments`), the list ends before its first line that has a tick later than it, whatever is
 /// wrong with that tick: that line and those after it are not answered, the points are as the lines before it leave them,
 /// and a last line tells which moment of the building's clock that was.
 ///
-/// The building is read, and refused, then the moment, before the list is opened. A fault is printed to `fault` as one line,
-/// in one write, and ends the run: the replies before it stand, and no POINT line follows a line that
-/// is no delivery. A line of an import whose holiday list is at fault is answered with its refusal, and
-/// nothing is delivered. Whatever the end, nothing else is printed: a beginning of what the first lines are
+/// The building is read, and refused, then the base, over which a desk is to open, then the moment, before the list is
+/// opened. A fault is printed to `fault` as one line, in one write, and ends the run: the replies before it stand, and no
+/// POINT line follows a line that is no delivery. A line of an import whose holiday list is at fault is answered with its
+/// refusal, and nothing is delivered. Whatever the end, nothing else is printed: a beginning of what the first lines are
 /// answered, or of all answers, the points and the moment. `out` is flushed where no further line is at hand, and at the
 /// end of the run, whatever it was; if that loses output, this is the fault that is reported.
 pub fn replay<B: Read + Drop, D: Read + Drop, O, W: Write, F: Write>(
     alloc: Global,
     file: Input<'_, B>,
     deliveries: ListInput<'_, O>,
+    base: Option<MemStore>,
     until: Option<&str>,
     out: &mut W,
     fault: &mut F,
@@ -54,17 +57,19 @@ pub fn replay<B: Read + Drop, D: Read + Drop, O, W: Write, F: Write>(
 where
     O: FnOnce() -> io::Result<BufReader<D>>,
     requires { O.IsAlwaysCallable deliveries.open }
-    ensures done { result ≡ Status.Done → (file_bytes list_bytes : List ℕ)
+    ensures done { result ≡ Status.Done → (file_bytes list_bytes : List ℕ) (earlier : List a_delivery)
         → bytes_of B.remaining file.entry.reader ≡ Some file_bytes
         → Opens (O.post deliveries.entry.open) (bytes_of (reader_remaining D.remaining)) list_bytes
-        → Replays (said_in until.entry) file_bytes list_bytes (W.contents out.old) (W.contents out.new) }
+        → StandsOn base file_bytes earlier
+        → Replays (said_in until.entry) file_bytes earlier list_bytes (W.contents out.old) (W.contents out.new) }
     ensures quiet { result ≡ Status.Done → Keeps (F.contents fault.old) (F.contents fault.new) }
-    ensures no_more { (file_bytes list_bytes : List ℕ)
+    ensures no_more { (file_bytes list_bytes : List ℕ) (earlier : List a_delivery)
         → bytes_of B.remaining file.entry.reader ≡ Some file_bytes
         → Opens (O.post deliveries.entry.open) (bytes_of (reader_remaining D.remaining)) list_bytes
-        → PrintsNoMore (said_in until.entry) file_bytes list_bytes (W.contents out.old) (W.contents out.new) }
+        → StandsOn base file_bytes earlier
+        → PrintsNoMore (said_in until.entry) file_bytes earlier list_bytes (W.contents out.old) (W.contents out.new) }
 {
-    match replay_over(alloc, file, deliveries, until, out) {
+    match replay_over(alloc, file, deliveries, base, until, out) {
         Ok(()) => Status::Done,
         Err(end) => {
             let end = end.after(out.flush());
@@ -78,50 +83,53 @@ fn replay_over<'a, B: Read + Drop, D: Read + Drop, O, W: Write>(
     alloc: Global,
     file: Input<'a, B>,
     deliveries: ListInput<'a, O>,
+    base: Option<MemStore>,
     said: Option<&'a str>,
     out: &mut W,
 ) -> Result<(), RunFault<'a>>
 where
     O: FnOnce() -> io::Result<BufReader<D>>,
     requires { O.IsAlwaysCallable deliveries.open }
-    ensures done { OnOk result ((file_bytes list_bytes : List ℕ)
+    ensures done { OnOk result ((file_bytes list_bytes : List ℕ) (earlier : List a_delivery)
         → bytes_of B.remaining file.entry.reader ≡ Some file_bytes
         → Opens (O.post deliveries.entry.open) (bytes_of (reader_remaining D.remaining)) list_bytes
-        → Replays (said_in said.entry) file_bytes list_bytes (W.contents out.old) (W.contents out.new)) }
-    ensures no_more { (file_bytes list_bytes : List ℕ)
+        → StandsOn base file_bytes earlier
+        → Replays (said_in said.entry) file_bytes earlier list_bytes (W.contents out.old) (W.contents out.new)) }
+    ensures no_more { (file_bytes list_bytes : List ℕ) (earlier : List a_delivery)
         → bytes_of B.remaining file.entry.reader ≡ Some file_bytes
         → Opens (O.post deliveries.entry.open) (bytes_of (reader_remaining D.remaining)) list_bytes
-        → PrintsNoMore (said_in said.entry) file_bytes list_bytes (W.contents out.old) (W.contents out.new) }
+        → StandsOn base file_bytes earlier
+        → PrintsNoMore (said_in said.entry) file_bytes earlier list_bytes (W.contents out.old) (W.contents out.new) }
 {
     let building = read_building(alloc, file)?;
-    let until = until_of(&building, said)?;
-    let mut desk = Desk::new(alloc, building, MemStore::new(alloc));
-    print_list(alloc, &mut desk, deliveries, until, out)
+    let mut desk = desk_on(alloc, building, base)?;
+    print_list(alloc, &mut desk, deliveries, said, out)
 }
 
-/// Answers each line of the list up to a moment, and then prints the points and which moment that was. The desk is lent, so that no exit here drops one: at the
-/// type of one store that is dear to prove.
+/// Answers each line of the list up to the moment that is said, and then prints the points and which moment that was. The
+/// desk is lent, so that no exit here drops one: at the type of one store that is dear to prove.
 fn print_list<'a, S: Store + Drop, D: Read + Drop, O, W: Write>(
     alloc: Global,
     desk: &mut Desk<S>,
     deliveries: ListInput<'a, O>,
-    until: Option<i64>,
+    said: Option<&'a str>,
     out: &mut W,
 ) -> Result<(), RunFault<'a>>
 where
     O: FnOnce() -> io::Result<BufReader<D>>,
     requires { O.IsAlwaysCallable deliveries.open }
-    ensures done { OnOk result ((file_bytes list_bytes : List ℕ) (said : Option Text) → (S.standing desk.new.store).is_honest
-        → building_of file_bytes ≡ Ok (contents_of desk.old.building) → IsUntil desk.old.building said until
+    ensures done { OnOk result ((file_bytes list_bytes : List ℕ) (earlier : List a_delivery) → (S.standing desk.new.store).is_honest
+        → building_of file_bytes ≡ Ok (contents_of desk.old.building)
         → Opens (O.post deliveries.entry.open) (bytes_of (reader_remaining D.remaining)) list_bytes
-        → Holds desk.old.building [] (S.standing desk.old.store)
-        → Replays said file_bytes list_bytes (W.contents out.old) (W.contents out.new)) }
-    ensures no_more { (file_bytes list_bytes : List ℕ) (said : Option Text) → (S.standing desk.new.store).is_honest
-        → building_of file_bytes ≡ Ok (contents_of desk.old.building) → IsUntil desk.old.building said until
+        → Holds desk.old.building earlier (S.standing desk.old.store)
+        → Replays (said_in said.entry) file_bytes earlier list_bytes (W.contents out.old) (W.contents out.new)) }
+    ensures no_more { (file_bytes list_bytes : List ℕ) (earlier : List a_delivery) → (S.standing desk.new.store).is_honest
+        → building_of file_bytes ≡ Ok (contents_of desk.old.building)
         → Opens (O.post deliveries.entry.open) (bytes_of (reader_remaining D.remaining)) list_bytes
-        → Holds desk.old.building [] (S.standing desk.old.store)
-        → PrintsNoMore said file_bytes list_bytes (W.contents out.old) (W.contents out.new) }
+        → Holds desk.old.building earlier (S.standing desk.old.store)
+        → PrintsNoMore (said_in said.entry) file_bytes earlier list_bytes (W.contents out.old) (W.contents out.new) }
 {
+    let until = until_of(desk.building(), said)?;
     let told = until_line(alloc, desk.building(), until)?;
     let ListInput { path, open } = deliveries;
     match open() {

@@ -1,19 +1,19 @@
 -- One delivery more, in what a place holds.
-use Rattle.std.proofs.Common.{◌≡◌, ℕ, ℤ, List, [], ◌∷◌, ◌++◌, map, Option, None, refl, sym, ap, ◌∙◌}
+use Rattle.std.proofs.Common.{◌≡◌, ℕ, ℤ, List, [], ◌∷◌, ◌++◌, map, Option, refl, sym, ap, ◌∙◌}
 use Rattle.building.specs.Building.{Building}
 use Rattle.deliveries.specs.declared.delivery.Delivery.{Delivery}
 use Rattle.deliveries.specs.Events.{acted_on, events_after, events_of, machine}
 use Rattle.deliveries.specs.Tables.{tables}
-use Rattle.deliveries.specs.Machine.{Command, Event, Machine, opening_machine, run, step}
-use Rattle.deliveries.proofs.MachineSame.{events_after-append}
+use Rattle.deliveries.specs.Machine.{Command, Event, Machine, run, step}
+use Rattle.deliveries.proofs.MachineSame.{events_after-append, machine-append}
 use Rattle.std.proofs.lemmas.List.{append-nil}
 use Rattle.points.specs.declared.numbered_row.NumberedRow.{NumberedRow}
 use Rattle.points.specs.Texts.{Text}
 use Rattle.window.specs.Drain.{contents_of}
 use Rattle.desk_why.specs.declared.author.Held.{Held}
 use Rattle.desk_why.specs.declared.author.Place.{Place}
-use Rattle.desk_why.specs.Authors.{held_after, held_after_command, held_along, held_of, place_at, places_of, priorities}
-use Rattle.desk_why.specs.Turns.{held_after_run, no_places, places_along}
+use Rattle.desk_why.specs.Authors.{held_after, held_after_command, held_along, held_before, held_of, place_at, places_of, priorities}
+use Rattle.desk_why.specs.Turns.{held_after_run, places_along, places_before}
 
 pub held_along-append : (b : Building) (m : Machine) (xs ys : List Event) (point : Text) (priority : ℕ) (held : Option Held)
     → held_along b m (xs ++ ys) point priority held ≡ held_along b (run b m xs) ys point priority (held_along b m xs point priority held)
@@ -21,37 +21,47 @@ held_along-append b m [] ys point priority held = refl
 held_along-append b m (x ∷ xs) ys point priority held =
     held_along-append b (step b m x) xs ys point priority (held_after b m x point priority held)
 
-held_of-push : (b : Building) (E : List Delivery) (d : Delivery) (point : Text) (priority : ℕ)
-    → held_of b (E ++ d ∷ []) point priority
-    ≡ held_along b (machine b E) (acted_on b E d) point priority (held_of b E point priority)
-unfolding held_of machine
-held_of-push b E d point priority =
-    ap (λ events. held_along b opening_machine events point priority None)
-    (events_after-append b [] E (d ∷ []) ∙ ap (λ events. events_after b [] E ++ events) (append-nil (acted_on b E d)))
-    ∙ held_along-append b opening_machine (events_after b [] E) (acted_on b E d) point priority None
+-- where a record that begins behind `first` goes on with one delivery more
+held_of-push : (b : Building) (first E : List Delivery) (d : Delivery) (point : Text) (priority : ℕ)
+    → held_of b first (E ++ d ∷ []) point priority
+    ≡ held_along b (machine b (first ++ E)) (acted_on b (first ++ E) d) point priority (held_of b first E point priority)
+unfolding held_of
+held_of-push b first E d point priority =
+    let begun = machine b first in
+    let held = held_before (begun.places point) priority in
+    let acted = acted_on b (first ++ E) d in
+    ap (λ events. held_along b begun events point priority held)
+    (events_after-append b first E (d ∷ []) ∙ ap (λ events. events_after b first E ++ events) (append-nil acted))
+    ∙ (held_along-append b begun (events_after b first E) acted point priority held
+    ∙ ap (λ (m : Machine). held_along b m acted point priority (held_along b begun (events_after b first E) point priority held))
+    (sym (machine-append b first E)))
 
 abbrev along : Building → Machine → List Event → Text → Place → Place
 along b m events point place =
     record { priority = place.priority; held = held_along b m events point place.priority place.held }
 
-places-push : (b : Building) (E : List Delivery) (d : Delivery) (point : Text) (ps : List ℕ)
-    → map (place_at b (E ++ d ∷ []) point) ps
-    ≡ map (along b (machine b E) (acted_on b E d) point) (map (place_at b E point) ps)
-places-push b E d point [] = refl
-places-push b E d point (p ∷ ps) = λ i.
-    record { priority = p; held = held_of-push b E d point p i } ∷ places-push b E d point ps i
+places-push : (b : Building) (first E : List Delivery) (d : Delivery) (point : Text) (ps : List ℕ)
+    → map (place_at b first (E ++ d ∷ []) point) ps
+    ≡ map (along b (machine b (first ++ E)) (acted_on b (first ++ E) d) point) (map (place_at b first E point) ps)
+places-push b first E d point [] = refl
+places-push b first E d point (p ∷ ps) = λ i.
+    record { priority = p; held = held_of-push b first E d point p i } ∷ places-push b first E d point ps i
 
 -- the places with one delivery more
-pub places-more : (b : Building) (E more : List Delivery) (d : Delivery) (point : Text) (old new : List Place) → more ≡ E ++ d ∷ []
-    → old ≡ places_of b E point → new ≡ places_along b (machine b E) (acted_on b E d) point old → new ≡ places_of b more point
+pub places-more : (b : Building) (first E more : List Delivery) (d : Delivery) (point : Text) (old new : List Place) → more ≡ E ++ d ∷ []
+    → old ≡ places_of b first E point → new ≡ places_along b (machine b (first ++ E)) (acted_on b (first ++ E) d) point old
+    → new ≡ places_of b first more point
 unfolding places_of
-places-more b E more d point old new is so_far after =
-    after ∙ (ap (λ (places : List Place). places_along b (machine b E) (acted_on b E d) point places) so_far
-    ∙ (sym (places-push b E d point priorities) ∙ ap (λ (ds : List Delivery). map (place_at b ds point) priorities) (sym is)))
+places-more b first E more d point old new is so_far after =
+    after ∙ (ap (λ (places : List Place). places_along b (machine b (first ++ E)) (acted_on b (first ++ E) d) point places) so_far
+    ∙ (sym (places-push b first E d point priorities)
+    ∙ ap (λ (ds : List Delivery). map (place_at b first ds point) priorities) (sym is)))
 
-pub places-none : (b : Building) (point : Text) → no_places ≡ places_of b [] point
+-- the places where a record begins, before any of its deliveries
+pub places-none : (b : Building) (first : List Delivery) (point : Text)
+    → places_before ((machine b first).places point) ≡ places_of b first [] point
 unfolding places_of held_of
-places-none b point = refl
+places-none b first point = refl
 
 pub tables-places : (b : Building) (E : List Delivery) → (tables b E).places ≡ (machine b E).places
 unfolding tables

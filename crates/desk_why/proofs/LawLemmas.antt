@@ -1,6 +1,6 @@
 -- The value of what put a place's value is that value.
 use Rattle.std.proofs.Common.{◌≡◌, ℕ, ℤ, pos, Bool, true, false, ◌==◌, cond, List, [], ◌∷◌, Option, Some, None, option_map, refl, sym, ap, ◌∙◌, arith}
-use Rattle.std.specs.FinMap.{get, get-empty, get-insert, get-remove}
+use Rattle.std.specs.FinMap.{get, get-insert, get-remove}
 use Rattle.std.specs.Cmp.{nat_cmp_total}
 use Rattle.std.specs.List.{list_any}
 use Rattle.std.specs.Ordering.{eq_by_cmp, nat_cmp}
@@ -10,13 +10,14 @@ use Rattle.std.proofs.lemmas.Slice.Eq.{bytes_eq-Decides}
 use Rattle.building.specs.Building.{Building}
 use Rattle.building.specs.declared.named_schedule.NamedSchedule.{NamedSchedule}
 use Rattle.deliveries.specs.Events.{events_after, machine}
-use Rattle.deliveries.specs.Machine.{Event, Command, Import, Machine, Tick, local_of, now_of, opening_machine, place_of, places_after, rule_for, run, settled, step, with_rows}
+use Rattle.deliveries.specs.Machine.{Event, Command, Import, Machine, Tick, local_of, now_of, place_of, places_after, rule_for, run, settled, step, with_rows}
 use Rattle.local_times.specs.declared.local_clock.LocalTime.{LocalTime}
 use Rattle.points.specs.declared.content.Content.{Content}
 use Rattle.points.specs.declared.rule.Rule.{Rule}
 use Rattle.points.specs.PriorityArray.{Places, put}
 use Rattle.desk_settling.specs.Settled.{Now, Shown, value_of, written}
 use Rattle.deliveries.specs.SettlingLaws.{is_due_at, last_of, leaves_at, value_or}
+use Rattle.deliveries.proofs.MachineSame.{machine-append}
 use Rattle.deliveries.proofs.PlaceLemmas.{each-place_holds}
 use Rattle.store.specs.Change.{with_each, with_place}
 use Rattle.points.specs.Texts.{Text}
@@ -126,6 +127,17 @@ after-events b m (event ∷ events) point priority held same =
     after-events b (step b m event) events point priority (of.held_after b m event point priority held)
     (after-event b m event point priority held same)
 
+value-before : (places : Places) (priority : ℕ) → value (of.held_before places priority) ≡ get places priority
+value-before places priority = by (get places priority) refl
+  where
+    by : (v : Option ℤ) → get places priority ≡ v → value (of.held_before places priority) ≡ get places priority
+    by None e = rw e refl
+    by (Some v) e = rw e refl
+
 pub author-value : PlaceHasItsAuthorsValue
-unfolding held_of machine
-author-value b deliveries point priority = after-events b opening_machine (events_after b [] deliveries) point priority None (sym (get-empty nat_cmp priority))
+unfolding held_of
+author-value b earlier deliveries point priority =
+    let begun = machine b earlier in
+    after-events b begun (events_after b earlier deliveries) point priority (of.held_before (begun.places point) priority)
+    (value-before (begun.places point) priority)
+    ∙ ap (λ (m : Machine). get (m.places point) priority) (sym (machine-append b earlier deliveries))

@@ -1,5 +1,5 @@
 -- The rows that a panel's next number has passed are the commands that are acted on.
-use Rattle.std.proofs.Common.{◌≡◌, ℕ, ℤ, ◌+◌, ◌-◌, ◌≤◌, ◌&&◌, List, [], ◌∷◌, ◌++◌, map, Option}
+use Rattle.std.proofs.Common.{◌≡◌, ℕ, ℤ, List, [], ◌∷◌, ◌++◌, map, Option}
 use Rattle.std.proofs.Common.{refl, sym, ap, ◌∙◌}
 use Rattle.building.specs.Building.{Building}
 use Rattle.deliveries.specs.declared.delivery.Delivery.{Delivery}
@@ -17,7 +17,6 @@ use Rattle.points.specs.Texts.{Text}
 use Rattle.window.specs.Applied.{applied}
 use Rattle.window.specs.Drain.{contents_of}
 use Rattle.window.specs.Taken as asks
-use Rattle.window.specs.Window.{window}
 use Rattle.desk_straighten.proofs.StoreLemmas.{contents-held}
 use Rattle.desk_why.specs.declared.author.Place.{Place}
 use Rattle.desk_why.specs.Turns.{held_after_run, places_along}

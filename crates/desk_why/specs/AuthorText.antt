@@ -59,3 +59,4 @@ author_text building (by.Command panel number after) =
     codes "panel " ++ (panel ++ (codes " #" ++ (decimal number ++ (codes ", " ++ after_text building after))))
 author_text building (by.Schedule schedule source settling) =
     codes "schedule " ++ (schedule ++ (codes ", " ++ (source_text building source ++ (codes ", " ++ settling_text building settling))))
+author_text building by.BeforeRecord = codes "before the record"

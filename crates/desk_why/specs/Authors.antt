@@ -1,11 +1,14 @@
--- What each place holds, and what put it there: of the events of a list of deliveries the last that wrote it.
+-- What each place holds, and what put it there: of the events of a record's deliveries the last that wrote it; where none
+-- did, what it held before the record.
 use Rattle.std.specs.Prelude.{ℕ, ℤ, Bool, ◌&&◌, ◌==◌, if◌then◌else◌, List, [], ◌∷◌, map, Option, Some, None, is_none, option_map}
+use Rattle.std.specs.FinMap.{get}
 use Rattle.std.specs.Str.{bytes_eq}
 use Rattle.building.specs.Building.{Building}
 use Rattle.deliveries.specs.declared.delivery.Delivery.{Delivery}
-use Rattle.deliveries.specs.Events.{events_after}
-use Rattle.deliveries.specs.Machine.{Event, Command, Import, Machine, Tick, local_of, opening_machine, place_of, rule_for, step, with_rows}
+use Rattle.deliveries.specs.Events.{events_after, machine}
+use Rattle.deliveries.specs.Machine.{Event, Command, Import, Machine, Tick, local_of, place_of, rule_for, step, with_rows}
 use Rattle.points.specs.declared.content.Content.{Content}
+use Rattle.points.specs.PriorityArray.{Places}
 use Rattle.desk_settling.specs.Settled.{Shown}
 use Rattle.points.specs.Texts.{Text}
 use Rattle.desk_why.specs.declared.author.Held.{Held}
@@ -52,20 +55,26 @@ held_along building machine [] point priority held = held
 held_along building machine (event ∷ events) point priority held =
     held_along building (step building machine event) events point priority (held_after building machine event point priority held)
 
--- what a point's place holds after a list of deliveries, with what put it there
-unfoldable pub held_of : Building → List Delivery → Text → ℕ → Option Held
-held_of building deliveries point priority =
-    held_along building opening_machine (events_after building [] deliveries) point priority None
+-- what a place holds where a record begins: whatever is there was put before it
+abbrev pub held_before : Places → ℕ → Option Held
+held_before places priority =
+    option_map (λ value. record { value = value; author = by.BeforeRecord }) (get places priority)
+
+-- what a point's place holds after the deliveries of a record that begins behind earlier ones, with what put it there
+unfoldable pub held_of : Building → (earlier deliveries : List Delivery) → Text → ℕ → Option Held
+held_of building earlier deliveries point priority =
+    let begun = machine building earlier in
+    held_along building begun (events_after building earlier deliveries) point priority (held_before (begun.places point) priority)
 
 -- ---- the places of a point
 
 abbrev pub priorities : List ℕ
 priorities = 1 ∷ 2 ∷ 3 ∷ 4 ∷ 5 ∷ 6 ∷ 7 ∷ 8 ∷ 9 ∷ 10 ∷ 11 ∷ 12 ∷ 13 ∷ 14 ∷ 15 ∷ 16 ∷ []
 
-abbrev pub place_at : Building → List Delivery → Text → ℕ → Place
-place_at building deliveries point priority =
-    record { priority = priority; held = held_of building deliveries point priority }
+abbrev pub place_at : Building → (earlier deliveries : List Delivery) → Text → ℕ → Place
+place_at building earlier deliveries point priority =
+    record { priority = priority; held = held_of building earlier deliveries point priority }
 
--- the sixteen places of a point after a list of deliveries
-unfoldable pub places_of : Building → List Delivery → Text → List Place
-places_of building deliveries point = map (place_at building deliveries point) priorities
+-- the sixteen places of a point after the deliveries of a record
+unfoldable pub places_of : Building → (earlier deliveries : List Delivery) → Text → List Place
+places_of building earlier deliveries point = map (place_at building earlier deliveries point) priorities

@@ -16,12 +16,17 @@ use Rattle.desk_why.specs.declared.author.Settling.TheVariants as at
 use Rattle.desk_why.specs.declared.turns.Today.{Today}
 use Rattle.desk_why.specs.declared.turns.Turns.{Turns}
 use Rattle.points.specs.declared.numbered_row.NumberedRow.{NumberedRow}
-use Rattle.desk_why.specs.Authors.{held_after_command, held_along, held_at_last, priorities}
+use Rattle.points.specs.PriorityArray.{Places}
+use Rattle.desk_why.specs.Authors.{held_after_command, held_along, held_at_last, held_before, priorities}
 use Rattle.desk_why.specs.Settling.{held_after_settling, held_at, held_by_schedule}
 
--- the places of a point that nothing has written yet
-abbrev pub no_places : List Place
-no_places = map (λ priority. record { priority = priority; held = None }) priorities
+-- a place where a record begins
+abbrev pub place_before : Places → ℕ → Place
+place_before places priority = record { priority = priority; held = held_before places priority }
+
+-- the sixteen of them
+abbrev pub places_before : Places → List Place
+places_before places = map (place_before places) priorities
 
 -- each of these places after events
 abbrev pub places_along : Building → Machine → List Event → Text → List Place → List Place

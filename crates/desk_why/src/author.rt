@@ -26,6 +26,8 @@ pub enum Author {
         source: Source,
         settling: Settling,
     },
+    /// What was put there before the record began.
+    BeforeRecord,
 }
 
 /// The value in a place, and what put it there.

@@ -130,5 +130,6 @@ pub fn author_text(
             let schedule = schedule.as_str();
             format!(in alloc; "schedule {schedule}, {source}, {settling}")
         }
+        Author::BeforeRecord => String::from_str(alloc, "before the record"),
     }
 }

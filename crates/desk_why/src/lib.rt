@@ -1,13 +1,15 @@
 //! What put this value there, since when, and what comes next?
 //!
-//! The definition goes over the events of a list of deliveries, beside the machine (`specs/Settling.antt`,
+//! The definition goes over the events of a record's deliveries, beside the machine (`specs/Settling.antt`,
 //! `specs/Authors.antt`): of a place the last event that wrote it, which is a panel's command, or a tick or an import
-//! at which a schedule was due. That a place's author gives the value that the machine has there is a law (`laws`).
+//! at which a schedule was due; where none did, what was put there before the record. That a place's author gives the
+//! value that the machine has there is a law (`laws`).
 //!
-//! `point_at_end` runs a list over empty tables in memory and carries along the sixteen places of one point: a command
-//! or a skip changes them by the commands that its panel's next number passed (`commands`), a tick or an import by the
-//! schedules that are due (`desk_settling`, `turns`). At the end the store holds what was imported and the last tick:
-//! from them come the next changes of the schedules that target the point (`scheduled`, `specs/NextChanges.antt`).
+//! `point_at_end` makes a list of deliveries to a store in memory, which has the tables where the record begins, and
+//! carries along the sixteen places of one point: a command or a skip changes them by the commands that its panel's next
+//! number passed (`commands`), a tick or an import by the schedules that are due (`desk_settling`, `turns`). At the end
+//! the store holds what was imported and the last tick: from them come the next changes of the schedules that target the
+//! point (`scheduled`, `specs/NextChanges.antt`).
 //!
 //! `why_text` tells it: the line of the point as a replay prints it, a line for each of its places that has a value,
 //! with what put it there (`author_texts`), its relinquish default (`place_lines`), and a line for each next change of a

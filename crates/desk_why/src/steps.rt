@@ -35,15 +35,16 @@ fn passed_rows(
     panel: &Name,
     before: u64,
 ) -> Result<Vec<NumberedRow>, StoreFault>
-    requires holds { HoldsSome building.now (standing_of store.old) }
-    requires rises { before ≤ (standing_of store.old).content.tables.next panel.now }
     ensures same { OnOk result ((standing_of store.new).content ≡ (standing_of store.old).content) }
-    ensures rows { let tables = (standing_of store.old).content.tables in
-        IfOk result (λ run. run.items ≡ rows_between (tables.row panel.now) before (tables.next panel.now)) }
+    ensures rows { HoldsSome building.now (standing_of store.old) → let tables = (standing_of store.old).content.tables in
+        before ≤ tables.next panel.now
+        → IfOk result (λ run. run.items ≡ rows_between (tables.row panel.now) before (tables.next panel.now)) }
 {
     let _building = building;
     let after = store.panel_next(panel)?;
-    let run = store.commands_run(panel, before, after)?;
+    // a list's tables have no lesser one
+    let from = before.min(after);
+    let run = store.commands_run(panel, from, after)?;
     Ok(run)
 }
 
@@ -58,7 +59,6 @@ pub fn follow_command(
     number: i64,
     content: &Content,
 ) -> Result<Vec<Place>, StoreFault>
-    requires some { HoldsSome building.now (standing_of store.old) }
     ensures holds { (earlier : List a_delivery) → Holds building.now earlier (standing_of store.old)
         → OnOk result (Holds building.now (earlier ++ delivery_of.Command panel.now number content.now ∷ []) (standing_of store.new)) }
     ensures places { (earlier : List a_delivery) → Holds building.now earlier (standing_of store.old)
@@ -82,7 +82,6 @@ pub fn follow_skip(
     panel: &Name,
     upto: i64,
 ) -> Result<Vec<Place>, StoreFault>
-    requires some { HoldsSome building.now (standing_of store.old) }
     ensures holds { (earlier : List a_delivery) → Holds building.now earlier (standing_of store.old)
         → OnOk result (Holds building.now (earlier ++ delivery_of.Skip panel.now upto ∷ []) (standing_of store.new)) }
     ensures places { (earlier : List a_delivery) → Holds building.now earlier (standing_of store.old)

@@ -1,21 +1,21 @@
-//! The places of a point after a list of deliveries.
+//! The places of a point after the deliveries of a record.
+ghost use Rattle.std.specs.FinMap.{get};
 ghost use Rattle.std.specs.Prelude.{◌≡◌, ◌++◌, ◌∷◌, [], IfOk, List, OnOk};
-ghost use Rattle.desk_why.specs.Authors.{places_of};
+ghost use Rattle.desk_why.specs.Authors.{held_before, places_of};
 ghost use Rattle.desk_why.specs.NextChanges.{next_changes};
-ghost use Rattle.desk_why.specs.Turns.{no_places, places_along};
+ghost use Rattle.desk_why.specs.Turns.{place_before, places_along, places_before};
 ghost use Rattle.deliveries.specs.declared.delivery.Delivery.{Delivery as a_delivery};
 ghost use Rattle.deliveries.specs.Delivered.{Holds};
 ghost use Rattle.deliveries.specs.Events.{acted_on, machine};
-ghost use Rattle.desk_straighten.specs.Kept.{HoldsSome};
 ghost use Rattle.store_memory.specs.Memory.{standing_of};
 ghost use Rattle.points.specs.PriorityArray.{present_of};
 
-use crate::author::Place;
+use crate::author::{Author, Held, Place};
 use crate::scheduled::{ScheduledChange, next_changes};
 use crate::steps::{follow_command, follow_import, follow_skip, follow_tick};
 use building::Building;
 use deliveries::Delivery;
-use points::{Name, Point};
+use points::{LOWEST_PRIORITY, Name, Point, PriorityArray};
 use std::alloc::{AllocError, Global};
 use store::{Store, StoreFault};
 use store_memory::MemStore;
@@ -45,7 +45,6 @@ fn follow(
     places: &[Place],
     delivery: &Delivery,
 ) -> Result<Vec<Place>, StoreFault>
-    requires some { HoldsSome building.now (standing_of store.old) }
     ensures holds { (earlier : List a_delivery) → Holds building.now earlier (standing_of store.old)
         → OnOk result (Holds building.now (earlier ++ delivery.now ∷ []) (standing_of store.new)) }
     ensures places { (earlier : List a_delivery) → Holds building.now earlier (standing_of store.old)
@@ -75,37 +74,75 @@ fn follow(
     }
 }
 
-// Sixteen places without values.
-fn no_places(alloc: Global) -> Result<Vec<Place>, AllocError>
-    ensures { IfOk result (λ places. places.items ≡ no_places) }
+// What a place holds where a record begins.
+fn place_before(array: &PriorityArray, priority: u8) -> Place
+    ensures { result ≡ place_before array.now priority }
+{
+    Place {
+        priority,
+        held: held_before(array, priority),
+    }
+}
+
+fn held_before(array: &PriorityArray, priority: u8) -> Option<Held>
+    ensures { result ≡ held_before array.now priority }
+{
+    let value = value_in(array, priority)?;
+    Some(Held {
+        value,
+        author: Author::BeforeRecord,
+    })
+}
+
+// The value at a priority, if there is one.
+fn value_in(array: &PriorityArray, priority: u8) -> Option<i64>
+    ensures { result ≡ get array.now priority }
+{
+    // what an array says of other priorities
+    let _lowest = array.value_at(LOWEST_PRIORITY);
+    if priority == 0 || LOWEST_PRIORITY < priority {
+        return None;
+    }
+    array.value_at(priority)
+}
+
+// The sixteen places where a record begins.
+fn places_before(alloc: Global, array: &PriorityArray) -> Result<Vec<Place>, AllocError>
+    ensures { IfOk result (λ places. places.items ≡ places_before array.now) }
 {
     PRIORITIES
         .iter()
-        .map(|priority| Place {
-            priority: *priority,
-            held: None,
-        })
+        .map(|priority| place_before(array, *priority))
         .collect(alloc)
 }
 
-// Runs the deliveries over empty tables in memory.
-fn point_after(
+/// What a point of a building presents after the deliveries of a record, and what put each value in its places, whatever
+/// is repeated, late, differing, given up or parked there: `specs/Authors.antt`. And for each schedule that targets the
+/// point the next change on the local day of the last tick, after its time: `specs/NextChanges.antt`.
+///
+/// The deliveries are made to the store, which has the tables where the record begins. Of what its places hold then no
+/// more is told than that it was put before the record.
+pub fn point_at_end(
     alloc: Global,
     building: &Building,
+    store: &mut MemStore,
     deliveries: &[Delivery],
     point: &Point,
 ) -> Result<PointAtEnd, StoreFault>
-    ensures present { IfOk result (λ at_end. (at_end.present, at_end.priority)
-        ≡ present_of ((machine building.now deliveries.now).places point.now.name) point.now.relinquish_default) }
-    ensures places { IfOk result (λ at_end. at_end.places.items ≡ places_of building.now deliveries.now point.now.name) }
-    ensures next { IfOk result (λ at_end. at_end.next.items ≡ next_changes building.now deliveries.now point.now.name) }
+    ensures present { (earlier : List a_delivery) → Holds building.now earlier (standing_of store.old)
+        → IfOk result (λ at_end. (at_end.present, at_end.priority)
+        ≡ present_of ((machine building.now (earlier ++ deliveries.now)).places point.now.name) point.now.relinquish_default) }
+    ensures places { (earlier : List a_delivery) → Holds building.now earlier (standing_of store.old)
+        → IfOk result (λ at_end. at_end.places.items ≡ places_of building.now earlier deliveries.now point.now.name) }
+    ensures next { (earlier : List a_delivery) → Holds building.now earlier (standing_of store.old)
+        → IfOk result (λ at_end. at_end.next.items ≡ next_changes building.now (earlier ++ deliveries.now) point.now.name) }
 {
-    let mut store = MemStore::new(alloc);
-    let mut places = no_places(alloc)?;
+    let array = store.array(&point.name)?;
+    let mut places = places_before(alloc, &array)?;
     for delivery in deliveries {
         places = follow(
             alloc,
-            &mut store,
+            store,
             building,
             &point.name,
             places.as_slice(),
@@ -113,34 +150,11 @@ fn point_after(
         )?;
     }
     let (present, priority) = store.array(&point.name)?.present(point.relinquish_default);
-    let next = next_changes(alloc, &mut store, building, &point.name)?;
+    let next = next_changes(alloc, store, building, &point.name)?;
     Ok(PointAtEnd {
         present,
         priority,
         places,
         next,
     })
-}
-
-/// What a point of a building presents after a list of deliveries, and what put each value in its places, whatever is
-/// repeated, late, differing, given up or parked in the list: `specs/Authors.antt`. And for each schedule that targets
-/// the point the next change on the local day of the last tick, after its time: `specs/NextChanges.antt`.
-///
-/// The deliveries are run over empty tables in memory. Refused only where an allocation fails.
-pub fn point_at_end(
-    alloc: Global,
-    building: &Building,
-    deliveries: &[Delivery],
-    point: &Point,
-) -> Result<PointAtEnd, AllocError>
-    ensures present { IfOk result (λ at_end. (at_end.present, at_end.priority)
-        ≡ present_of ((machine building.now deliveries.now).places point.now.name) point.now.relinquish_default) }
-    ensures places { IfOk result (λ at_end. at_end.places.items ≡ places_of building.now deliveries.now point.now.name) }
-    ensures next { IfOk result (λ at_end. at_end.next.items ≡ next_changes building.now deliveries.now point.now.name) }
-{
-    match point_after(alloc, building, deliveries, point) {
-        Ok(at_end) => Ok(at_end),
-        // tables in memory have no other fault
-        Err(_) => Err(AllocError),
-    }
 }

@@ -72,7 +72,7 @@ fn run<D: Read + Drop, W: Write>(
         path: "list.jsonl",
         open: || BufReader::new(alloc, list),
     };
-    replay(alloc, file, list, None, out, fault)
+    replay(alloc, file, list, None, None, out, fault)
 }
 
 #[test]

@@ -7,8 +7,8 @@ returns-in-Ok g c = record { done = λ e. c.in-Ok.ensures.done; quiet = λ e. Ke
 
 pub returns-in-Err : goal.returns-in-Err
 returns-in-Err g c = record {
-  done = λ e file_bytes list_bytes file list. absurd (c.status.ensures e);
+  done = λ e file_bytes list_bytes earlier file list stands. absurd (c.status.ensures e);
   quiet = λ e. absurd (c.status.ensures e);
-  no_more = λ file_bytes list_bytes file list. explains-Keeps file_bytes list_bytes _ _ _ _ _
-      (c.in-Err.ensures.no_more file_bytes list_bytes file list) c.flush.ensures.bytes;
+  no_more = λ file_bytes list_bytes earlier file list stands. explains-Keeps file_bytes earlier list_bytes _ _ _ _ _
+      (c.in-Err.ensures.no_more file_bytes list_bytes earlier file list stands) c.flush.ensures.bytes;
 }

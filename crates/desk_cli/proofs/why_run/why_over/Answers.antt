@@ -1,63 +1,29 @@
-use Rattle.std.proofs.Common.{◌∙◌, Err, List, Ok, OnOk, Result, ap, sym}
-use Rattle.deliveries.specs.declared.delivery.Delivery.{Delivery}
-use Rattle.cli_common.proofs.PrintedLemmas.{Keeps-same}
-use Rattle.desk_cli.specs.Until.{said_in}
-use Rattle.desk_cli.specs.Why.{explanation}
-use Rattle.desk_cli.proofs.WhyLemmas.{Found, explains_start, explains_whole}
+use Rattle.std.proofs.Common.{◌∙◌, Err, Ok, OnOk, Result, ap, subst, sym}
+use Rattle.building.specs.Building.{Building, contents_of}
+use Rattle.deliveries.specs.Delivered.{Holds}
+use Rattle.store_memory.specs.declared.mem_store.MemStore.{MemStore}
+use Rattle.store_memory.specs.Memory.{standing_of}
 use Rattle.desk_cli.proofs.why_run.why_over.Goals as goal
 
--- what holds at all holds at an `Ok`
-of_any : {T E : Type 0} (r : Result T E) (P : Type 0) → P → OnOk r P
-of_any {T} {E} (Ok x) P p = p
-of_any {T} {E} (Err e) P p = tt
+-- what follows from what an `Ok` holds, holds at it
+on_ok : {T E : Type 0} (r : Result T E) {P Q : Type 0} → (P → Q) → OnOk r P → OnOk r Q
+on_ok {T} {E} (Ok x) {P} {Q} f p = f p
+on_ok {T} {E} (Err e) {P} {Q} f p = tt
 
 pub returns-clause-done : goal.returns-clause-done
-returns-clause-done g c = of_any c.flush.result _ (λ file_bytes list_bytes file list.
-    let b = c.in_ok-building.building in
-    let point = c.in-Some.point.now in
-    let found : Found file_bytes list_bytes c.args.name.now (said_in c.args.said) b point c.in_ok-deliveries.deliveries.items c.as_bytes.result.now =
-    record {
-      until = c.in_ok-until.until;
-      building_is = c.in_ok-building.ensures file_bytes file;
-      point_is = sym c.in-Some.ensures;
-      until_is = c.in_ok-until.ensures.until;
-      collects = c.in_ok-deliveries.ensures list_bytes list;
-      text_is = c.as_bytes.ensures.value
-          ∙ (c.in_ok-text.ensures ∙ ap (λ (deliveries : List Delivery). explanation b deliveries point c.in_ok-until.until) c.as_slice.ensures.value);
-    } in
-    explains_whole file_bytes list_bytes c.args.name.now (said_in c.args.said) b point c.in_ok-deliveries.deliveries.items c.as_bytes.result.now
-    _ _ _ found c.in_ok-print_text.ensures.whole c.flush.ensures)
+returns-clause-done g c = on_ok c.explain.result (λ done file_bytes list_bytes earlier file list stands.
+    let read = c.in_ok-building.ensures file_bytes file in
+    let same = sym (c.into_parts-building.ensures.building ∙ c.in_ok-desk.ensures.building) in
+    let held = subst (λ (store : MemStore). Holds c.in_ok-building.building earlier (standing_of store)) (sym c.into_parts-building.ensures.store)
+    (c.in_ok-desk.ensures.holds earlier (stands c.in_ok-building.building read)) in
+    done file_bytes list_bytes earlier (read ∙ ap (λ (b : Building). Ok (contents_of b)) same) list
+    (subst (λ (b : Building). Holds b earlier (standing_of c.into_parts-building.result.1)) same held)) c.explain.ensures.done
 
 pub returns-clause-no_more : goal.returns-clause-no_more
-returns-clause-no_more g c = λ file_bytes list_bytes file list.
-    let b = c.in_ok-building.building in
-    let point = c.in-Some.point.now in
-    let found : Found file_bytes list_bytes c.args.name.now (said_in c.args.said) b point c.in_ok-deliveries.deliveries.items c.as_bytes.result.now =
-    record {
-      until = c.in_ok-until.until;
-      building_is = c.in_ok-building.ensures file_bytes file;
-      point_is = sym c.in-Some.ensures;
-      until_is = c.in_ok-until.ensures.until;
-      collects = c.in_ok-deliveries.ensures list_bytes list;
-      text_is = c.as_bytes.ensures.value
-          ∙ (c.in_ok-text.ensures ∙ ap (λ (deliveries : List Delivery). explanation b deliveries point c.in_ok-until.until) c.as_slice.ensures.value);
-    } in
-    explains_start file_bytes list_bytes c.args.name.now (said_in c.args.said) b point c.in_ok-deliveries.deliveries.items c.as_bytes.result.now
-    _ _ _ found c.print_text.ensures.no_more c.flush.ensures
-
-pub returns-in_err-print_text-clause-no_more : goal.returns-in_err-print_text-clause-no_more
-returns-in_err-print_text-clause-no_more g c = λ file_bytes list_bytes file list.
-    let b = c.in_ok-building.building in
-    let point = c.in-Some.point.now in
-    let found : Found file_bytes list_bytes c.args.name.now (said_in c.args.said) b point c.in_ok-deliveries.deliveries.items c.as_bytes.result.now =
-    record {
-      until = c.in_ok-until.until;
-      building_is = c.in_ok-building.ensures file_bytes file;
-      point_is = sym c.in-Some.ensures;
-      until_is = c.in_ok-until.ensures.until;
-      collects = c.in_ok-deliveries.ensures list_bytes list;
-      text_is = c.as_bytes.ensures.value
-          ∙ (c.in_ok-text.ensures ∙ ap (λ (deliveries : List Delivery). explanation b deliveries point c.in_ok-until.until) c.as_slice.ensures.value);
-    } in
-    explains_start file_bytes list_bytes c.args.name.now (said_in c.args.said) b point c.in_ok-deliveries.deliveries.items c.as_bytes.result.now
-    _ _ _ found c.print_text.ensures.no_more (Keeps-same _)
+returns-clause-no_more g c = λ file_bytes list_bytes earlier file list stands.
+    let read = c.in_ok-building.ensures file_bytes file in
+    let same = sym (c.into_parts-building.ensures.building ∙ c.in_ok-desk.ensures.building) in
+    let held = subst (λ (store : MemStore). Holds c.in_ok-building.building earlier (standing_of store)) (sym c.into_parts-building.ensures.store)
+    (c.in_ok-desk.ensures.holds earlier (stands c.in_ok-building.building read)) in
+    c.explain.ensures.no_more file_bytes list_bytes earlier (read ∙ ap (λ (b : Building). Ok (contents_of b)) same) list
+    (subst (λ (b : Building). Holds b earlier (standing_of c.into_parts-building.result.1)) same held)

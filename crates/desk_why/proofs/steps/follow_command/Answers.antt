@@ -6,17 +6,6 @@ use Rattle.desk_straighten.proofs.StoreLemmas.{before-after, next-held}
 use Rattle.desk_why.proofs.RunLemmas.{passed-places}
 use Rattle.desk_why.proofs.steps.follow_command.Goals as goal
 
-pub passed_rows-requires-clause-rises : goal.passed_rows-requires-clause-rises
-passed_rows-requires-clause-rises c =
-    let E = c.requires.some.earlier in
-    let first = c.in_ok-last.ensures.reads.kept tt (λ e. cc) ∙ c.requires.some.holds in
-    let second = c.in_ok-before.ensures.reads.kept tt (λ e. cc) ∙ first in
-    let whole : to_z w64 (of_z w64 c.args.number) ≡ c.args.number = search rules in
-    let done = subst (λ (z : ℤ). Holds c.args.building.now (E ++ Command c.args.panel.now z c.args.content.now ∷ []) (standing_of c.deliver_command.new.store)) whole
-    (c.in_ok-deliver_command.ensures.delivers E tt second).1 in
-    before-after c.args.building.now c.args.panel.now E (Command c.args.panel.now c.args.number c.args.content.now) (standing_of c.deliver_command.new.store) c.in_ok-before.before done
-    (c.in_ok-before.ensures.value tt ∙ next-held c.args.building.now E (standing_of c.last_tick.new.self) first c.args.panel.now)
-
 pub returns-clause-places : goal.returns-clause-places
 returns-clause-places c = λ E held.
     let first = c.in_ok-last.ensures.reads.kept tt (λ e. cc) ∙ held in
@@ -24,8 +13,11 @@ returns-clause-places c = λ E held.
     let whole : to_z w64 (of_z w64 c.args.number) ≡ c.args.number = search rules in
     let done = subst (λ (z : ℤ). Holds c.args.building.now (E ++ Command c.args.panel.now z c.args.content.now ∷ []) (standing_of c.deliver_command.new.store)) whole
     (c.in_ok-deliver_command.ensures.delivers E tt second).1 in
-    passed-places c.args.building.now E (Command c.args.panel.now c.args.number c.args.content.now) (standing_of c.args.store.now) (standing_of c.deliver_command.new.store)
+    let d = Command c.args.panel.now c.args.number c.args.content.now in
+    let next = c.in_ok-before.ensures.value tt ∙ next-held c.args.building.now E (standing_of c.last_tick.new.self) first c.args.panel.now in
+    let rises = before-after c.args.building.now c.args.panel.now E d (standing_of c.deliver_command.new.store) c.in_ok-before.before done next in
+    passed-places c.args.building.now E d (standing_of c.args.store.now) (standing_of c.deliver_command.new.store)
     c.in_ok-before.before c.in_ok-last.last c.as_slice.result.now c.args.point.now c.args.places.now
-    c.in_ok-places_after_run.field-0.items tt held done (c.in_ok-last.ensures.value tt)
-    (c.in_ok-before.ensures.value tt ∙ next-held c.args.building.now E (standing_of c.last_tick.new.self) first c.args.panel.now)
-    (c.as_slice.ensures.value ∙ c.in_ok-run.ensures.rows) c.in_ok-places_after_run.ensures
+    c.in_ok-places_after_run.field-0.items tt held done (c.in_ok-last.ensures.value tt) next
+    (c.as_slice.ensures.value ∙ c.in_ok-run.ensures.rows (record { earlier = E ++ d ∷ []; holds = done }) rises)
+    c.in_ok-places_after_run.ensures
