@@ -1,8 +1,8 @@
 -- No difference is found just where tables agree.
-use Rattle.std.proofs.Common.{◌≡◌, ◌∙◌, ℕ, zero, suc, ◌-◌, ◌≤◌, ◌<◌, ◌==◌, min, max, Bool, true, false, List, [], ◌∷◌, ◌++◌, map, refl, sym, ap, subst, arith}
+use Rattle.std.proofs.Common.{◌≡◌, ◌∙◌, ℕ, zero, suc, ◌-◌, ◌≤◌, ◌<◌, ◌==◌, min, max, Bool, true, false, None, Some, List, [], ◌∷◌, ◌++◌, map, refl, sym, ap, subst, arith}
 use Rattle.std.specs.Bool.{IsTrue}
 use Rattle.std.specs.FinMap.{get}
-use Rattle.std.specs.List.{AllZip, Contains, flat_map}
+use Rattle.std.specs.List.{AllZip, Contains, flat_map, slice_get}
 use Rattle.std.specs.Cmp.{decided}
 use Rattle.std.specs.Str.{bytes_eq}
 use Rattle.std.proofs.lemmas.Bool.Decides.{Decides-eqb}
@@ -19,10 +19,10 @@ use Rattle.points.specs.declared.point.Point.{Point}
 use Rattle.store.specs.Listed.{AreEntries}
 use Rattle.store.specs.Tables.{Tables}
 use Rattle.points.specs.Texts.{Text}
-use Rattle.cli_record.specs.Agreeing.{Agree, AgreeAtPanel, AgreeAtPoint, NoDifferenceWhereTablesAgree}
+use Rattle.cli_record.specs.Agreeing.{Agree, AgreeAtPanel, AgreeAtPoint, NoDifferenceWhereTablesAgree, NoPlaceWherePointsAgree}
 use Rattle.cli_record.specs.declared.difference.Difference.{Difference}
 use Rattle.cli_record.specs.declared.difference.Difference.TheVariants.{Command, LastTick, NextNumber, NotRecorded, Place, RecordedAlone, Shown}
-use Rattle.cli_record.specs.Differences.{OfCalendar, between, end_number, first_number, is_among, numbers_of, of_command, of_entries, of_last_tick, of_next, of_panel, of_point, of_schedule, of_value, same_row, same_shown, same_value}
+use Rattle.cli_record.specs.Differences.{OfCalendar, between, end_number, first_number, first_place, is_among, numbers_of, of_command, of_entries, of_last_tick, of_next, of_panel, of_point, of_schedule, of_value, same_row, same_shown, same_value}
 use Rattle.cli_record.specs.Unless.{unless}
 use Rattle.cli_record.proofs.NothingLemmas.{all-none, both-none, no-both, none-at, none-in, none-unless, range-none, unless-none}
 use Rattle.cli_record.proofs.SameLemmas.{row-Decides, shown-Decides, value-Decides}
@@ -254,3 +254,21 @@ none-where-agree b held recorded found (of_calendars, (parts, each, joined), is)
         (both-none of_calendars of_tick (joined ∙ calendars-none held recorded b.calendars parts each agree.calendars)
         (none-unless (same_value held.last_tick recorded.last_tick) (LastTick held.last_tick recorded.last_tick)
         ((value-Decides held.last_tick recorded.last_tick).1 agree.last_tick)))))
+
+-- ---- the first place of a point
+
+none-first : (found : List Difference) → slice_get found 0 ≡ None → found ≡ []
+none-first [] none = refl
+none-first (difference ∷ found) none = absurd (let no : Some difference ≡ None = none in cc)
+
+pub no-place : NoPlaceWherePointsAgree
+no-place b held recorded = (agree, none)
+  where
+    agree : first_place b held recorded ≡ None → (point : Point) → Contains b.points point → AgreeAtPoint held recorded point
+    agree nothing point here =
+        point-agrees held recorded point (none-at (of_point held recorded) b.points (none-first _ nothing) point here)
+
+    none : ((point : Point) → Contains b.points point → AgreeAtPoint held recorded point) → first_place b held recorded ≡ None
+    none agrees =
+        ap (λ (found : List Difference). slice_get found 0)
+        (all-none (of_point held recorded) b.points (λ point here. point-none held recorded point (agrees point here)))

@@ -1,5 +1,5 @@
 -- Where the tables of a database and of a record agree, at the names of a building.
-use Rattle.std.specs.Prelude.{◌≡◌, ℕ, ◌≤◌, ◌<◌, ◌↔◌, List, []}
+use Rattle.std.specs.Prelude.{◌≡◌, ℕ, ◌≤◌, ◌<◌, ◌↔◌, List, [], None}
 use Rattle.std.specs.FinMap.{get}
 use Rattle.std.specs.List.{Contains}
 use Rattle.building.specs.Building.{Building}
@@ -10,7 +10,7 @@ use Rattle.points.specs.declared.point.Point.{Point}
 use Rattle.store.specs.Tables.{Tables}
 use Rattle.points.specs.Texts.{Text}
 use Rattle.cli_record.specs.declared.difference.Difference.{Difference}
-use Rattle.cli_record.specs.Differences.{AreDifferences, end_number, first_number}
+use Rattle.cli_record.specs.Differences.{AreDifferences, end_number, first_number, first_place}
 
 -- the panel has one next number, and one row or none under each number that it may still repeat or use
 pub record AgreeAtPanel (held recorded : Tables) (panel : Panel) : Type 0 where
@@ -36,3 +36,8 @@ pub record Agree (building : Building) (held recorded : Tables) : Type 0 where
 abbrev pub NoDifferenceWhereTablesAgree : Type 0
 NoDifferenceWhereTablesAgree = (building : Building) (held recorded : Tables) (found : List Difference)
     → AreDifferences building held recorded found → (found ≡ []) ↔ Agree building held recorded
+
+-- no place of a point is the first that differs, just where the points agree in all places
+abbrev pub NoPlaceWherePointsAgree : Type 0
+NoPlaceWherePointsAgree = (building : Building) (held recorded : Tables)
+    → (first_place building held recorded ≡ None) ↔ ((point : Point) → Contains building.points point → AgreeAtPoint held recorded point)

@@ -10,9 +10,10 @@ use Rattle.points.specs.declared.panel.Panel.{Panel}
 use Rattle.points.specs.Run.{Rows}
 use Rattle.points.specs.Texts.{Text}
 use Rattle.store.specs.Tables.{Tables}
+use Rattle.cli_record.specs.declared.belonging.First.{First}
 use Rattle.cli_record.specs.declared.difference.Difference.{Difference}
 use Rattle.cli_record.specs.declared.difference.Difference.TheVariants.{Command, LastTick, NextNumber, NotRecorded, Place, RecordedAlone, Shown}
-use Rattle.cli_record.specs.Differences.{end_number, first_number}
+use Rattle.cli_record.specs.Differences.{end_number, first_number, first_place}
 use Rattle.cli_record.specs.RecordRun.{Lists}
 
 -- what a panel sent under a number, where a row is kept of it
@@ -37,16 +38,18 @@ pub record Alike (building : Building) (held recorded : Tables) : Type 0 where
   pub panels : AlikeAtPanels held recorded building.panels
   pub last_tick : held.last_tick ≡ recorded.last_tick
 
--- in what no rule decides the tables are those of the deliveries, or of all but the last, which is still to be made
-abbrev pub Belongs : Building → List Delivery → Tables → Type 0
-Belongs building deliveries held = Alike building held (tables building deliveries)
-    ⊎ ((before : List Delivery) × (last : Delivery) × (deliveries ≡ before ++ last ∷ []) × Alike building held (tables building before))
+-- in what no rule decides the tables are those of a record's deliveries behind earlier ones, or of all of these but the last, which is
+-- still to be made
+abbrev pub Belongs : Building → (earlier deliveries : List Delivery) → Tables → Type 0
+Belongs building earlier deliveries held = Alike building held (tables building (earlier ++ deliveries))
+    ⊎ ((before : List Delivery) × (last : Delivery) × (deliveries ≡ before ++ last ∷ [])
+    × Alike building held (tables building (earlier ++ before)))
 
--- the tables belong to a record of these bytes: to the deliveries of its whole lines
-pub record IsOfRecord (building : Building) (bytes : List ℕ) (held : Tables) : Type 0 where
+-- the tables belong to a record of these bytes: to the deliveries of its whole lines behind earlier ones
+pub record IsOfRecord (building : Building) (earlier : List Delivery) (bytes : List ℕ) (held : Tables) : Type 0 where
   pub deliveries : List Delivery
   pub lists : Lists building bytes deliveries
-  pub belongs : Belongs building deliveries held
+  pub belongs : Belongs building earlier deliveries held
 
 -- ---- what is told where they don't
 
@@ -66,7 +69,42 @@ abbrev pub AlikeOrTold : Type 0 → Tables → Tables → Option Difference → 
 AlikeOrTold AreAlike held recorded None = AreAlike
 AlikeOrTold AreAlike held recorded (Some difference) = (AreAlike → ⊥) × IsUnlike held recorded difference
 
+-- both sides are alike, and it is told which place of a point is the first that differs, if one does; or a difference is told
+pub record TellsFirst (building : Building) (held recorded : Tables) (difference otherwise : Option Difference) : Type 0 where
+  pub told : AlikeOrTold (Alike building held recorded) held recorded difference
+  pub first : difference ≡ None → otherwise ≡ first_place building held recorded
+
+-- of what is found beside all of a record's deliveries but the last, and beside all: the second, unless the tables are alike to the
+-- first alone
+abbrev pub of_which : First → First → (all before : Option Difference) → First
+of_which before all None difference = all
+of_which before all (Some difference) None = before
+of_which before all (Some difference) (Some other) = all
+
+abbrev pub of_both : First → First → First
+of_both before all = of_which before all all.difference before.difference
+
 -- the record lists deliveries; the tables belong to them, or do not, and then a difference from the tables of all of them is told
-abbrev pub IsMatched : Building → List ℕ → Tables → Option Difference → Type 0
-IsMatched building bytes held found = (deliveries : List Delivery) × Lists building bytes deliveries
-    × AlikeOrTold (Belongs building deliveries held) held (tables building deliveries) found
+abbrev pub IsMatched : Building → List Delivery → List ℕ → Tables → Option Difference → Type 0
+IsMatched building earlier bytes held found = (deliveries : List Delivery) × Lists building bytes deliveries
+    × AlikeOrTold (Belongs building earlier deliveries held) held (tables building (earlier ++ deliveries)) found
+
+-- ---- what the record makes with the building's file, where they belong to it
+
+-- all of a record's deliveries, or all but the last
+abbrev pub AreMade : (deliveries made : List Delivery) → Type 0
+AreMade deliveries made = (made ≡ deliveries) ⊎ ((last : Delivery) × (deliveries ≡ made ++ last ∷ []))
+
+-- In what no rule decides the tables are those of all of the record's deliveries, or of all but the last; and of these it is told
+-- which place of a point is the first that has another value in the tables, if one has. Where the last is an import they may be
+-- both: then nothing is told if each point has the values of one of them.
+pub record TellsOtherwise (building : Building) (earlier : List Delivery) (bytes : List ℕ) (held : Tables)
+    (otherwise : Option Difference) : Type 0 where
+  pub deliveries : List Delivery
+  pub lists : Lists building bytes deliveries
+  pub made : List Delivery
+  pub are_made : AreMade deliveries made
+  pub alike : Alike building held (tables building (earlier ++ made))
+  pub first : otherwise ≡ first_place building held (tables building (earlier ++ made))
+  pub of_neither : (other : List Delivery) → AreMade deliveries other → Alike building held (tables building (earlier ++ other))
+      → first_place building held (tables building (earlier ++ other)) ≡ None → otherwise ≡ None

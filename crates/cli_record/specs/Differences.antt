@@ -1,7 +1,7 @@
 -- Where the tables of a database differ from those of a record, at the names of a building.
 use Rattle.std.specs.Prelude.{◌≡◌, ℕ, ℤ, ◌+◌, ◌-◌, Bool, true, false, ◌&&◌, ◌==◌, min, max, List, ◌++◌, map, Option, Some, None}
 use Rattle.std.specs.FinMap.{get}
-use Rattle.std.specs.List.{AllZip, flat_map, list_any, range_with_len}
+use Rattle.std.specs.List.{AllZip, flat_map, list_any, range_with_len, slice_get}
 use Rattle.std.specs.Option.{option_eq}
 use Rattle.std.specs.Ordering.{int_eq}
 use Rattle.std.specs.Str.{bytes_eq}
@@ -93,6 +93,10 @@ of_places point held recorded =
 
 abbrev pub of_point : Tables → Tables → Point → List Difference
 of_point held recorded point = of_places point.name (held.places point.name) (recorded.places point.name)
+
+-- the first place, in the order of the building's file, where points differ
+abbrev pub first_place : Building → Tables → Tables → Option Difference
+first_place building held recorded = slice_get (flat_map (of_point held recorded) building.points) 0
 
 -- ---- schedules
 

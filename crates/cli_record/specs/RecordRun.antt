@@ -1,9 +1,10 @@
 -- What a comparison of a database with a record says.
-use Rattle.std.specs.Prelude.{◌≡◌, ◌⊎◌, ℕ, List, [], ◌∷◌, ◌++◌, length, Option, Some, Result, Ok, IfOk, IfSome}
+use Rattle.std.specs.Prelude.{◌≡◌, ◌⊎◌, ℕ, Bool, false, true, List, [], ◌∷◌, ◌++◌, length, Option, Some, Result, Ok, IfOk, IfSome}
 use Rattle.std.specs.Io.KnownBytes.{Appends, Keeps}
 use Rattle.std.specs.List.{flat_map}
 use Rattle.building.specs.Building.{Building, contents_of}
 use Rattle.building.specs.BuildingFile.{building_of}
+use Rattle.cli_base.specs.Base.{BeginsOn}
 use Rattle.deliveries.specs.declared.delivery.Delivery.{Delivery}
 use Rattle.deliveries.specs.Tables.{tables}
 use Rattle.delivery_json.specs.declared.parsed_line.ParsedLine.{ParsedLine}
@@ -14,27 +15,39 @@ use Rattle.cli_common.specs.declared.status.Status.TheVariants.{Done, Fault}
 use Rattle.store.specs.declared.open_fault.OpenFault.{OpenFault}
 use Rattle.store.specs.Standing.{Standing}
 use Rattle.store.specs.Tables.{Tables}
+use Rattle.store_memory.specs.declared.mem_store.MemStore.{MemStore}
+use Rattle.store_memory.specs.Memory.{standing_of}
 use Rattle.cli_record.specs.declared.difference.Difference.{Difference}
 use Rattle.cli_record.specs.Differences.{AreDifferences}
 use Rattle.cli_record.specs.RecordText.{difference_line, unmade_line, whole_line}
 use Rattle.cli_record.specs.WholeLines.{IsCut}
 
--- where tables differ, at the names of a building, from those that deliveries leave in the building of a file
-pub record Differ (building : Building) (file : List ℕ) (deliveries : List Delivery) (held : Tables) (found : List Difference)
-    : Type 0 where
-  pub replayed : Building
-  pub replayed_is : building_of file ≡ Ok (contents_of replayed)
-  pub found_are : AreDifferences building held (tables replayed deliveries) found
+-- where tables differ, at the names of a building, from those that deliveries leave behind earlier ones
+abbrev pub Differ : Building → (earlier deliveries : List Delivery) → Tables → List Difference → Type 0
+Differ building earlier deliveries held found = AreDifferences building held (tables building (earlier ++ deliveries)) found
 
--- the tables differ nowhere from those of the deliveries, or nowhere from those of the deliveries without the last, or they
--- differ from those of all where it is said
-abbrev pub IsCompared : Building → List ℕ → List Delivery → Tables → Status → List ℕ → Type 0
-IsCompared building file deliveries held status text =
-    (Differ building file deliveries held [] × (status ≡ Done) × (text ≡ whole_line (length deliveries)))
-    ⊎ (((before : List Delivery) × (last : Delivery) × (deliveries ≡ before ++ last ∷ []) × Differ building file before held []
+-- they differ nowhere from those that all deliveries but the last leave
+abbrev pub LacksLast : Building → (earlier deliveries : List Delivery) → Tables → Type 0
+LacksLast building earlier deliveries held = (before : List Delivery) × (last : Delivery) × (deliveries ≡ before ++ last ∷ [])
+    × Differ building earlier before held []
+
+-- where they differ from those of all deliveries, and whether they differ nowhere from those of all but the last
+pub record AreFound (building : Building) (earlier deliveries : List Delivery) (held : Tables) (found : List Difference)
+    (lacks_last : Bool) : Type 0 where
+  pub differ : Differ building earlier deliveries held found
+  pub lacks : lacks_last ≡ true → LacksLast building earlier deliveries held
+  pub has : lacks_last ≡ false → LacksLast building earlier deliveries held → ⊥
+
+-- The tables differ nowhere from those of all deliveries; or they do, and nowhere from those of all but the last; or they differ
+-- from both, and where they differ from those of all is said.
+abbrev pub IsCompared : Building → (earlier deliveries : List Delivery) → Tables → Status → List ℕ → Type 0
+IsCompared building earlier deliveries held status text =
+    (Differ building earlier deliveries held [] × (status ≡ Done) × (text ≡ whole_line (length deliveries)))
+    ⊎ (((Differ building earlier deliveries held [] → ⊥) × LacksLast building earlier deliveries held
     × (status ≡ Done) × (text ≡ unmade_line (length deliveries)))
-    ⊎ ((found : List Difference) × Differ building file deliveries held found × (status ≡ Fault)
-    × (text ≡ flat_map difference_line found)))
+    ⊎ ((Differ building earlier deliveries held [] → ⊥) × (LacksLast building earlier deliveries held → ⊥)
+    × ((found : List Difference) × Differ building earlier deliveries held found × (status ≡ Fault)
+    × (text ≡ flat_map difference_line found))))
 
 -- what may be said of a record of so many deliveries: that the tables are theirs, or theirs without the last, or where they differ
 abbrev pub IsVerdict : ℕ → List ℕ → Type 0
@@ -59,26 +72,27 @@ pub record Lists (building : Building) (bytes : List ℕ) (deliveries : List Del
   pub parsed_is : parsed_by building (lines_of whole) ≡ Some reported
   pub are : deliveries ≡ deliveries_in reported
 
--- The file is a building, the record lists deliveries for it, and the text is what is said of these and of the tables that
--- the store held when it was found.
+-- The file is a building, the record lists deliveries for it, and the text is what is said of these, behind those that the
+-- base has the tables of, and of the tables that the store held when it was found.
 pub record IsComparison {S : Type 0} (standing : S → Standing) (may_find : Result (Option S) OpenFault → Type 0)
-    (file list : List ℕ) (status : Status) (text : List ℕ) (left : S) : Type 0 where
+    (base : Option MemStore) (file list : List ℕ) (status : Status) (text : List ℕ) (left : S) : Type 0 where
   pub building : Building
   pub building_is : building_of file ≡ Ok (contents_of building)
   pub deliveries : List Delivery
   pub lists : Lists building list deliveries
   pub verdict : IsVerdict (length deliveries) text
   pub compared : (tables : Tables) → Finds may_find (λ store. (standing store).content.tables ≡ tables)
-      → (standing left).is_honest → IsCompared building file deliveries tables status text
+      → (standing left).is_honest → (earlier : List Delivery) → BeginsOn standing_of building earlier base
+      → IsCompared building earlier deliveries tables status text
 
 -- and the text was printed
-abbrev pub IsRecordChecked : {S : Type 0} → (S → Standing) → (Result (Option S) OpenFault → Type 0) → (file list : List ℕ) → Status → S
-    → Option (List ℕ) → Option (List ℕ) → Type 0
-IsRecordChecked standing may_find file list status left old new =
-    (text : List ℕ) × IsComparison standing may_find file list status text left × Appends old new text
+abbrev pub IsRecordChecked : {S : Type 0} → (S → Standing) → (Result (Option S) OpenFault → Type 0) → Option MemStore
+    → (file list : List ℕ) → Status → S → Option (List ℕ) → Option (List ℕ) → Type 0
+IsRecordChecked standing may_find base file list status left old new =
+    (text : List ℕ) × IsComparison standing may_find base file list status text left × Appends old new text
 
 -- nothing was printed, or a beginning of such a text
-abbrev pub SaysNoMore : {S : Type 0} → (S → Standing) → (Result (Option S) OpenFault → Type 0) → (file list : List ℕ)
-    → Option (List ℕ) → Option (List ℕ) → Type 0
-SaysNoMore {S} standing may_find file list old new = Keeps old new ⊎ ((status : Status) × (text : List ℕ) × (left : S)
-    × IsComparison standing may_find file list status text left × AppendsStart old new text)
+abbrev pub SaysNoMore : {S : Type 0} → (S → Standing) → (Result (Option S) OpenFault → Type 0) → Option MemStore
+    → (file list : List ℕ) → Option (List ℕ) → Option (List ℕ) → Type 0
+SaysNoMore {S} standing may_find base file list old new = Keeps old new ⊎ ((status : Status) × (text : List ℕ) × (left : S)
+    × IsComparison standing may_find base file list status text left × AppendsStart old new text)

@@ -1,5 +1,5 @@
 -- What is made of the lines of a record, whose last delivery is held back.
-use Rattle.std.specs.Prelude.{◌≡◌, ◌++◌, ◌∷◌, ℕ, Bool, true, false, List, [], length, Option, Some, None, Result, Ok, Err, IfOk, IfSome}
+use Rattle.std.specs.Prelude.{◌≡◌, ◌++◌, ◌∷◌, ℕ, Bool, true, false, List, [], length, Option, Some, None, Result, IfOk}
 use Rattle.std.specs.Option.{option_to_list}
 use Rattle.building.specs.Building.{Building}
 use Rattle.deliveries.specs.declared.delivery.Delivery.{Delivery}
@@ -30,22 +30,25 @@ abbrev pub CutsEnd : List ℕ → Bool → List ℕ → Type 0
 CutsEnd bytes true line = bytes ≡ line ++ 10 ∷ []
 CutsEnd bytes false line = ((before : List ℕ) → bytes ≡ before ++ 10 ∷ [] → ⊥) × (line ≡ bytes)
 
--- the store has the tables of what was made; what is held back comes after it, and is there if anything was made
-pub record HoldsBack (building : Building) (made : List Delivery) (last : Option Delivery) (store : Standing) : Type 0 where
-  pub holds : Holds building made store
+-- the store has the tables of what was made behind earlier deliveries; what is held back comes after it, and is there if anything
+-- was made
+pub record HoldsBack (building : Building) (earlier made : List Delivery) (last : Option Delivery) (store : Standing) : Type 0 where
+  pub holds : Holds building (earlier ++ made) store
   pub none : last ≡ None → made ≡ []
 
 -- what the lines tell was made, but for the last of it, which is held back
-pub record Makes (building : Building) (lines : List (List ℕ)) (last : Option Delivery) (store : Standing) : Type 0 where
+pub record Makes (building : Building) (earlier : List Delivery) (lines : List (List ℕ)) (last : Option Delivery) (store : Standing)
+    : Type 0 where
   pub made : List Delivery
   pub collects : Collects building lines [] (made ++ option_to_list last)
-  pub back : HoldsBack building made last store
+  pub back : HoldsBack building earlier made last store
 
 -- the same of the whole lines of a record of these bytes
-pub record IsReplayed (building : Building) (bytes : List ℕ) (last : Option Delivery) (store : Standing) : Type 0 where
+pub record IsReplayed (building : Building) (earlier : List Delivery) (bytes : List ℕ) (last : Option Delivery) (store : Standing)
+    : Type 0 where
   pub made : List Delivery
   pub lists : Lists building bytes (made ++ option_to_list last)
-  pub back : HoldsBack building made last store
+  pub back : HoldsBack building earlier made last store
 
 -- so many bytes stand after the last line end
 pub record LeavesTorn (bytes : List ℕ) (torn : ℕ) : Type 0 where
@@ -53,8 +56,8 @@ pub record LeavesTorn (bytes : List ℕ) (torn : ℕ) : Type 0 where
   pub cut : IsCut bytes whole
   pub counted : torn ≡ length cut.torn
 
--- the store has the tables of all that the whole lines of a record of these bytes tell
-pub record HoldsRecord (building : Building) (bytes : List ℕ) (store : Standing) : Type 0 where
+-- the store has the tables of earlier deliveries with all behind them that the whole lines of a record of these bytes tell
+pub record HoldsRecord (building : Building) (earlier : List Delivery) (bytes : List ℕ) (store : Standing) : Type 0 where
   pub deliveries : List Delivery
   pub lists : Lists building bytes deliveries
-  pub holds : Holds building deliveries store
+  pub holds : Holds building (earlier ++ deliveries) store

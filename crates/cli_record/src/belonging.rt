@@ -1,18 +1,52 @@
 //! What no rule of a building decides, in a store and in that of a record.
-ghost use Rattle.std.specs.Prelude.{◌≡◌};
+ghost use Rattle.std.specs.Prelude.{◌≡◌, ◌||◌, is_some};
 ghost use Rattle.store.specs.Standing.{IsOpen};
-ghost use Rattle.cli_record.specs.Belonging.{Alike, AlikeAtPanel, AlikeAtPanels, AlikeOrTold, SentAlike};
+ghost use Rattle.cli_record.specs.Belonging.{Alike, AlikeAtPanel, AlikeAtPanels, AlikeOrTold, SentAlike, TellsFirst, of_both};
 ghost use Rattle.cli_record.specs.Compared.{Compares};
 ghost use Rattle.cli_record.specs.SentRuns.{AreRuns};
 
 use crate::comparing::{CompareFault, last_ticks};
 use crate::difference::Difference;
 use crate::panels::{end_number, first_number, nexts};
+use crate::places::first_place;
 use crate::same_row::is_same_value;
 use crate::sent_runs::first_unlike;
 use building::Building;
 use points::{Name, NumberedRow, Panel};
+use std::alloc::Global;
 use store::Store;
+
+/// What is found first where a store is compared with that of a record.
+#[derive(Clone, Copy)]
+pub struct First {
+    /// A difference in what no rule of the building decides: the store is not the record's own.
+    pub difference: Option<Difference>,
+    /// Where there is none, the first place of a point where the store has another value.
+    pub otherwise: Option<Difference>,
+}
+
+impl First {
+    /// Whether anything was found.
+    pub fn has_any(&self) -> bool
+        ensures { result ≡ (is_some self.now.difference || is_some self.now.otherwise) }
+    {
+        self.difference.is_some() || self.otherwise.is_some()
+    }
+}
+
+/// Of what is found beside all of a record's deliveries but the last, and beside all: the second, unless the store is
+/// alike to the first alone.
+pub fn of_both(before: First, all: First) -> First
+    ensures { result ≡ of_both before all }
+{
+    match all.difference {
+        None => all,
+        Some(_) => match before.difference {
+            None => before,
+            Some(_) => all,
+        },
+    }
+}
 
 /// The rows of a panel on either side.
 #[derive(Drop)]
@@ -112,7 +146,7 @@ fn unlike_panels<S: Store, T: Store>(
 /// The first difference between a store and that of a record in what no rule of the building decides: panels in the
 /// order of the file, and the last tick. Both stores are only read; a fault of the first is `Held`, one of the other
 /// `Recorded`.
-pub fn first_difference<S: Store, T: Store>(
+fn first_difference<S: Store, T: Store>(
     building: &Building,
     store: &mut S,
     other: &mut T,
@@ -130,4 +164,29 @@ pub fn first_difference<S: Store, T: Store>(
     } else {
         Ok(Some(Difference::LastTick { held, recorded }))
     }
+}
+
+/// The first difference between a store and that of a record in what no rule of the building decides, and where there is
+/// none the first place of a point that has another value. Both stores are only read.
+pub fn first_found<S: Store, T: Store>(
+    alloc: Global,
+    building: &Building,
+    store: &mut S,
+    other: &mut T,
+) -> Result<First, CompareFault>
+    ensures { Compares (λ held recorded found. TellsFirst building.now held recorded found.difference found.otherwise)
+        result (S.standing store.old) (S.standing store.new) (T.standing other.old) (T.standing other.new) }
+{
+    let difference = first_difference(building, store, other)?;
+    if difference.is_some() {
+        return Ok(First {
+            difference,
+            otherwise: None,
+        });
+    }
+    let otherwise = first_place(alloc, building, store, other)?;
+    Ok(First {
+        difference,
+        otherwise,
+    })
 }

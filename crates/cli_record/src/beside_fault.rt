@@ -10,7 +10,7 @@ use std::io::Write;
 use store::StoreFault;
 
 /// What helps where the database is older than its record, or is not there.
-const REBUILD: &str = "desk rebuild makes it of the record";
+const REBUILD: &str = "desk rebuild makes it from the record";
 
 /// Why a run over a database, and the record that is kept beside it, stopped. Its text is the line of the fault end,
 /// without the line end.
@@ -23,7 +23,7 @@ pub enum BesideFault<'a> {
         path: &'a str,
         line: u64,
     },
-    /// There is no database for the record of this path, which has deliveries.
+    /// There is no database for the record of this path, which has deliveries or stands on a base.
     NoDatabase {
         path: &'a str,
         database: &'a str,

@@ -8,7 +8,8 @@
 //!
 //! `open_beside` opens a desk over a store once the store is seen to be the record's own. The whole lines of the record
 //! are delivered, one by one, to a desk in memory (`record_lines`, `replayed`), and what no rule of the building decides is
-//! compared (`belonging`, `sent_runs`), since the building's file may have been edited meanwhile.
+//! compared (`belonging`, `sent_runs`), since the building's file may have been edited meanwhile; then the first place of a
+//! point that has another value is told with the desk (`places`).
 //!
 //! `replay_whole` delivers all of a record's whole lines so, and tells how many bytes stand after them.
 //!
@@ -16,11 +17,11 @@
 //! in memory, and prints whether its tables are those of the database (`record_run`, `record_text`).
 #![tactic(auto)]
 
-pub use beside::{Database, Unopened, open_beside};
+pub use beside::{Beside, Database, Unopened, open_beside};
 pub use beside_fault::BesideFault;
 pub use comparing::{CompareFault, compare_tables};
 pub use difference::Difference;
-pub use laws::no_difference_where_tables_agree;
+pub use laws::{no_difference_where_tables_agree, no_place_where_points_agree};
 pub use record_run::{RecordChecked, check_record};
 pub use replayed::{WholeReplay, replay_whole};
 

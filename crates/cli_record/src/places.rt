@@ -3,13 +3,15 @@ ghost use Rattle.std.specs.Prelude.{◌≡◌, ◌++◌};
 ghost use Rattle.std.specs.List.{flat_map};
 ghost use Rattle.store.specs.Standing.{IsOpen};
 ghost use Rattle.cli_record.specs.Compared.{Compares};
-ghost use Rattle.cli_record.specs.Differences.{of_point};
+ghost use Rattle.cli_record.specs.Differences.{first_place, of_point};
 
 use crate::adding::add_unless;
 use crate::comparing::CompareFault;
 use crate::difference::Difference;
 use crate::same_row::is_same_value;
+use building::Building;
 use points::{LOWEST_PRIORITY, Name, Point, PriorityArray};
+use std::alloc::Global;
 use store::Store;
 
 /// The priority arrays of a point.
@@ -53,6 +55,23 @@ fn compare_point<S: Store, T: Store>(
         add_unless(found, is_same_value(value, other_value), difference)?;
     }
     Ok(())
+}
+
+/// The first place, in the order of the building's file, where points differ.
+pub fn first_place<S: Store, T: Store>(
+    alloc: Global,
+    building: &Building,
+    store: &mut S,
+    other: &mut T,
+) -> Result<Option<Difference>, CompareFault>
+    requires open { IsOpen (S.standing store.old) }
+    requires open_other { IsOpen (T.standing other.old) }
+    ensures { Compares (λ held recorded found. found ≡ first_place building.now held recorded)
+        result (S.standing store.old) (S.standing store.new) (T.standing other.old) (T.standing other.new) }
+{
+    let mut found = Vec::new(alloc);
+    compare_points(&mut found, store, other, building.points())?;
+    Ok(found.first().copied())
 }
 
 /// Adds where points differ, one after the other.

@@ -1,22 +1,23 @@
 //! What the whole lines of a record leave in memory.
 ghost use Rattle.std.specs.Prelude.{◌≡◌, ◌∷◌, ◌++◌, List, [], ℕ, IfOk, None, OnOk, Some, is_none};
 ghost use Rattle.std.specs.Io.Buffered.{reader_remaining};
+ghost use Rattle.cli_base.specs.Base.{BeginsOn};
 ghost use Rattle.deliveries.specs.Delivered.{Holds};
 ghost use Rattle.deliveries.specs.Tables.{tables};
 ghost use Rattle.deliveries.specs.declared.delivery.Delivery.{Delivery as a_delivery};
-ghost use Rattle.store.specs.Standing.{IsOpen, Reads, sound};
-ghost use Rattle.store.specs.Tables.{no_tables};
-ghost use Rattle.cli_record.specs.Belonging.{Alike, AlikeOrTold, IsMatched};
+ghost use Rattle.store.specs.Standing.{IsOpen, Reads};
+ghost use Rattle.store_memory.specs.Memory.{standing_of};
+ghost use Rattle.cli_record.specs.Belonging.{IsMatched, TellsFirst, TellsOtherwise};
 ghost use Rattle.cli_record.specs.Compared.{held_fault};
 ghost use Rattle.std.specs.Option.{option_to_list};
 ghost use Rattle.desk_cli.specs.ListLines.{tells};
 ghost use Rattle.cli_record.specs.Replayed.{HoldsRecord, IsFound, IsReplayed, LeavesTorn, Makes, MayHave};
 
-use crate::belonging::first_difference;
+use crate::belonging::{First, first_found, of_both};
 use crate::comparing::CompareFault;
-use crate::difference::Difference;
 use crate::record_lines::read_whole_line;
 use building::Building;
+use cli_base::desk_on;
 use cli_common::{ListInput, RunFault};
 use deliveries::Delivery;
 use desk::Desk;
@@ -25,6 +26,7 @@ use json::Scratch;
 use std::alloc::Global;
 use std::io::{self, BufReader, Read};
 use store::{Store, StoreFault};
+use store_memory::MemStore;
 
 /// The building and the store of a desk that a record was replayed to, but for the record's last delivery, which is held
 /// back: a stop may have come before it was made.
@@ -45,11 +47,11 @@ struct Left {
     torn: usize,
 }
 
-/// The building of a record, and the first difference between a store and the record, if the store is not its own.
+/// The building of a record, and how a store is beside the record.
 #[derive(Drop)]
 pub(crate) struct Matched {
     pub building: Building,
-    pub difference: Option<Difference>,
+    pub found: First,
 }
 
 /// Makes a delivery, if there is one.
@@ -75,9 +77,10 @@ fn hold_back<S: Store + Drop>(
     last: &mut Option<Delivery>,
     next: Option<Delivery>,
 ) -> Result<(), StoreFault>
-    ensures makes { OnOk result ((lines : List (List ℕ)) (line : List ℕ) → (S.standing desk.new.store).is_honest
-        → tells desk.old.building line next → Makes desk.old.building lines last.old (S.standing desk.old.store)
-        → Makes desk.old.building (lines ++ line ∷ []) last.new (S.standing desk.new.store)) }
+    ensures makes { OnOk result ((earlier : List a_delivery) (lines : List (List ℕ)) (line : List ℕ)
+        → (S.standing desk.new.store).is_honest → tells desk.old.building line next
+        → Makes desk.old.building earlier lines last.old (S.standing desk.old.store)
+        → Makes desk.old.building earlier (lines ++ line ∷ []) last.new (S.standing desk.new.store)) }
     ensures honest { (S.standing desk.new.store).is_honest → (S.standing desk.old.store).is_honest }
     ensures building { desk.new.building ≡ desk.old.building }
 {
@@ -96,11 +99,11 @@ fn replay_lines<'a, D: Read + Drop, S: Store + Drop>(
     mut reader: BufReader<D>,
     desk: &mut Desk<S>,
 ) -> Result<Left, RunFault<'a>>
-    ensures replayed { IfOk result (λ left. (bytes : List ℕ) → reader_remaining D.remaining reader ≡ Some bytes
-        → (S.standing desk.new.store).is_honest → Holds desk.old.building [] (S.standing desk.old.store)
-        → IsReplayed desk.old.building bytes left.last (S.standing desk.new.store)) }
+    ensures replayed { IfOk result (λ left. (earlier : List a_delivery) (bytes : List ℕ)
+        → reader_remaining D.remaining reader ≡ Some bytes
+        → (S.standing desk.new.store).is_honest → Holds desk.old.building earlier (S.standing desk.old.store)
+        → IsReplayed desk.old.building earlier bytes left.last (S.standing desk.new.store)) }
     ensures torn { IfOk result (λ left. (bytes : List ℕ) → reader_remaining D.remaining reader ≡ Some bytes
-        → (S.standing desk.new.store).is_honest → Holds desk.old.building [] (S.standing desk.old.store)
         → LeavesTorn bytes left.torn) }
     ensures building { desk.new.building ≡ desk.old.building }
 {
@@ -132,11 +135,11 @@ fn replay_found<'a, D: Read + Drop, S: Store + Drop>(
     found: Option<BufReader<D>>,
     desk: &mut Desk<S>,
 ) -> Result<Left, RunFault<'a>>
-    ensures replayed { IfOk result (λ left. (bytes : List ℕ) → IsFound (reader_remaining D.remaining) found bytes
-        → (S.standing desk.new.store).is_honest → Holds desk.old.building [] (S.standing desk.old.store)
-        → IsReplayed desk.old.building bytes left.last (S.standing desk.new.store)) }
+    ensures replayed { IfOk result (λ left. (earlier : List a_delivery) (bytes : List ℕ)
+        → IsFound (reader_remaining D.remaining) found bytes
+        → (S.standing desk.new.store).is_honest → Holds desk.old.building earlier (S.standing desk.old.store)
+        → IsReplayed desk.old.building earlier bytes left.last (S.standing desk.new.store)) }
     ensures torn { IfOk result (λ left. (bytes : List ℕ) → IsFound (reader_remaining D.remaining) found bytes
-        → (S.standing desk.new.store).is_honest → Holds desk.old.building [] (S.standing desk.old.store)
         → LeavesTorn bytes left.torn) }
     ensures building { desk.new.building ≡ desk.old.building }
 {
@@ -149,30 +152,27 @@ fn replay_found<'a, D: Read + Drop, S: Store + Drop>(
     }
 }
 
-/// Replays a record over an empty store: the deliveries of its whole lines, but for the last one. Empty lines are passed
-/// over, and so is an import whose holiday list is at fault; what stands after the last line end was never delivered. A
-/// file that is not there is an empty record. One that can't be read, a line that is no delivery, and lack of memory are
-/// the faults.
+/// Replays a record to a desk: the deliveries of its whole lines, but for the last one. Empty lines are passed over, and
+/// so is an import whose holiday list is at fault; what stands after the last line end was never delivered. A file that is
+/// not there is an empty record. One that can't be read, a line that is no delivery, and lack of memory are the faults.
 pub(crate) fn replay_record<'a, D: Read + Drop, P, T: Store + Drop>(
     alloc: Global,
-    building: Building,
+    desk: Desk<T>,
     list: ListInput<'a, P>,
-    empty: T,
 ) -> Result<Replayed<T>, RunFault<'a>>
 where
     P: FnOnce() -> io::Result<Option<BufReader<D>>>,
-    requires open { P.IsAlwaysCallable list.open }
-    requires empty { (T.standing empty).content ≡ sound no_tables }
-    ensures replayed { IfOk result (λ replayed. (bytes : List ℕ)
-        → MayHave (P.post list.entry.open) (reader_remaining D.remaining) bytes
-        → (T.standing replayed.store).is_honest → IsReplayed building bytes replayed.last (T.standing replayed.store)) }
+    requires { P.IsAlwaysCallable list.open }
+    ensures replayed { IfOk result (λ replayed. (earlier : List a_delivery) (bytes : List ℕ)
+        → Holds desk.building earlier (T.standing desk.store)
+        → MayHave (P.post list.entry.open) (reader_remaining D.remaining) bytes → (T.standing replayed.store).is_honest
+        → IsReplayed desk.building earlier bytes replayed.last (T.standing replayed.store)) }
     ensures torn { IfOk result (λ replayed. (bytes : List ℕ)
-        → MayHave (P.post list.entry.open) (reader_remaining D.remaining) bytes
-        → (T.standing replayed.store).is_honest → LeavesTorn bytes replayed.torn) }
-    ensures building { IfOk result (λ replayed. replayed.building ≡ building) }
+        → MayHave (P.post list.entry.open) (reader_remaining D.remaining) bytes → LeavesTorn bytes replayed.torn) }
+    ensures building { IfOk result (λ replayed. replayed.building ≡ desk.building) }
 {
     let ListInput { path, open } = list;
-    let mut desk = Desk::new(alloc, building, empty);
+    let mut desk = desk;
     match open() {
         Ok(found) => {
             let Left { last, torn } = replay_found(alloc, path, found, &mut desk)?;
@@ -189,7 +189,7 @@ where
 }
 
 /// The building and the store, once a delivery more is made.
-fn with_last<T: Store + Drop>(
+pub(crate) fn with_last<T: Store + Drop>(
     alloc: Global,
     building: Building,
     store: T,
@@ -212,8 +212,8 @@ fn with_last<T: Store + Drop>(
     }
 }
 
-/// The first difference between a store and that of a record, once the record's last delivery is made.
-fn matched_with_last<S: Store, T: Store + Drop>(
+/// What is found of a store beside that of a record, once the record's last delivery is made.
+fn found_with_last<S: Store, T: Store + Drop>(
     alloc: Global,
     building: Building,
     other: T,
@@ -224,19 +224,15 @@ fn matched_with_last<S: Store, T: Store + Drop>(
     requires honest { (t : T) → (T.standing t).is_honest }
     ensures building { IfOk result (λ matched. matched.building ≡ building) }
     ensures reads { Reads (held_fault result) (S.standing store.old) (S.standing store.new) }
-    ensures told { (earlier : List a_delivery) → Holds building earlier (T.standing other) → (S.standing store.new).is_honest
-        → IfOk result (λ matched. AlikeOrTold
-        (Alike building (S.standing store.old).content.tables (tables building (earlier ++ last.now ∷ [])))
-        (S.standing store.old).content.tables (tables building (earlier ++ last.now ∷ [])) matched.difference) }
+    ensures found { (earlier : List a_delivery) → Holds building earlier (T.standing other) → (S.standing store.new).is_honest
+        → IfOk result (λ matched. TellsFirst building (S.standing store.old).content.tables
+        (tables building (earlier ++ last.now ∷ [])) matched.found.difference matched.found.otherwise) }
 {
     match with_last(alloc, building, other, last) {
         Ok((building, other)) => {
             let mut other = other;
-            match first_difference(&building, store, &mut other) {
-                Ok(difference) => Ok(Matched {
-                    building,
-                    difference,
-                }),
+            match first_found(alloc, &building, store, &mut other) {
+                Ok(found) => Ok(Matched { building, found }),
                 Err(fault) => Err(fault),
             }
         }
@@ -274,40 +270,63 @@ pub struct WholeReplay<T> {
     pub torn: usize,
 }
 
-/// Delivers the whole lines of a record to a desk over an empty store, which is always honest. Empty lines are passed
-/// over, and so is an import whose holiday list is at fault; what stands after the last line end was never delivered. A
-/// file that is not there is an empty record. One that can't be read, a line that is no delivery, and lack of memory are
-/// the faults.
-pub fn replay_whole<'a, D: Read + Drop, P, T: Store + Drop>(
+/// Delivers the whole lines of a record to a desk over a store that is always honest.
+fn replay_over<'a, D: Read + Drop, P, T: Store + Drop>(
     alloc: Global,
-    building: Building,
+    desk: Desk<T>,
     list: ListInput<'a, P>,
-    empty: T,
 ) -> Result<WholeReplay<T>, RunFault<'a>>
 where
     P: FnOnce() -> io::Result<Option<BufReader<D>>>,
     requires open { P.IsAlwaysCallable list.open }
-    requires empty { (T.standing empty).content ≡ sound no_tables }
     requires honest { (t : T) → (T.standing t).is_honest }
-    ensures holds { IfOk result (λ replayed. (bytes : List ℕ)
+    ensures holds { IfOk result (λ replayed. (earlier : List a_delivery) (bytes : List ℕ)
+        → Holds desk.building earlier (T.standing desk.store)
         → MayHave (P.post list.entry.open) (reader_remaining D.remaining) bytes
-        → HoldsRecord building bytes (T.standing replayed.store)) }
+        → HoldsRecord desk.building earlier bytes (T.standing replayed.store)) }
     ensures torn { IfOk result (λ replayed. (bytes : List ℕ)
         → MayHave (P.post list.entry.open) (reader_remaining D.remaining) bytes → LeavesTorn bytes replayed.torn) }
-    ensures building { IfOk result (λ replayed. replayed.building ≡ building) }
+    ensures building { IfOk result (λ replayed. replayed.building ≡ desk.building) }
 {
     let Replayed {
         building,
         store,
         last,
         torn,
-    } = replay_record(alloc, building, list, empty)?;
+    } = replay_record(alloc, desk, list)?;
     let (building, store) = with_held(alloc, building, store, &last)?;
     Ok(WholeReplay {
         building,
         store,
         torn,
     })
+}
+
+/// Delivers the whole lines of a record to a desk over its base, or over empty tables where it stands on none. Empty
+/// lines are passed over, and so is an import whose holiday list is at fault; what stands after the last line end was
+/// never delivered. A file that is not there is an empty record. One that can't be read, a line that is no delivery, a
+/// base that does not suit the building, and lack of memory are the faults.
+pub fn replay_whole<'a, D: Read + Drop, P>(
+    alloc: Global,
+    building: Building,
+    list: ListInput<'a, P>,
+    base: Option<MemStore>,
+) -> Result<WholeReplay<MemStore>, RunFault<'a>>
+where
+    P: FnOnce() -> io::Result<Option<BufReader<D>>>,
+    requires { P.IsAlwaysCallable list.open }
+    ensures holds { IfOk result (λ replayed. (earlier : List a_delivery) (bytes : List ℕ)
+        → BeginsOn standing_of building earlier base
+        → MayHave (P.post list.entry.open) (reader_remaining D.remaining) bytes
+        → HoldsRecord building earlier bytes (standing_of replayed.store)) }
+    ensures torn { IfOk result (λ replayed. (bytes : List ℕ)
+        → MayHave (P.post list.entry.open) (reader_remaining D.remaining) bytes → LeavesTorn bytes replayed.torn) }
+    ensures building { IfOk result (λ replayed. replayed.building ≡ building) }
+{
+    match desk_on(alloc, building, base) {
+        Ok(desk) => replay_over(alloc, desk, list),
+        Err(fault) => Err(RunFault::from(fault)),
+    }
 }
 
 impl<T: Store + Drop> Replayed<T> {
@@ -321,14 +340,21 @@ impl<T: Store + Drop> Replayed<T> {
     /// Looks whether a store is the record's own. It is, where what no rule of the building decides is what the
     /// record's deliveries leave, or all but the last of them, which is still to be made: each panel's next number, what
     /// it sent under the numbers that it may still repeat or use, and the last tick. Else the first difference from all
-    /// of them is told. The store is only read.
+    /// of them is told. Where it is, the first place of a point that has another value than these deliveries leave is
+    /// told: the building's file may have been edited since. An import changes nothing of what is looked at, so that it
+    /// may have been made or not: no place is told where each has the value of one of the two. The store is only read.
     pub fn matched<S: Store>(self, alloc: Global, store: &mut S) -> Result<Matched, CompareFault>
         requires honest { (t : T) → (T.standing t).is_honest }
         ensures building { IfOk result (λ matched. matched.building ≡ self.building) }
         ensures reads { Reads (held_fault result) (S.standing store.old) (S.standing store.new) }
-        ensures matched { (bytes : List ℕ) → IsReplayed self.building bytes self.last (T.standing self.store)
-            → (S.standing store.new).is_honest
-            → IfOk result (λ matched. IsMatched self.building bytes (S.standing store.old).content.tables matched.difference) }
+        ensures matched { (earlier : List a_delivery) (bytes : List ℕ)
+            → IsReplayed self.building earlier bytes self.last (T.standing self.store) → (S.standing store.new).is_honest
+            → IfOk result (λ matched. IsMatched self.building earlier bytes (S.standing store.old).content.tables
+            matched.found.difference) }
+        ensures otherwise { (earlier : List a_delivery) (bytes : List ℕ)
+            → IsReplayed self.building earlier bytes self.last (T.standing self.store) → (S.standing store.new).is_honest
+            → IfOk result (λ matched. matched.found.difference ≡ None
+            → TellsOtherwise self.building earlier bytes (S.standing store.old).content.tables matched.found.otherwise) }
     {
         let Replayed {
             building,
@@ -337,21 +363,27 @@ impl<T: Store + Drop> Replayed<T> {
             torn: _torn,
         } = self;
         let mut other = other;
-        let difference = match first_difference(&building, store, &mut other) {
-            Ok(difference) => difference,
+        let before = match first_found(alloc, &building, store, &mut other) {
+            Ok(found) => found,
             Err(fault) => return Err(fault),
         };
-        if difference.is_none() {
+        if !before.has_any() {
             return Ok(Matched {
                 building,
-                difference,
+                found: before,
             });
         }
         match &last {
-            Some(last) => matched_with_last(alloc, building, other, last, store),
+            Some(last) => match found_with_last(alloc, building, other, last, store) {
+                Ok(all) => Ok(Matched {
+                    building: all.building,
+                    found: of_both(before, all.found),
+                }),
+                Err(fault) => Err(fault),
+            },
             None => Ok(Matched {
                 building,
-                difference,
+                found: before,
             }),
         }
     }

@@ -3,15 +3,11 @@ use Rattle.cli_record.specs.Replayed.{IsReplayed}
 use Rattle.cli_record.proofs.replayed.replay_record.Goals as goal
 
 pub returns-in-Ok-clause-replayed : goal.returns-in-Ok-clause-replayed
-returns-in-Ok-clause-replayed g c = λ bytes has honest.
+returns-in-Ok-clause-replayed g c = λ earlier bytes holds has honest.
     let same = c.into_parts-building.ensures.store in
     let honest_then = subst (λ s. (g.T.Store.standing s).is_honest) same honest in
-    subst (λ s. IsReplayed c.args.building bytes c.in_ok-last-in-Ok.field-0.last (g.T.Store.standing s)) (sym same)
-    ((rw c.new-desk.ensures.building at c.in_ok-last-in-Ok.ensures.replayed bytes (has (Ok c.in-Ok.found) c.in-Ok.ensures) honest_then)
-    c.new-desk.ensures.begins)
+    subst (λ s. IsReplayed c.args.desk.building earlier bytes c.in_ok-last-in-Ok.field-0.last (g.T.Store.standing s)) (sym same)
+    (c.in_ok-last-in-Ok.ensures.replayed earlier bytes (has (Ok c.in-Ok.found) c.in-Ok.ensures) honest_then holds)
 
 pub returns-in-Ok-clause-torn : goal.returns-in-Ok-clause-torn
-returns-in-Ok-clause-torn g c = λ bytes has honest.
-    let honest_then = subst (λ s. (g.T.Store.standing s).is_honest) c.into_parts-building.ensures.store honest in
-    (rw c.new-desk.ensures.building at c.in_ok-last-in-Ok.ensures.torn bytes (has (Ok c.in-Ok.found) c.in-Ok.ensures) honest_then)
-    c.new-desk.ensures.begins
+returns-in-Ok-clause-torn g c = λ bytes has. c.in_ok-last-in-Ok.ensures.torn bytes (has (Ok c.in-Ok.found) c.in-Ok.ensures)
