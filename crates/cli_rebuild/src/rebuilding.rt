@@ -2,6 +2,7 @@
 ghost use Rattle.std.specs.Prelude.{◌≡◌, IfOk, IfSome, List, None, OnOk, ℕ, Some, string_bytes};
 ghost use Rattle.std.specs.Io.Buffered.{reader_remaining};
 ghost use Rattle.std.specs.Io.KnownBytes.{Keeps};
+ghost use Rattle.cli_base.specs.Base.{BeginsOn};
 ghost use Rattle.cli_common.specs.Input.{bytes_of};
 ghost use Rattle.cli_record.specs.Replayed.{HoldsRecord, LeavesTorn, MayHave};
 ghost use Rattle.cli_rebuild.specs.Rebuilt.{IsRebuilt, rebuilt_text};
@@ -80,18 +81,20 @@ fn copy_over<'a, S: Store, T: Store>(
     Ok(rebuilt_text(alloc, torn, &survey.holdings)?)
 }
 
-/// What the whole lines of a record leave in memory, where a desk opens over it.
+/// What the whole lines of a record leave in memory behind its base, where a desk opens over it.
 fn replayed<'a, D: Read + Drop, P>(
     alloc: Global,
     building: Building,
     list: ListInput<'a, P>,
+    base: Option<MemStore>,
 ) -> Result<WholeReplay<MemStore>, RunFault<'a>>
 where
     P: FnOnce() -> io::Result<Option<BufReader<D>>>,
     requires { P.IsAlwaysCallable list.open }
     ensures building { IfOk result (λ it. it.building ≡ building) }
-    ensures holds { IfOk result (λ it. (bytes : List ℕ) → MayHave (P.post list.entry.open) (reader_remaining D.remaining) bytes
-        → HoldsRecord building bytes (standing_of it.store)) }
+    ensures holds { IfOk result (λ it. (earlier : List a_delivery) (bytes : List ℕ) → BeginsOn standing_of building earlier base
+        → MayHave (P.post list.entry.open) (reader_remaining D.remaining) bytes
+        → HoldsRecord building earlier bytes (standing_of it.store)) }
     ensures suits { IfOk result (λ it. Suits building (standing_of it.store).content.tables) }
     ensures torn { IfOk result (λ it. (bytes : List ℕ)
         → MayHave (P.post list.entry.open) (reader_remaining D.remaining) bytes → LeavesTorn bytes it.torn) }
@@ -100,7 +103,7 @@ where
         building,
         store,
         torn,
-    } = replay_whole(alloc, building, list, MemStore::new(alloc))?;
+    } = replay_whole(alloc, building, list, base)?;
     let (building, store) = seen_to_suit(alloc, building, store)?;
     Ok(WholeReplay {
         building,
@@ -110,13 +113,14 @@ where
 }
 
 /// Makes in an empty store, the database of the path `made`, the tables of the deliveries that the whole lines of a record
-/// tell: `desk rebuild FILE RECORD DB`. Empty lines are passed over, and so is an import whose holiday list is at fault;
+/// tell, behind those of the base that it may stand on: `desk rebuild FILE RECORD DB`. Empty lines are passed over, and so is an import whose holiday list is at fault;
 /// what stands behind the last line end was never delivered. Nothing is printed but a fault, as one line on `fault`:
 /// where the store was made by then, it is let go with what it has, nothing or all.
 pub fn rebuild_database<'a, B: Read + Drop, D: Read + Drop, P, T: Store + Drop, N, F: Write>(
     alloc: Global,
     file: Input<'a, B>,
     list: ListInput<'a, P>,
+    base: Option<MemStore>,
     made: &'a str,
     maker: N,
     fault: &mut F,
@@ -129,11 +133,11 @@ where
     ensures rebuilt { IfSome result.taken (λ it. (file_bytes list_bytes : List ℕ)
         → bytes_of B.remaining file.entry.reader ≡ Some file_bytes
         → MayHave (P.post list.entry.open) (reader_remaining D.remaining) list_bytes
-        → IsRebuilt T.standing (N.post maker) file_bytes list_bytes it.into (string_bytes it.text)) }
+        → IsRebuilt T.standing (N.post maker) base file_bytes list_bytes it.into (string_bytes it.text)) }
     ensures done { result.status ≡ Status.Done → result.taken ≡ None → ⊥ }
     ensures quiet { result.status ≡ Status.Done → Keeps (F.contents fault.old) (F.contents fault.new) }
 {
-    match rebuild_over(alloc, file, list, made, maker) {
+    match rebuild_over(alloc, file, list, base, made, maker) {
         Ok(taken) => Adopted {
             status: Status::Done,
             taken: Some(taken),
@@ -152,6 +156,7 @@ fn rebuild_over<'a, B: Read + Drop, D: Read + Drop, P, T: Store + Drop, N>(
     alloc: Global,
     file: Input<'a, B>,
     list: ListInput<'a, P>,
+    base: Option<MemStore>,
     made: &'a str,
     maker: N,
 ) -> Result<TakenAlong<MemStore, T>, AdoptionFault<'a>>
@@ -163,7 +168,7 @@ where
     ensures { IfOk result (λ it. (file_bytes list_bytes : List ℕ)
         → bytes_of B.remaining file.entry.reader ≡ Some file_bytes
         → MayHave (P.post list.entry.open) (reader_remaining D.remaining) list_bytes
-        → IsRebuilt T.standing (N.post maker) file_bytes list_bytes it.into (string_bytes it.text)) }
+        → IsRebuilt T.standing (N.post maker) base file_bytes list_bytes it.into (string_bytes it.text)) }
 {
     let building = read_building(alloc, file)?;
     let mut into = match maker() {
@@ -174,7 +179,7 @@ where
         building,
         store,
         torn,
-    } = replayed(alloc, building, list)?;
+    } = replayed(alloc, building, list, base)?;
     let mut from = store;
     let text = copy_over(alloc, &building, torn, &mut from, &mut into, made)?;
     Ok(TakenAlong { from, into, text })

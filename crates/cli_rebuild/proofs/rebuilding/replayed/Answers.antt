@@ -4,8 +4,8 @@ use Rattle.store.specs.Standing.{Content}
 use Rattle.cli_rebuild.proofs.rebuilding.replayed.Goals as goal
 
 pub returns-clause-holds : goal.returns-clause-holds
-returns-clause-holds g c = λ bytes has.
-    let kept = c.in_ok-building.ensures.holds bytes has in
+returns-clause-holds g c = λ earlier bytes begins has.
+    let kept = c.in_ok-building.ensures.holds earlier bytes begins has in
     record {
       deliveries = kept.deliveries;
       lists = kept.lists;
