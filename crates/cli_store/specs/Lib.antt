@@ -4,4 +4,5 @@ pub mod Reported
 pub mod Foretold
 pub mod Guarded
 pub mod Keeper
+pub mod Otherwise
 pub mod Recorded

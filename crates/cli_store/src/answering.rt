@@ -1,8 +1,8 @@
 //! One delivery to a store, answered.
-ghost use Rattle.std.specs.Prelude.{◌≡◌, ℕ, List, None, Some, IfErr, IfOk, IsSome, OnOk, string_bytes};
+ghost use Rattle.std.specs.Prelude.{◌≡◌, ℕ, List, Option, None, Some, IfErr, IfOk, IsSome, OnOk, string_bytes};
 ghost use Rattle.std.specs.Bool.{IsTrue};
 ghost use Rattle.std.specs.Io.Buffered.{reader_remaining};
-ghost use Rattle.std.specs.Io.KnownBytes.{Appends};
+ghost use Rattle.std.specs.Io.KnownBytes.{Appends, Keeps};
 ghost use Rattle.cli_common.specs.Input.{bytes_of};
 ghost use Rattle.delivery_json.specs.ReplyText.{reply_line};
 ghost use Rattle.deliveries.specs.declared.delivery.Delivery.{Delivery as a_delivery};
@@ -10,16 +10,19 @@ ghost use Rattle.deliveries.specs.Delivered.{Holds};
 ghost use Rattle.desk_record.specs.Recorded.{InStep, IsBehind, listed};
 ghost use Rattle.cli_store.specs.Answered.{Answers, Asks, IsAnswered, Opens};
 ghost use Rattle.cli_record.specs.Beside.{OpensBeside, ReadsBeside};
+ghost use Rattle.cli_record.specs.declared.difference.Difference.{Difference as a_difference};
 ghost use Rattle.cli_record.specs.Replayed.{MayHave};
 ghost use Rattle.cli_store.specs.Guarded.{IsGuarded};
+ghost use Rattle.cli_store.specs.Otherwise.{TellsAtMost};
 ghost use Rattle.cli_store.specs.Recorded.{Adds, IsRecorded, Records};
 
 use crate::clock_delivery::{ClockDelivery, read_asked};
 use crate::ended::Stopped;
 use crate::keeper::{Opening, Recording, resume_at};
+use crate::otherwise::tell_otherwise;
 use building::Building;
 use cli_common::{Input, ListInput, RunFault, print_whole, read_building};
-use cli_record::{BesideFault, Database, open_beside};
+use cli_record::{BesideFault, Database, Unopened, open_beside};
 use deliveries::{Delivery, Reply};
 use delivery_json::ReplyText;
 use desk::Desk;
@@ -28,6 +31,7 @@ use sqlite_disk::Disk;
 use std::alloc::{AllocError, Global};
 use std::io::{self, BufReader, Read, Write};
 use store::{OpenFault, Store};
+use store_memory::MemStore;
 
 /// What was answered, the store as it stands then, and the disk of the record, if one is kept.
 #[derive(Drop)]
@@ -56,8 +60,9 @@ where
     ensures building { IfOk result (λ desk. desk.building ≡ building) }
     ensures holds { (earlier : List a_delivery) → Opens (O.post opener) (λ store. Holds building earlier (S.standing store))
         → IfOk result (λ it. (S.standing it.store).is_honest → Holds building earlier (S.standing it.store)) }
-    ensures behind { (earlier : List a_delivery) → Opens (O.post opener) (λ store. IsBehind building earlier (S.standing store))
-        → IfOk result (λ it. (S.standing it.store).is_honest → IsBehind building earlier (S.standing it.store)) }
+    ensures behind { (earlier deliveries : List a_delivery)
+        → Opens (O.post opener) (λ store. IsBehind building earlier deliveries (S.standing store))
+        → IfOk result (λ it. (S.standing it.store).is_honest → IsBehind building earlier deliveries (S.standing it.store)) }
 {
     match opener() {
         Ok(store) => match Desk::open(alloc, building, store) {
@@ -71,13 +76,46 @@ where
     }
 }
 
+/// A desk over the store that is opened, once it is seen to be the record's own. What the building makes otherwise is told.
+fn open_own<'a, R: Read + Drop, P, S: Store + Drop, O, F: Write>(
+    alloc: Global,
+    building: Building,
+    list: ListInput<'a, P>,
+    base: Option<MemStore>,
+    database: Database<'a, O>,
+    fault: &mut F,
+) -> Result<Desk<S>, Unopened<'a, S>>
+where
+    P: FnOnce() -> io::Result<Option<BufReader<R>>>,
+    O: FnOnce() -> Result<S, OpenFault>,
+    requires { P.IsAlwaysCallable list.open × O.IsAlwaysCallable database.opener }
+    ensures building { IfOk result (λ desk. desk.building ≡ building) }
+    ensures opened { IfOk result (λ desk. (otherwise : Option a_difference)
+        × OpensBeside S.standing (O.post database.entry.opener) database.entry.is_missing building base
+        (MayHave (P.post list.entry.open) (reader_remaining R.remaining)) otherwise (S.standing desk.store)) }
+    ensures refused { IfErr result (λ end. (left : S) → end.store ≡ Some left
+        → ReadsBeside S.standing (O.post database.entry.opener) database.entry.is_missing building base
+        (MayHave (P.post list.entry.open) (reader_remaining R.remaining)) (S.standing left)) }
+    ensures told { TellsAtMost (F.contents fault.old) (F.contents fault.new) }
+{
+    match open_beside(alloc, building, list, base, database) {
+        Ok(beside) => {
+            tell_otherwise(alloc, beside.otherwise, fault);
+            Ok(beside.desk)
+        }
+        Err(end) => Err(end),
+    }
+}
+
 /// A desk over the store that is opened; with a record, once the store is seen to be its own.
-pub(crate) fn open_kept<'a, R: Read + Drop, P, S: Store + Drop, O>(
+pub(crate) fn open_kept<'a, R: Read + Drop, P, S: Store + Drop, O, F: Write>(
     alloc: Global,
     building: Building,
     database: Database<'a, O>,
     path: Option<&'a str>,
+    base: Option<MemStore>,
     reader: P,
+    fault: &mut F,
 ) -> Result<Desk<S>, Stopped<'a, S>>
 where
     P: FnOnce() -> io::Result<Option<BufReader<R>>>,
@@ -87,20 +125,23 @@ where
     ensures building { IfOk result (λ desk. desk.building ≡ building) }
     ensures holds { (earlier : List a_delivery) → Opens (O.post database.entry.opener) (λ store. Holds building earlier (S.standing store))
         → IfOk result (λ it. (S.standing it.store).is_honest → Holds building earlier (S.standing it.store)) }
-    ensures behind { (earlier : List a_delivery)
-        → Opens (O.post database.entry.opener) (λ store. IsBehind building earlier (S.standing store))
-        → IfOk result (λ it. (S.standing it.store).is_honest → IsBehind building earlier (S.standing it.store)) }
-    ensures opened { IsSome path.entry → IfOk result (λ it. OpensBeside S.standing (O.post database.entry.opener) database.entry.is_missing building
-        (MayHave (P.post reader) (reader_remaining R.remaining)) (S.standing it.store)) }
+    ensures behind { (earlier deliveries : List a_delivery)
+        → Opens (O.post database.entry.opener) (λ store. IsBehind building earlier deliveries (S.standing store))
+        → IfOk result (λ it. (S.standing it.store).is_honest → IsBehind building earlier deliveries (S.standing it.store)) }
+    ensures opened { IsSome path.entry → IfOk result (λ it. (otherwise : Option a_difference)
+        × OpensBeside S.standing (O.post database.entry.opener) database.entry.is_missing building base
+        (MayHave (P.post reader) (reader_remaining R.remaining)) otherwise (S.standing it.store)) }
     ensures refused { IsSome path.entry → IfErr result (λ end. (left : S) → end.store ≡ Some left
-        → ReadsBeside S.standing (O.post database.entry.opener) database.entry.is_missing building
+        → ReadsBeside S.standing (O.post database.entry.opener) database.entry.is_missing building base
         (MayHave (P.post reader) (reader_remaining R.remaining)) (S.standing left)) }
+    ensures quiet { path.entry ≡ None → Keeps (F.contents fault.old) (F.contents fault.new) }
+    ensures told { TellsAtMost (F.contents fault.old) (F.contents fault.new) }
 {
     let Some(path) = path else {
         return open_desk(alloc, building, database.opener);
     };
     let list = ListInput { path, open: reader };
-    Ok(open_beside(alloc, building, list, database)?)
+    Ok(open_own(alloc, building, list, base, database, fault)?)
 }
 
 /// Prints a reply as a line.
@@ -135,9 +176,9 @@ fn deliver_kept<'a, S: Store + Drop, R: Recorder, W: Write>(
     ensures answers { OnOk result ((earlier : List a_delivery) → (S.standing desk.new.store).is_honest
         → Holds desk.old.building earlier (S.standing desk.old.store)
         → Answers desk.old.building earlier delivery.now (S.standing desk.new.store) (W.contents out.old) (W.contents out.new)) }
-    ensures recorded { OnOk result ((S.standing desk.new.store).is_honest → (R.standing recorder.new).is_honest
-        → InStep desk.old.building (R.standing recorder.old) (S.standing desk.old.store)
-        → Adds desk.old.building delivery.now (R.standing recorder.old) (R.standing recorder.new) (S.standing desk.new.store)
+    ensures recorded { OnOk result ((earlier : List a_delivery) → (S.standing desk.new.store).is_honest
+        → (R.standing recorder.new).is_honest → InStep desk.old.building earlier (R.standing recorder.old) (S.standing desk.old.store)
+        → Adds desk.old.building earlier delivery.now (R.standing recorder.old) (R.standing recorder.new) (S.standing desk.new.store)
         (W.contents out.old) (W.contents out.new)) }
     ensures honest { OnOk result ((S.standing desk.new.store).is_honest → (S.standing desk.old.store).is_honest) }
     ensures honest_record { OnOk result ((R.standing recorder.new).is_honest → (R.standing recorder.old).is_honest) }
@@ -164,11 +205,11 @@ fn deliver_recorded<'a, S: Store + Drop, D: Disk + Drop, Q, W: Write>(
 where
     Q: FnOnce() -> Result<D, OpenFault>,
     requires { Q.IsAlwaysCallable opener }
-    ensures recorded { IfOk result (λ answered. (earlier : List a_delivery)
-        → Opens (Q.post opener) (λ disk. listed desk.old.building (D.Disk.seen disk) ≡ earlier)
-        → IsBehind desk.old.building earlier (S.standing desk.old.store)
+    ensures recorded { IfOk result (λ answered. (earlier deliveries : List a_delivery)
+        → Opens (Q.post opener) (λ disk. listed desk.old.building (D.Disk.seen disk) ≡ deliveries)
+        → IsBehind desk.old.building earlier deliveries (S.standing desk.old.store)
         → (S.standing desk.new.store).is_honest → IsTrue (D.Disk.is_clean answered.1)
-        → Records desk.old.building earlier delivery.now (S.standing desk.new.store) (D.Disk.seen answered.1) (D.Disk.may_leave answered.1)
+        → Records desk.old.building earlier deliveries delivery.now (S.standing desk.new.store) (D.Disk.seen answered.1) (D.Disk.may_leave answered.1)
         (W.contents out.old) (W.contents out.new)) }
     ensures honest { OnOk result ((S.standing desk.new.store).is_honest → (S.standing desk.old.store).is_honest) }
 {
@@ -194,11 +235,11 @@ where
         → Holds desk.old.building earlier (S.standing desk.old.store)
         → Answers desk.old.building earlier delivery.now (S.standing desk.new.store) (W.contents out.old) (W.contents out.new)) }
     ensures recorded { IsSome path.entry → IfOk result (λ answered. (disk : D) × (answered.disk ≡ Some disk)
-        × ((earlier : List a_delivery)
-        → Opens (Q.post opener) (λ opened. listed desk.old.building (D.Disk.seen opened) ≡ earlier)
-        → IsBehind desk.old.building earlier (S.standing desk.old.store)
+        × ((earlier deliveries : List a_delivery)
+        → Opens (Q.post opener) (λ opened. listed desk.old.building (D.Disk.seen opened) ≡ deliveries)
+        → IsBehind desk.old.building earlier deliveries (S.standing desk.old.store)
         → (S.standing desk.new.store).is_honest → IsTrue (D.Disk.is_clean disk)
-        → Records desk.old.building earlier delivery.now (S.standing desk.new.store) (D.Disk.seen disk) (D.Disk.may_leave disk)
+        → Records desk.old.building earlier deliveries delivery.now (S.standing desk.new.store) (D.Disk.seen disk) (D.Disk.may_leave disk)
         (W.contents out.old) (W.contents out.new))) }
     ensures honest { OnOk result ((S.standing desk.new.store).is_honest → (S.standing desk.old.store).is_honest) }
 {
@@ -225,12 +266,14 @@ pub(crate) fn answer<
     P,
     Q,
     W: Write,
+    F: Write,
 >(
     alloc: Global,
     file: Input<'a, B>,
     asked: ClockDelivery<'a, L>,
     opening: Opening<'a, O, P, Q>,
     out: &mut W,
+    fault: &mut F,
 ) -> Result<Answered<S, D>, Stopped<'a, S>>
 where
     O: FnOnce() -> Result<S, OpenFault>,
@@ -252,12 +295,16 @@ where
     ensures guarded { IsSome opening.entry.recording.path → (file_bytes list_bytes : List ℕ)
         → bytes_of B.remaining file.entry.reader ≡ Some file_bytes
         → MayHave (P.post opening.entry.recording.reader) (reader_remaining R.remaining) list_bytes
-        → IfOk result (λ answered. IsGuarded S.standing (O.post opening.entry.database.opener) opening.entry.database.is_missing file_bytes list_bytes answered.store) }
+        → IfOk result (λ answered. IsGuarded S.standing (O.post opening.entry.database.opener) opening.entry.database.is_missing file_bytes
+        opening.entry.recording.base list_bytes answered.store) }
     ensures stopped { IsSome opening.entry.recording.path → (file_bytes list_bytes : List ℕ)
         → bytes_of B.remaining file.entry.reader ≡ Some file_bytes
         → MayHave (P.post opening.entry.recording.reader) (reader_remaining R.remaining) list_bytes
         → IfErr result (λ end. (left : S) → end.store ≡ Some left
-        → IsGuarded S.standing (O.post opening.entry.database.opener) opening.entry.database.is_missing file_bytes list_bytes left) }
+        → IsGuarded S.standing (O.post opening.entry.database.opener) opening.entry.database.is_missing file_bytes
+        opening.entry.recording.base list_bytes left) }
+    ensures quiet { opening.entry.recording.path ≡ None → Keeps (F.contents fault.old) (F.contents fault.new) }
+    ensures told { TellsAtMost (F.contents fault.old) (F.contents fault.new) }
 {
     let Opening {
         database,
@@ -265,12 +312,13 @@ where
     } = opening;
     let Recording {
         path,
+        base,
         reader,
         opener,
     } = recording;
     let building = read_building(alloc, file)?;
     let delivery = read_asked(alloc, &building, asked)?;
-    let mut desk = open_kept(alloc, building, database, path, reader)?;
+    let mut desk = open_kept(alloc, building, database, path, base, reader, fault)?;
     let answered = deliver(alloc, &mut desk, path, opener, &delivery, out);
     let store = desk.into_store();
     match answered {

@@ -6,6 +6,7 @@ ghost use Rattle.cli_common.specs.Input.{bytes_of};
 ghost use Rattle.cli_store.specs.Answered.{Asks, IsAnswered};
 ghost use Rattle.cli_record.specs.Replayed.{MayHave};
 ghost use Rattle.cli_store.specs.Guarded.{IsGuarded};
+ghost use Rattle.cli_store.specs.Otherwise.{TellsAtMost};
 ghost use Rattle.cli_store.specs.Recorded.{IsRecorded};
 
 use crate::answering::{Answered, answer};
@@ -23,7 +24,8 @@ use store::{OpenFault, Store};
 /// `desk tick` and `desk import`. The store is opened after the building is read, and the list of an import; if a record
 /// is kept, it is read through before the store is opened, and nothing is delivered to a store that is not its own.
 ///
-/// A moment that can't be ticked is answered `bad_moment`, and the status says so. A fault is printed to `fault` as one
+/// Where the building makes other values of the record than the store has, the first is printed to `fault` as a line, and
+/// the run goes on. A moment that can't be ticked is answered `bad_moment`, and the status says so. A fault is printed to `fault` as one
 /// line, as one of the list is, and then nothing is delivered; what the store answered before the output failed stands.
 pub fn deliver<
     'a,
@@ -68,10 +70,13 @@ where
         → bytes_of B.remaining file.entry.reader ≡ Some file_bytes
         → MayHave (P.post opening.entry.recording.reader) (reader_remaining R.remaining) list_bytes
         → (left : S) → result.ended.store ≡ Some left
-        → IsGuarded S.standing (O.post opening.entry.database.opener) opening.entry.database.is_missing file_bytes list_bytes left }
-    ensures quiet { result.ended.status ≡ Status.Done → Keeps (F.contents fault.old) (F.contents fault.new) }
+        → IsGuarded S.standing (O.post opening.entry.database.opener) opening.entry.database.is_missing file_bytes
+        opening.entry.recording.base list_bytes left }
+    ensures quiet { result.ended.status ≡ Status.Done → opening.entry.recording.path ≡ None
+        → Keeps (F.contents fault.old) (F.contents fault.new) }
+    ensures told { result.ended.status ≡ Status.Done → TellsAtMost (F.contents fault.old) (F.contents fault.new) }
 {
-    match answer(alloc, file, asked, opening, out) {
+    match answer(alloc, file, asked, opening, out, fault) {
         Ok(Answered { reply, store, disk }) => Delivered {
             ended: Ended {
                 status: status_of(reply),

@@ -15,12 +15,15 @@ use desk_record::{Record, RecordFault, Recorder, ResumeFault, resume};
 use sqlite_disk::Disk;
 use std::alloc::Global;
 use store::{OpenFault, Store, StoreFault};
+use store_memory::MemStore;
 
 /// Where a run writes its deliveries down.
-#[derive(Clone, Copy)]
+#[derive(Drop)]
 pub struct Recording<'a, P, Q> {
     /// The path of the record; nothing where none is kept.
     pub path: Option<&'a str>,
+    /// The tables of its base, if it stands on one.
+    pub base: Option<MemStore>,
     /// Opens its file to be read, if there is one.
     pub reader: P,
     /// Opens its file to be written, which is made where there is none.
@@ -28,7 +31,7 @@ pub struct Recording<'a, P, Q> {
 }
 
 /// What a run opens, once the file of its building is read: the store, and then its record, if it keeps one.
-#[derive(Clone, Copy)]
+#[derive(Drop)]
 pub struct Opening<'a, O, P, Q> {
     /// The database, and what opens the store.
     pub database: Database<'a, O>,
@@ -117,9 +120,9 @@ pub(crate) fn resume_at<'a, S: Store + Drop, D: Disk + Drop, Q>(
 where
     Q: FnOnce() -> Result<D, OpenFault>,
     requires { Q.IsAlwaysCallable opener }
-    ensures taken { (earlier : List a_delivery)
-        → Opens (Q.post opener) (λ disk. listed desk.old.building (D.Disk.seen disk) ≡ earlier)
-        → IfOk result (λ taken. IsTakenUp desk.old.building earlier (⟦<Record<D> as Recorder>⟧.standing taken)
+    ensures taken { (deliveries : List a_delivery)
+        → Opens (Q.post opener) (λ disk. listed desk.old.building (D.Disk.seen disk) ≡ deliveries)
+        → IfOk result (λ taken. IsTakenUp desk.old.building deliveries (⟦<Record<D> as Recorder>⟧.standing taken)
         (S.standing desk.old.store) (S.standing desk.new.store)) }
     ensures honest { (S.standing desk.new.store).is_honest → (S.standing desk.old.store).is_honest }
     ensures building { desk.new.building ≡ desk.old.building }

@@ -1,12 +1,13 @@
 //! A run of the server, from the file of the building on.
 
-ghost use Rattle.std.specs.Prelude.{◌≡◌, ℕ, List, Some, IfErr, IfOk, IsSome, OnOk, string_bytes};
+ghost use Rattle.std.specs.Prelude.{◌≡◌, ℕ, List, None, Some, IfErr, IfOk, IsSome, OnOk, string_bytes};
 ghost use Rattle.std.specs.Io.Buffered.{reader_remaining};
 ghost use Rattle.std.specs.Io.KnownBytes.{Appends, Keeps};
 ghost use Rattle.cli_common.specs.Input.{bytes_of};
 ghost use Rattle.cli_record.specs.Replayed.{MayHave};
 ghost use Rattle.cli_store.specs.Guarded.{IsGuarded};
 ghost use Rattle.cli_store.specs.Listening.{listening_line};
+ghost use Rattle.cli_store.specs.Otherwise.{TellsAtMost};
 
 use crate::answering::open_kept;
 use crate::ended::{Ended, Stopped};
@@ -35,8 +36,8 @@ pub struct Serving<'a> {
 }
 
 /// Serves the desk of the building of a file over the store that is opened: `desk serve`. The store is opened after the
-/// building is read; if a record is kept, it is read through before, and a store that is not its own is not served. Then
-/// the address is listened on, which is printed as a line, and then connections are taken. A record that can't be written
+/// building is read; if a record is kept, it is read through before, and a store that is not its own is not served; where
+/// the building makes other values of it than the store has, the first is printed to `fault` as a line. Then the address is listened on, which is printed as a line, and then connections are taken. A record that can't be written
 /// any more ends the run.
 ///
 /// A fault is printed to `fault` as one line. What the store answered stands, and it is handed back.
@@ -73,10 +74,13 @@ where
         → bytes_of B.remaining file.entry.reader ≡ Some file_bytes
         → MayHave (P.post opening.entry.recording.reader) (reader_remaining R.remaining) list_bytes
         → (left : S) → result.store ≡ Some left
-        → IsGuarded S.standing (O.post opening.entry.database.opener) opening.entry.database.is_missing file_bytes list_bytes left }
-    ensures quiet { result.status ≡ Status.Done → Keeps (F.contents fault.old) (F.contents fault.new) }
+        → IsGuarded S.standing (O.post opening.entry.database.opener) opening.entry.database.is_missing file_bytes
+        opening.entry.recording.base list_bytes left }
+    ensures quiet { result.status ≡ Status.Done → opening.entry.recording.path ≡ None
+        → Keeps (F.contents fault.old) (F.contents fault.new) }
+    ensures told { result.status ≡ Status.Done → TellsAtMost (F.contents fault.old) (F.contents fault.new) }
 {
-    match serve_over(rt, file, opening, serving, out) {
+    match serve_over(rt, file, opening, serving, out, fault) {
         Ok(ended) => ended,
         Err(end) => end.print(rt.alloc(), fault),
     }
@@ -92,12 +96,14 @@ fn serve_over<
     P,
     Q,
     W: Write,
+    F: Write,
 >(
     rt: &HostRuntime,
     file: Input<'a, B>,
     opening: Opening<'a, O, P, Q>,
     serving: &Serving<'a>,
     out: &mut W,
+    fault: &mut F,
 ) -> Result<Ended<S>, Stopped<'a, S>>
 where
     O: FnOnce() -> Result<S, OpenFault>,
@@ -112,13 +118,17 @@ where
         → bytes_of B.remaining file.entry.reader ≡ Some file_bytes
         → MayHave (P.post opening.entry.recording.reader) (reader_remaining R.remaining) list_bytes
         → IfOk result (λ ended. (left : S) → ended.store ≡ Some left
-        → IsGuarded S.standing (O.post opening.entry.database.opener) opening.entry.database.is_missing file_bytes list_bytes left) }
+        → IsGuarded S.standing (O.post opening.entry.database.opener) opening.entry.database.is_missing file_bytes
+        opening.entry.recording.base list_bytes left) }
     ensures stopped { IsSome opening.entry.recording.path → (file_bytes list_bytes : List ℕ)
         → bytes_of B.remaining file.entry.reader ≡ Some file_bytes
         → MayHave (P.post opening.entry.recording.reader) (reader_remaining R.remaining) list_bytes
         → IfErr result (λ end. (left : S) → end.store ≡ Some left
-        → IsGuarded S.standing (O.post opening.entry.database.opener) opening.entry.database.is_missing file_bytes list_bytes left) }
+        → IsGuarded S.standing (O.post opening.entry.database.opener) opening.entry.database.is_missing file_bytes
+        opening.entry.recording.base list_bytes left) }
     ensures listening { OnOk result (Appends (W.contents out.old) (W.contents out.new) (listening_line serving.now.address.now)) }
+    ensures quiet { opening.entry.recording.path ≡ None → Keeps (F.contents fault.old) (F.contents fault.new) }
+    ensures told { TellsAtMost (F.contents fault.old) (F.contents fault.new) }
 {
     let alloc = rt.alloc();
     let Opening {
@@ -127,11 +137,12 @@ where
     } = opening;
     let Recording {
         path,
+        base,
         reader,
         opener,
     } = recording;
     let building = read_building(alloc, file)?;
-    let mut desk = open_kept(alloc, building, database, path, reader)?;
+    let mut desk = open_kept(alloc, building, database, path, base, reader, fault)?;
     let answered = keep_and_listen(rt, &mut desk, path, opener, serving, out);
     let store = Some(desk.into_store());
     match answered {

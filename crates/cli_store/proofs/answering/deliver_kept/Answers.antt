@@ -14,9 +14,9 @@ returns-clause-answers g c = λ earlier honest held.
     }
 
 pub returns-clause-recorded : goal.returns-clause-recorded
-returns-clause-recorded g c = λ honest honest_record step.
+returns-clause-recorded g c = λ earlier honest honest_record step.
     let answered = c.in-Ok.ensures in
-    adds c.args.desk.now.building c.args.delivery.now (g.R.Recorder.standing c.args.recorder.now) (g.R.Recorder.standing c.deliver.new.recorder)
+    adds c.args.desk.now.building earlier c.args.delivery.now (g.R.Recorder.standing c.args.recorder.now) (g.R.Recorder.standing c.deliver.new.recorder)
     (g.S.Store.standing c.args.desk.now.store) (g.S.Store.standing c.deliver.new.desk.store) c.in-Ok.reply
-    (g.W.Write.contents c.args.out.now) (g.W.Write.contents c.print_reply.new.out) step (answered.recorded honest honest_record step)
-    (answered.written honest_record) answered.goes_on (λ earlier held. answered.delivers earlier honest held) c.in_ok-print_reply.ensures
+    (g.W.Write.contents c.args.out.now) (g.W.Write.contents c.print_reply.new.out) step (answered.recorded earlier honest honest_record step)
+    (answered.written honest_record) answered.goes_on (λ list held. answered.delivers list honest held) c.in_ok-print_reply.ensures
