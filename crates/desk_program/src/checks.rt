@@ -1,4 +1,5 @@
 //! The check of a building file and a database beside it, and of a record beside both.
+use crate::bases::base_under;
 use cli_check::{Detail, check_database};
 use cli_common::{Input, ListInput, Status, print_fault};
 use cli_record::check_record;
@@ -6,6 +7,7 @@ use std::fs;
 use std::io::{self, BufReader, BufWriter, ErrorKind, Read, Write};
 use store::{OpenFault, Store};
 use store_file::{find_store, refusal_at};
+use store_memory::MemStore;
 
 /// Whether there is no file at a path, or an empty one.
 pub fn is_nothing_at(rt: &HostRuntime, path: &str) -> bool {
@@ -25,7 +27,7 @@ pub fn one_of<S: Drop>(found: Result<Option<S>, OpenFault>) -> Result<S, OpenFau
 }
 
 /// A store that is found; of a database that is not opened (S2) the reason is printed first.
-fn explained<S: Drop>(
+pub fn explained<S: Drop>(
     rt: &HostRuntime,
     path: &str,
     found: Result<S, OpenFault>,
@@ -118,6 +120,10 @@ pub fn run_record<'a>(
     record: &'a str,
 ) -> io::Result<Status> {
     let mut out = BufWriter::new(rt.alloc(), io::writer(rt))?;
+    let base = match base_under(rt, record)? {
+        Ok(base) => base,
+        Err(status) => return Ok(status),
+    };
     let building = Input {
         path: file,
         reader: fs::open(rt, file),
@@ -131,7 +137,7 @@ pub fn run_record<'a>(
         is_missing: is_nothing_at(rt, database),
         opener: || explained(rt, database, one_of(find_store(rt, database))),
     };
-    Ok(run_record_over(rt, building, list, found, &mut out, &mut rt.stderr()))
+    Ok(run_record_over(rt, building, list, base, found, &mut out, &mut rt.stderr()))
 }
 
 /// The same over the files and the store that is found, and generic over them too.
@@ -139,6 +145,7 @@ fn run_record_over<'a, B: Read + Drop, D: Read + Drop, P, S: Store + Drop, O, W:
     rt: &HostRuntime,
     building: Input<'a, B>,
     list: ListInput<'a, P>,
+    base: Option<MemStore>,
     found: Found<'a, O>,
     out: &mut W,
     fault: &mut F,
@@ -156,5 +163,5 @@ where
         opener,
     } = found;
     let finder = move || store_of(is_missing, opener);
-    check_record(rt.alloc(), building, list, path, finder, out, fault).status
+    check_record(rt.alloc(), building, list, base, path, finder, out, fault).status
 }

@@ -1,10 +1,12 @@
 //! The program `desk`: hands the words, the files and the standard streams to the libraries that do the work.
 #![tactic(auto)]
 
+use crate::bases::{base_of, base_under};
+use crate::new_database::stands_at;
 use crate::rebuilds::Rebuild;
 use crate::runs::DatabaseRun;
 use cli_check::{Detail, check};
-use cli_common::{Input, ListInput, Status};
+use cli_common::{Input, ListInput, Status, print_fault};
 use cli_days::Bounds;
 use cli_store::Serving;
 use cli_words::{ArgFault, Line};
@@ -16,6 +18,7 @@ use std::os::fd::AsRawFd;
 use std::process::ExitCode;
 
 mod adoptions;
+mod bases;
 mod checks;
 mod day_lists;
 mod hints;
@@ -128,8 +131,21 @@ enum ListRun<'a> {
     },
 }
 
-/// Makes a run over the building and the list of these paths. It is an error where memory for the output's buffer is
-/// refused.
+/// Whether a list stands on a base, which is printed as a fault.
+fn stands_on_base(rt: &HostRuntime, list: &str) -> io::Result<bool> {
+    let base = base_of(rt, list)?;
+    let stands = stands_at(rt, base.as_str());
+    if stands {
+        let line = format!(in rt.alloc();
+            "desk: {list} stands on {base}: only a whole list is straightened"
+        )?;
+        print_fault(rt.alloc(), &line, &mut rt.stderr());
+    }
+    Ok(stands)
+}
+
+/// Makes a run over the building and the list of these paths. It is an error where memory for a path or for the output's
+/// buffer is refused.
 fn run_list(
     rt: &HostRuntime,
     file: &str,
@@ -137,6 +153,15 @@ fn run_list(
     run: ListRun<'_>,
 ) -> io::Result<Status> {
     let alloc = rt.alloc();
+    if let ListRun::Straighten = run {
+        if stands_on_base(rt, deliveries)? {
+            return Ok(Status::Fault);
+        }
+    }
+    let base = match base_under(rt, deliveries)? {
+        Ok(base) => base,
+        Err(status) => return Ok(status),
+    };
     let mut out = BufWriter::new(alloc, io::writer(rt))?;
     let fault = &mut rt.stderr();
     let building = input_at(rt, file);
@@ -145,10 +170,10 @@ fn run_list(
         open: || open_list(rt, deliveries),
     };
     Ok(match run {
-        ListRun::Replay { until } => replay(alloc, building, list, until, &mut out, fault),
+        ListRun::Replay { until } => { replay(alloc, building, list, base, until, &mut out, fault) }
         ListRun::Straighten => straighten(alloc, building, list, &mut out, fault),
         ListRun::Why { point, until } => {
-            why(alloc, building, list, point, until, &mut out, fault)
+            why(alloc, building, list, base, point, until, &mut out, fault)
         }
     })
 }

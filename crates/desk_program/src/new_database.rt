@@ -91,11 +91,14 @@ where
     }
 }
 
-/// Whether something is at a path, also where that can't be known.
-fn stands_at(rt: &HostRuntime, path: &str) -> bool {
+/// Whether something is at a path, also where that can't be known. Nothing has a name that is too long.
+pub fn stands_at(rt: &HostRuntime, path: &str) -> bool {
     match fs::symlink_metadata(rt, path) {
         Ok(_) => true,
-        Err(error) => error.kind() != ErrorKind::NotFound,
+        Err(error) => !matches!(
+            error.kind(),
+            ErrorKind::NotFound | ErrorKind::InvalidFilename
+        ),
     }
 }
 
@@ -110,7 +113,7 @@ fn remove_log(rt: &HostRuntime, database: &str) -> io::Result<()> {
 }
 
 /// The path of the log beside a database.
-fn log_of(rt: &HostRuntime, database: &str) -> Result<String, AllocError> {
+pub fn log_of(rt: &HostRuntime, database: &str) -> Result<String, AllocError> {
     format!(in rt.alloc(); "{database}-wal")
 }
 

@@ -1,4 +1,5 @@
 //! The run that makes a database from a record.
+use crate::bases::base_under;
 use crate::new_database::{NewDatabase, part_of};
 use cli_check::{MakeFault, finish};
 use cli_common::{Input, ListInput, Status};
@@ -7,6 +8,7 @@ use std::fs::{self, File};
 use std::io::{self, BufReader, BufWriter, Read, Write};
 use store::{Store, StoreFault};
 use store_file::{DeskStore, close_store};
+use store_memory::MemStore;
 
 /// The paths of a rebuild.
 #[derive(Clone, Copy)]
@@ -60,9 +62,13 @@ impl Place for NewDatabase<'_> {
 /// Makes a database from a record, and then prints what it holds. Nothing of it is left where the run is not done, also
 /// where the output failed. It is an error where memory for a path or for the output's buffer is refused.
 pub fn run(rt: &HostRuntime, rebuild: Rebuild<'_>) -> io::Result<Status> {
+    let base = match base_under(rt, rebuild.record)? {
+        Ok(base) => base,
+        Err(status) => return Ok(status),
+    };
     let part = part_of(rt, rebuild.database)?;
     let made = NewDatabase::claim(rt, rebuild.database, part.as_str());
-    made.end(run_in(rt, rebuild, &made))
+    made.end(run_in(rt, rebuild, base, &made))
 }
 
 /// The lines of the record of a path.
@@ -71,7 +77,12 @@ fn record_at(rt: &HostRuntime, path: &str) -> io::Result<Option<BufReader<File>>
 }
 
 /// The run over the files and the standard streams.
-fn run_in<H: Place>(rt: &HostRuntime, rebuild: Rebuild<'_>, place: &H) -> io::Result<Status> {
+fn run_in<H: Place>(
+    rt: &HostRuntime,
+    rebuild: Rebuild<'_>,
+    base: Option<MemStore>,
+    place: &H,
+) -> io::Result<Status> {
     let mut out = BufWriter::new(rt.alloc(), io::writer(rt))?;
     let building = Input {
         path: rebuild.file,
@@ -82,7 +93,16 @@ fn run_in<H: Place>(rt: &HostRuntime, rebuild: Rebuild<'_>, place: &H) -> io::Re
         open: || record_at(rt, rebuild.record),
     };
     let fault = &mut rt.stderr();
-    Ok(run_over(rt, building, list, rebuild.database, place, &mut out, fault))
+    Ok(run_over(
+        rt,
+        building,
+        list,
+        base,
+        rebuild.database,
+        place,
+        &mut out,
+        fault,
+    ))
 }
 
 /// The same over the files, and generic over them too.
@@ -90,6 +110,7 @@ fn run_over<'a, B: Read + Drop, D: Read + Drop, P, H: Place, W: Write, F: Write>
     rt: &HostRuntime,
     building: Input<'a, B>,
     list: ListInput<'a, P>,
+    base: Option<MemStore>,
     database: &'a str,
     place: &H,
     out: &mut W,
@@ -100,7 +121,15 @@ where
     requires { P.IsAlwaysCallable list.open }
 {
     let alloc = rt.alloc();
-    let rebuilt = rebuild_database(alloc, building, list, database, || place.make(), fault);
+    let rebuilt = rebuild_database(
+        alloc,
+        building,
+        list,
+        base,
+        database,
+        || place.make(),
+        fault,
+    );
     let closer = |made| place.close(made);
     let placer = || place.place();
     let withdrawer = || place.withdraw();

@@ -1,4 +1,5 @@
 //! The runs of the subcommands that take a database.
+use crate::bases::base_under;
 use crate::checks::is_nothing_at;
 use cli_common::{Input, Status};
 use cli_record::Database;
@@ -12,6 +13,7 @@ use std::io::{self, BufReader, BufWriter, ErrorKind, Read, Write};
 use store::{OpenFault, Store, StoreFault};
 use store_cache::Remembered;
 use store_file::{DeskStore, close_store, open_record, open_store};
+use store_memory::MemStore;
 
 /// What a run over a database does.
 #[derive(Clone, Copy)]
@@ -35,7 +37,24 @@ pub fn run<'a>(
     record: Option<&'a str>,
     run: &DatabaseRun<'a>,
 ) -> io::Result<Status> {
-    run_and_close(rt, file, database, &InFile { rt, database }, record, run)
+    let base = match record {
+        Some(record) => base_under(rt, record)?,
+        None => Ok(None),
+    };
+    match base {
+        Ok(base) => {
+            let kept = Kept { record, base };
+            run_and_close(rt, file, database, &InFile { rt, database }, kept, run)
+        }
+        Err(status) => Ok(status),
+    }
+}
+
+/// The path of the record of a run, if it keeps one, and the tables of its base, if it stands on one.
+#[derive(Drop)]
+struct Kept<'a> {
+    record: Option<&'a str>,
+    base: Option<MemStore>,
 }
 
 /// Where a run has its store, and how it closes it. A trait, since a call that names the types of a real store and of
@@ -73,7 +92,7 @@ fn run_and_close<'a, H: Home>(
     file: &'a str,
     path: &'a str,
     home: &H,
-    record: Option<&'a str>,
+    kept: Kept<'a>,
     run: &DatabaseRun<'a>,
 ) -> io::Result<Status> {
     let mut out = BufWriter::new(rt.alloc(), io::writer(rt))?;
@@ -88,7 +107,7 @@ fn run_and_close<'a, H: Home>(
     };
     let closer = |held| home.close(held);
     let fault = &mut rt.stderr();
-    let ended = run_remembered(rt, file, input_of, database, record, run, &mut out, fault);
+    let ended = run_remembered(rt, file, input_of, database, kept, run, &mut out, fault);
     Ok(finish(rt.alloc(), ended, closer, fault))
 }
 
@@ -137,7 +156,7 @@ fn run_remembered<'a, B: Read + Drop, S: Store + Drop, I, O, W: Write, F: Write>
     file: &'a str,
     input_of: I,
     database: Database<'a, O>,
-    record: Option<&'a str>,
+    kept: Kept<'a>,
     run: &DatabaseRun<'a>,
     out: &mut W,
     fault: &mut F,
@@ -159,8 +178,10 @@ where
         is_missing,
         opener: move || remembered(alloc, opener),
     };
+    let Kept { record, base } = kept;
     let recording = Recording {
         path: record,
+        base,
         reader: || found_record(rt, record.unwrap_or("")),
         opener: || open_record(rt, record.unwrap_or("")),
     };
@@ -169,6 +190,18 @@ where
         recording,
     };
     below_of(run_over(rt, file, input_of, opening, run, out, fault))
+}
+
+/// What opens the store.
+fn opener_of<'a, S: Store + Drop, O, P, Q>(opening: Opening<'a, O, P, Q>) -> O
+where
+    O: FnOnce() -> Result<S, OpenFault>,
+    P: Drop,
+    Q: Drop,
+    requires { O.IsAlwaysCallable opening.database.opener }
+    ensures { O.IsAlwaysCallable result }
+{
+    opening.database.opener
 }
 
 /// Makes a run over the files, the store and the record that these calls open. It is generic over them, since a call
@@ -224,14 +257,9 @@ where
             let asked: ClockDelivery<'a, B> = ClockDelivery::Tick { at: *at };
             deliver(alloc, file, asked, opening, out, fault).into_ended()
         }
-        DatabaseRun::Report { date } => report(
-            alloc,
-            file,
-            opening.database.opener,
-            date,
-            out,
-            fault,
-        ),
+        DatabaseRun::Report { date } => {
+            report(alloc, file, opener_of(opening), date, out, fault)
+        }
         DatabaseRun::Serve(serving) => serve(rt, file, opening, serving, out, fault),
     }
 }
