@@ -50,6 +50,7 @@ install: desk panel ## copies the programs, the backup, the units and the page b
 	install -D -m 755 build/desk $(DESTDIR)$(PREFIX)/bin/desk
 	install -D -m 755 build/panel $(DESTDIR)$(PREFIX)/bin/panel
 	install -D -m 755 deploy/desk-backup $(DESTDIR)$(PREFIX)/bin/desk-backup
+	install -D -m 755 deploy/desk-record $(DESTDIR)$(PREFIX)/bin/desk-record
 	install -D -m 755 deploy/desk-unit $(DESTDIR)$(PREFIX)/lib/desk/desk-unit
 	install -D -m 644 -t $(DESTDIR)$(PREFIX)/lib/systemd/system deploy/*.service deploy/*.timer
 	for unit in desk.service desk-tick.service desk-tick.timer desk-backup.service desk-backup.timer; do \

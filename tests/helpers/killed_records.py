@@ -4,11 +4,12 @@ they wait; and `desk tick` and `desk import`.
 After each kill the record has to hold what it held, then each delivery that got a reply, in order, and at most the one
 that got none; what stands after its last line is a beginning of that one's. Then one more run begins with the record and
 answers once, but now and then only after several kills: the tables have to be those of the record's list, by the plain
-slow desk.
+slow desk. Some records stand on a base.
 """
 import contextlib
 import pathlib
 import select
+import shutil
 import socket
 import subprocess
 import tempfile
@@ -46,15 +47,21 @@ class Trial:
         self.program, self.rng, self.room, self.each = program, rng, room, each
         self.building = random_lists.some_building(rng)
         self.rest = random_lists.some_deliveries(rng, self.building, LONGEST)
-        # The list of the record, what stands after it, and how long a run takes that delivers once.
-        self.listed, self.torn, self.start = [], b"", 10 * each
+        # What came before the record, its list, what stands after it, and how long a run takes that delivers once.
+        self.earlier, self.listed, self.torn, self.start = [], [], b"", 10 * each
         (room / "building.toml").write_text(random_lists.toml_of(self.building))
-        made = subprocess.run([program, "report", "building.toml", databases.NAME, "2025-06-02"], cwd=room, capture_output=True)
+        if rng.random() < 0.3:
+            self.earlier = self.reaching(self.take(rng.randint(0, LONGEST // 2)))
+        (room / "earlier.jsonl").write_bytes(recorded.lines_of(self.earlier))
+        made = subprocess.run([program, "rebuild", "building.toml", "earlier.jsonl", databases.NAME], cwd=room, capture_output=True)
         if made.returncode != 0:
             raise AssertionError(f"no database was made: {made.stderr!r}")
+        if self.earlier:
+            shutil.copy(room / databases.NAME, room / f"{recorded.NAME}.base")
 
     def replies_to(self, sent):
-        return run_of(self.building, [*self.listed, *sent])[0][len(self.listed):]
+        before = [*self.earlier, *self.listed]
+        return run_of(self.building, [*before, *sent])[0][len(before):]
 
     def take(self, count):
         sent, self.rest = self.rest[:count], self.rest[count:]
@@ -150,7 +157,7 @@ class Trial:
             raise AssertionError(f"{sent[0]} got no reply, wanted {reply!r}")
         self.start = 0.5 * self.start + 0.5 * (time.monotonic() - begun)
         self.listed, self.torn = [*self.listed, *self.reaching(sent)], b""
-        recorded.in_step(self.room, self.building, self.listed)
+        recorded.in_step(self.room, self.building, self.listed, self.earlier)
 
 
 def try_file(program, rng, each, ends, goes_on):

@@ -42,10 +42,10 @@ def found_after(folder, deliveries, unanswered=None, torn=b""):
     return found
 
 
-def in_step(folder, building, deliveries):
-    """The record holds the list of these deliveries, and the database its tables."""
+def in_step(folder, building, deliveries, earlier=()):
+    """The record holds the list of these deliveries, and the database the tables of the earlier ones with them."""
     expect(bytes_of(folder), lines_of(deliveries))
     held = databases.held(folder)
     # a panel whose commands all wait for number 1 has a row that says no more than none
     held["panel"] = [(name, number) for name, number in held["panel"] if number > 1]
-    expect(held, databases.tables_after(building, deliveries))
+    expect(held, databases.tables_after(building, [*earlier, *deliveries]))

@@ -3,7 +3,7 @@ point, up to the end of the list and up to moments about its ticks; and on worke
 
 What put each value in its place is computed here from the events of the list: the last that wrote the place. The next change
 of a schedule is looked for at each later time that the day's lists name. A list that is read up to a moment has a line that is
-no delivery behind its end, which must not be read.
+no delivery behind its end, which must not be read. Some lists stand on a base: of what was put there before, no more is told.
 """
 import pathlib
 import random
@@ -99,13 +99,15 @@ def note(building, state, held, event):
         note_settling(building, state, held, state.imported | set(event.rows), state.last, when)
 
 
-def held_after(building, deliveries):
-    """The values with their authors by point and priority, and the machine."""
+def held_after(building, earlier, deliveries):
+    """The values with their authors by point and priority, and the machine, after a list on the base of an earlier one."""
     state, held = Machine(), {}
-    for events in events_along(building, deliveries)[1]:
+    for number, events in enumerate(events_along(building, [*earlier, *deliveries])[1], 1):
         for event in events:
             note(building, state, held, event)
             act(building, state, event)
+        if number <= len(earlier):
+            held = {place: (value, "before the record") for place, (value, _) in held.items()}
     expect({place: value for place, (value, _) in held.items()}, state.places)
     return held, state
 
@@ -146,9 +148,9 @@ def next_lines(building, state, point):
 # ---- the text
 
 
-def explained(building, deliveries, point):
-    """What `desk why` prints of a point."""
-    held, state = held_after(building, deliveries)
+def explained(building, deliveries, point, earlier=()):
+    """What `desk why` prints of a point, after a list on the base of an earlier one."""
+    held, state = held_after(building, earlier, deliveries)
     lines = [point_line(building, state.places, point)]
     for priority in range(1, 17):
         if (point.name, priority) in held:
@@ -175,6 +177,11 @@ def some_moment(rng, deliveries):
     return max(-(2**63), min(rng.choice(moments) + rng.choice([-1, 0, 0, 1]), 2**63 - 1))
 
 
+def replayed(building, earlier, deliveries):
+    """What `desk replay` prints of a list on the base of an earlier one."""
+    return "".join(printed(building, [*earlier, *deliveries]).splitlines(keepends=True)[len(earlier):])
+
+
 def list_text(rng, deliveries, until):
     lines = []
     for delivery in deliveries:
@@ -194,28 +201,43 @@ def until_words(until):
     return [] if until is None else [f"--until={until}"]
 
 
-def look_at(program, building, deliveries, until, rng):
-    """Raises where the program and the plain desk differ on one list."""
+def make_base(program, file, listed, rng, earlier):
+    """Makes the base of a list, from an earlier list."""
+    before_it = listed.with_name("earlier.jsonl")
+    before_it.write_text(list_text(rng, earlier, None))
+    expect(run(program, "rebuild", file, before_it, f"{listed}.base")[1:], ("", 0))
+
+
+def look_at(program, building, deliveries, until, rng, earlier=None):
+    """Raises where the program and the plain desk differ on one list, which may stand on the base of an earlier one."""
     with tempfile.TemporaryDirectory(prefix="desk-authors-", dir=IN_MEMORY) as room:
         file, listed = pathlib.Path(room) / "building.toml", pathlib.Path(room) / "list.jsonl"
         file.write_text(random_lists.toml_of(building))
         text = list_text(rng, deliveries, until)
         listed.write_text(text)
         cut = before(deliveries, until)
+        if earlier is not None:
+            make_base(program, file, listed, rng, earlier)
+        earlier = earlier or []
         for point in building.points:
             found = run(program, "why", file, listed, point.name, *until_words(until))
-            expect((point.name, until, text, found), (point.name, until, text, (explained(building, cut, point) + until_text(building, until), "", 0)))
+            wanted = explained(building, cut, point, earlier) + until_text(building, until)
+            expect((point.name, until, earlier, text, found), (point.name, until, earlier, text, (wanted, "", 0)))
         if not any(line in text for line in random_lists.NOTHING[2:]):
             found = run(program, "replay", file, listed, *until_words(until))
-            expect((until, text, found), (until, text, (printed(building, cut) + until_text(building, until), "", 0)))
+            wanted = replayed(building, earlier, cut) + until_text(building, until)
+            expect((until, earlier, text, found), (until, earlier, text, (wanted, "", 0)))
 
 
 def disagreement(program, seed, index):
     rng = random.Random(f"authors {seed} {index}")
     building = random_lists.some_building(rng)
-    deliveries = random_lists.some_deliveries(rng, building, LONGEST)
+    deliveries, earlier = random_lists.some_deliveries(rng, building, LONGEST), None
+    if rng.random() < 0.3:
+        count = rng.randint(0, len(deliveries))
+        earlier, deliveries = deliveries[:count], deliveries[count:]
     try:
-        look_at(program, building, deliveries, some_moment(rng, deliveries), rng)
+        look_at(program, building, deliveries, some_moment(rng, deliveries), rng, earlier)
     except AssertionError as error:
         return f"list {index}: {random_lists.toml_of(building)} found {error}"
     return None

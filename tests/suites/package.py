@@ -24,8 +24,8 @@ MOMENT, MOMENT_LISTED = 1_748_845_800, "2025-06-02 06:30"
 UNITS, EXAMPLES = "usr/lib/systemd/system", "usr/share/doc/desk/examples"
 # What the package has beside the units, the page and the documents.
 OF_SEVERAL = ["desk@.service", "desk-tick@.service", "desk-tick@.timer", "desk-backup@.service", "desk-backup@.timer"]
-WANTED = ["etc/logrotate.d/desk", "usr/lib/desk/desk-unit", "etc/desk/", "usr/bin/desk", "usr/bin/desk-backup", "usr/bin/panel", f"{EXAMPLES}/nginx.conf", f"{EXAMPLES}/office.toml",
-          "usr/share/doc/desk/changelog.gz", "usr/share/doc/desk/copyright", "usr/share/man/man1/desk-backup.1.gz",
+WANTED = ["etc/logrotate.d/desk", "usr/lib/desk/desk-unit", "etc/desk/", "usr/bin/desk", "usr/bin/desk-backup", "usr/bin/desk-record", "usr/bin/panel", f"{EXAMPLES}/nginx.conf", f"{EXAMPLES}/office.toml",
+          "usr/share/doc/desk/changelog.gz", "usr/share/doc/desk/copyright", "usr/share/man/man1/desk-backup.1.gz", "usr/share/man/man1/desk-record.1.gz",
           "usr/share/man/man1/desk.1.gz", "usr/share/man/man1/panel.1.gz"]
 # What the system has, and what the units make as they run.
 ELSEWHERE = ("/bin/sh", "/dev/null", "/etc/desk/", "/var/lib/desk", "/var/backups", "/var/log/desk/", "/run/desk", "/tick")
@@ -91,7 +91,7 @@ def its_programs_are_those_that_were_given(program, _folder):
 def what_its_units_name_is_in_it(program, _folder):
     """No path is that of `make install`. What starts is in the package, or a shell."""
     files = packed(program)[1]
-    for path in (*(files / UNITS).iterdir(), files / "usr/bin/desk-backup", files / "usr/lib/desk/desk-unit", files / EXAMPLES / "nginx.conf"):
+    for path in (*(files / UNITS).iterdir(), files / "usr/bin/desk-backup", files / "usr/bin/desk-record", files / "usr/lib/desk/desk-unit", files / EXAMPLES / "nginx.conf"):
         text = re.sub(r"^#(?!!).*", "", path.read_text(), flags=re.M)
         named = re.findall(r"(?<![\w$.}/:*])/[a-z][\w./-]+", text) if path.name != "nginx.conf" else re.findall(r"root (/usr.*);", text)
         lost = [each for each in named if not each.startswith(ELSEWHERE) and not (files / each[1:]).exists()]

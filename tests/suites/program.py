@@ -4,8 +4,8 @@ A case is a file of tests/cases, named for what it shows: a transcript, and the 
 `-- NAME --`, building.toml among them (without one, the worked building). The transcript is commands that are run one after the other, each after `$ `, and under it what is wanted. A
 command is `desk` with its words, `sql` with a database and a statement, which the C library of SQLite runs; its rows are
 shown with `|` between the columns; or `cat` with a file, which is shown as it is. Of a `desk`, a line `desk: ..` is wanted
-on the standard error, a last line `status N` is the status (without it, 0), and where a fault is reported each file has to
-be as it was before.
+on the standard error, a last line `status N` is the status (without it, 0), and where a fault is reported that ends the run each
+file has to be as it was before.
 """
 import contextlib
 import re
@@ -55,7 +55,7 @@ def desk_differs(program, words, shown, room):
     printed = "".join(line for line in lines if not line.startswith("desk: "))
     before = files_of(room)
     found = difference(run(program, words, room), status, printed.encode(), reported.encode())
-    changed = reported and files_of(room) != before
+    changed = status and reported and files_of(room) != before
     return found or ("a file was changed though a fault was reported" if changed else "")
 
 

@@ -31,6 +31,7 @@ LINE = b'{"number":1,"panel":"P1","point":"R101-SET","priority":8,"value":2150}\
 REFUSED_IMPORTS = [b"calendar,entry\nNOSUCH,2025-06-09\n", b"calendar\n", b"", b"calendar,entry\nHOLIDAYS,2025-13-01\n"]
 UNKNOWN = [post("/panels/P9/commands", COMMAND), post("/panels/skip/skip", SKIP)]
 STORE_FAULT = b"desk: store fault S2\n"
+OTHERWISE = b"desk: with this building file the record makes other values: "
 NOT_MADE = response(500, b'{"answer":"store"}')
 # The last line of the record, which the database lacks, and what is sent then.
 PENDING = command("P2", 3, "R101-SET", 15, 2300)
@@ -251,7 +252,7 @@ def edited(building):
 def only_its_own_record_is_taken(program, folder):
     """Of a database with the tables of a list the list is the record, and the list with one delivery more, which is still
     to be made; any other list is refused, at the first difference in a panel's numbers, what it sent, or the last tick. A
-    building whose rules were edited changes none of that."""
+    building whose rules were edited changes none of that. Where the record makes another value, that is told."""
     rng = random.Random(72)
     for number in range(RECORDS):
         room = folder / str(number)
@@ -268,7 +269,11 @@ def only_its_own_record_is_taken(program, folder):
             words = [program, "tick", "building.toml", databases.NAME, str(TICK.at), *recorded.KEPT]
             ran = subprocess.run(words, cwd=room, capture_output=True, timeout=SECONDS)
             if is_own(building, deliveries, listed):
-                expect((listed, ran.returncode, ran.stderr), (listed, 0, b""))
+                told = ran.stderr.startswith(OTHERWISE)
+                expect((listed, ran.returncode, told or ran.stderr == b""), (listed, 0, True))
+                # what an edited building makes is not reckoned here
+                if number % 2 == 0:
+                    expect((listed, told), (listed, makes_otherwise(building, deliveries, listed)))
                 continue
             expect((listed, ran.returncode, ran.stdout), (listed, 1, b""))
             expect(ran.stderr.startswith(f"desk: {recorded.NAME} is not the record of {databases.NAME}: ".encode()), True)
@@ -292,10 +297,20 @@ def numbers_of(tables):
     return tables["panel"], [row[:5] for row in tables["command"]], tables["desk"]
 
 
-def is_own(building, deliveries, listed):
-    held = numbers_of(databases.tables_after(building, deliveries))
+def own_tables(building, held, listed):
+    """The tables of a list, or of all but its last delivery, if by them the record of the list is that of a database."""
     lists = [listed] + ([listed[:-1]] if listed else [])
-    return held in [numbers_of(databases.tables_after(building, each)) for each in lists]
+    return [each for each in (databases.tables_after(building, it) for it in lists) if numbers_of(each) == numbers_of(held)]
+
+
+def is_own(building, deliveries, listed):
+    return own_tables(building, databases.tables_after(building, deliveries), listed) != []
+
+
+def makes_otherwise(building, deliveries, listed):
+    """Whether none of them leaves each point the values that it has in the database."""
+    held = databases.tables_after(building, deliveries)
+    return all(each["place"] != held["place"] for each in own_tables(building, held, listed))
 
 
 def what_a_stop_left_of_a_line_is_taken_off(program, folder):
