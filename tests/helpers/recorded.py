@@ -1,7 +1,9 @@
 """What a record has to hold: a list of deliveries, a line each, as a run with `--record` writes them down."""
 from helpers import databases
+from helpers.deliveries import deliver, members_of, request_of
+from helpers.serving import serving
 from helpers.trying import expect
-from oracle.slow_desk import Import, delivery_line, unknown_row
+from oracle.slow_desk import Import, delivery_line, run_of, unknown_row
 
 NAME = "record.jsonl"
 KEPT = ("--record", NAME)
@@ -49,3 +51,12 @@ def in_step(folder, building, deliveries, earlier=()):
     # a panel whose commands all wait for number 1 has a row that says no more than none
     held["panel"] = [(name, number) for name, number in held["panel"] if number > 1]
     expect(held, databases.tables_after(building, [*earlier, *deliveries]))
+
+
+def goes_on(program, folder, building, listed, later, earlier=()):
+    """A desk acts on more deliveries, beside the record of a list, as after all that came before."""
+    before = [*earlier, *listed]
+    replies = run_of(building, [*before, *later])[0][len(before):]
+    with serving(program, folder, len(later), *KEPT) as server:
+        deliver(server, [(request_of(members_of(each)), reply) for each, reply in zip(later, replies)])
+    in_step(folder, building, [*listed, *later], earlier)

@@ -8,13 +8,11 @@ import json
 import os
 import pathlib
 import shutil
-import subprocess
 import threading
 import time
 
 from helpers import databases, recorded
 from helpers.rooms import DAYS, PANEL, WINDOW, Panel, in_room
-from helpers.serving import SECONDS
 from helpers.trying import expect
 from helpers.worked import BUILDING, command
 from oracle.slow_desk import Skip

@@ -20,7 +20,7 @@ from helpers.serving import SECONDS, serving
 from helpers.tables import WORKED, in_worked
 from helpers.trying import expect
 from helpers.worked import BUILDING, HOLIDAY, command, light
-from oracle.slow_desk import Tick, run_of
+from oracle.slow_desk import Tick
 
 RECORDS = 40
 KILLS = 40
@@ -53,15 +53,6 @@ def check(program, folder):
 
 # ---- random records
 
-def goes_on(program, folder, building, earlier, listed, later):
-    """A desk acts on more deliveries, beside the record, as after all earlier ones."""
-    before = [*earlier, *listed]
-    replies = run_of(building, [*before, *later])[0][len(before):]
-    with serving(program, folder, len(later), *recorded.KEPT) as server:
-        deliver(server, [(request_of(members_of(each)), reply) for each, reply in zip(later, replies)])
-    recorded.in_step(folder, building, [*listed, *later], earlier)
-
-
 def random_record_stands_on_a_base(program, folder, rng, number):
     building = random_lists.some_building(rng)
     deliveries = [each for each in deliveries_at(number + 1)(rng, building) if recorded.reaches_the_desk(building, each)]
@@ -72,7 +63,7 @@ def random_record_stands_on_a_base(program, folder, rng, number):
     base = (folder / BASE).read_bytes()
     expect(check(program, folder), (f"record: {len(listed)} deliveries\n", "", 0))
     if later:
-        goes_on(program, folder, building, earlier, listed, later)
+        recorded.goes_on(program, folder, building, listed, later, earlier)
     (folder / databases.NAME).rename(folder / "lost.db")
     (folder / f"{databases.NAME}-wal").unlink(missing_ok=True)
     expect(run(program, folder, "rebuild", "building.toml", recorded.NAME, databases.NAME)[1:], ("", 0))

@@ -14,13 +14,13 @@ import time
 
 from helpers import databases, random_lists, recorded
 from helpers.adoptions import holdings_of, tables_in
-from helpers.deliveries import deliver, deliveries_at, members_of, request_of
+from helpers.deliveries import deliveries_at
 from helpers.killed_records import killed_after
-from helpers.serving import SECONDS, serving
+from helpers.serving import SECONDS
 from helpers.tables import LINES_REFUSED, WORKED, in_worked
 from helpers.trying import expect
 from helpers.worked import BUILDING, HOLIDAY, command, light
-from oracle.slow_desk import Import, Tick, run_of
+from oracle.slow_desk import Import, Tick
 
 RECORDS = 60
 WORDS = ("rebuild", "building.toml", recorded.NAME, databases.NAME)
@@ -53,14 +53,6 @@ def is_made(folder, ran, building, deliveries, torn=b""):
     expect(ran.stdout.decode(), passed_over(len(torn)) + holdings_of(tables_in(folder / databases.NAME)) + "\n")
 
 
-def goes_on(program, folder, building, earlier, later):
-    """A desk acts on more deliveries, beside the record, as after the earlier ones."""
-    replies = run_of(building, [*earlier, *later])[0][len(earlier):]
-    with serving(program, folder, len(later), *recorded.KEPT) as server:
-        deliver(server, [(request_of(members_of(each)), reply) for each, reply in zip(later, replies)])
-    recorded.in_step(folder, building, [*earlier, *later])
-
-
 def random_record_is_rebuilt(program, folder, rng, number):
     building = random_lists.some_building(rng)
     deliveries = [each for each in deliveries_at(number + 1)(rng, building) if recorded.reaches_the_desk(building, each)]
@@ -74,7 +66,7 @@ def random_record_is_rebuilt(program, folder, rng, number):
     checked = subprocess.run([program, "check", "building.toml", databases.NAME, *recorded.KEPT], cwd=folder, capture_output=True)
     expect((checked.returncode, checked.stdout), (0, f"record: {len(earlier)} deliveries\n".encode()))
     if later:
-        goes_on(program, folder, building, earlier, later)
+        recorded.goes_on(program, folder, building, earlier, later)
 
 
 def random_records_are_rebuilt(program, folder):
@@ -151,7 +143,7 @@ def a_line_left_out_is_taken_back(program, folder):
     copy = subprocess.run(["grep", "-v", "-e", '"tick":400000000000', "-e", "2025-06-03", recorded.NAME], cwd=folder, capture_output=True)
     record.write_bytes(copy.stdout)
     is_made(folder, rebuild(program, folder), BUILDING, stays)
-    goes_on(program, folder, BUILDING, stays, [Tick(174884400001), light(3)])
+    recorded.goes_on(program, folder, BUILDING, stays, [Tick(174884400001), light(3)])
 
 
 # ---- long records
