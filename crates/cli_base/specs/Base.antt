@@ -1,9 +1,13 @@
 -- What a base has: the tables of the deliveries before a record began.
-use Rattle.std.specs.Prelude.{◌≡◌, ⊤, ℕ, IfOk, List, [], Option, Some, None, Result, Ok}
+use Rattle.std.specs.Prelude.{◌≡◌, ◌⊎◌, ⊤, ℕ, IfOk, List, [], Option, Some, None, Result, Ok, Err}
 use Rattle.building.specs.Building.{Building, contents_of}
 use Rattle.building.specs.BuildingFile.{building_of}
 use Rattle.deliveries.specs.declared.delivery.Delivery.{Delivery}
+use Rattle.cli_base.specs.declared.reading.BaseFault.{BaseFault}
+use Rattle.cli_base.specs.declared.reading.BaseFault.TheVariants.{NotOpened, NotRead}
 use Rattle.deliveries.specs.Delivered.{Holds}
+use Rattle.store.specs.declared.fault.StoreFault.{StoreFault}
+use Rattle.store.specs.declared.fault.StoreFault.TheVariants.{BadRow, NoMemory}
 use Rattle.store.specs.declared.open_fault.OpenFault.{OpenFault}
 use Rattle.store.specs.Standing.{Reads, Standing}
 use Rattle.store_memory.specs.declared.mem_store.MemStore.{MemStore}
@@ -35,6 +39,17 @@ IsOnlyRead standing (Some found) (Some left) = Reads None (standing found) (stan
 abbrev pub IsHonest : {S : Type 0} → (S → Standing) → Option S → Type 0
 IsHonest standing None = ⊤
 IsHonest standing (Some left) = (standing left).is_honest
+
+-- what a store in memory may tell: that there is no memory, or that what it has can't stand
+abbrev pub IsOfMemory : StoreFault → Type 0
+IsOfMemory fault = (fault ≡ NoMemory) ⊎ (fault ≡ BadRow)
+
+-- why a base is not read: it was not found, as what finds it told; or it was, and the store told the fault as it was read, or memory for
+-- its tables was refused, or they can't stand
+abbrev pub IsCause : {S : Type 0} → (S → Standing) → (Result (Option S) OpenFault → Type 0) → BaseFault → Type 0
+IsCause standing may_find (NotOpened fault) = may_find (Err fault)
+IsCause {S} standing may_find (NotRead fault) = (found : S) × may_find (Ok (Some found))
+    × (((left : S) × Reads (Some fault) (standing found) (standing left)) ⊎ IsOfMemory fault)
 
 -- A base was found and only read, and this is what it left; its tables in memory are of the same earlier deliveries,
 -- whatever they are.

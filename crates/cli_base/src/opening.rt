@@ -1,7 +1,7 @@
 //! A desk over a base.
 ghost use Rattle.std.specs.Prelude.{◌≡◌, IfErr, IfOk, List};
 ghost use Rattle.building.specs.Building.{Building as a_building};
-ghost use Rattle.cli_base.specs.Base.{BeginsOn};
+ghost use Rattle.cli_base.specs.Base.{BeginsOn, IsOfMemory};
 ghost use Rattle.deliveries.specs.Delivered.{Holds};
 ghost use Rattle.deliveries.specs.declared.delivery.Delivery.{Delivery as a_delivery};
 ghost use Rattle.store.specs.declared.fault.StoreFault.TheVariants.{BadRow};
@@ -36,6 +36,7 @@ pub fn desk_on(
         → IfOk result (λ desk. Holds building earlier (standing_of desk.store)) }
     ensures own_tables { (earlier : List a_delivery) → BeginsOn standing_of building earlier base
         → IfErr result (λ fault. fault ≡ BadRow → ⊥) }
+    ensures cause { IfErr result IsOfMemory }
 {
     match Desk::open(alloc, building, tables_of(alloc, base)) {
         Ok(desk) => Ok(desk),

@@ -1,7 +1,7 @@
 //! The tables of a base are read into memory.
-ghost use Rattle.std.specs.Prelude.{IfOk, List};
+ghost use Rattle.std.specs.Prelude.{◌≡◌, IfErr, IfOk, List, Ok};
 ghost use Rattle.building.specs.Building.{Building as a_building};
-ghost use Rattle.cli_base.specs.Base.{BeginsOn, IsHonest, IsOnlyRead, IsRead, MayBeginOn};
+ghost use Rattle.cli_base.specs.Base.{BeginsOn, IsCause, IsHonest, IsOnlyRead, IsRead, MayBeginOn};
 ghost use Rattle.deliveries.specs.declared.delivery.Delivery.{Delivery as a_delivery};
 ghost use Rattle.store_memory.specs.Memory.{standing_of};
 
@@ -37,6 +37,7 @@ where
     ensures begins { IfOk result (λ base. (building : a_building) (earlier : List a_delivery)
         → MayBeginOn S.standing (N.post finder) building earlier → IsHonest S.standing base.store
         → BeginsOn standing_of building earlier base.tables) }
+    ensures cause { IfErr result (IsCause S.standing (N.post finder)) }
 {
     match finder() {
         Ok(found) => copied(alloc, found),
@@ -50,6 +51,7 @@ fn copied<S: Store + Drop>(alloc: Global, found: Option<S>) -> Result<Base<S>, B
     ensures begins { IfOk result (λ base. (building : a_building) (earlier : List a_delivery)
         → BeginsOn S.standing building earlier found → IsHonest S.standing base.store
         → BeginsOn standing_of building earlier base.tables) }
+    ensures cause { IfErr result (IsCause S.standing (λ it. it ≡ Ok found)) }
 {
     let mut memory = MemStore::new(alloc);
     match found {

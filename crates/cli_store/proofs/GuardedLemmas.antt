@@ -8,6 +8,7 @@ use Rattle.store.specs.declared.open_fault.OpenFault.{OpenFault}
 use Rattle.store.specs.Standing.{Standing}
 use Rattle.store_memory.specs.declared.mem_store.MemStore.{MemStore}
 use Rattle.cli_store.specs.Guarded.{IsGuarded}
+use Rattle.cli_store.specs.Otherwise.{SaysOtherwise, Tells}
 
 module _ {S : Type 0} (standing : S → Standing) (may_open : Result S OpenFault → Type 0) (is_missing : Bool) (building : Building)
     (base : Option MemStore) (may_have : List ℕ → Type 0) where
@@ -30,6 +31,22 @@ module _ {S : Type 0} (standing : S → Standing) (may_open : Result S OpenFault
         is = λ earlier begins. beside.own honest earlier begins list has;
       },
     );
+  }
+
+  -- what the record makes otherwise was told then
+  pub began-telling : (file list : List ℕ) (began : S) (old new : Option (List ℕ)) (otherwise : Option Difference) → Tells otherwise old new
+      → OpensBeside standing may_open is_missing building base may_have otherwise (standing began)
+      → may_have list → building_of file ≡ Ok (contents_of building) → SaysOtherwise standing may_open file base list old new
+  began-telling file list began old new otherwise told beside has is = record {
+    building = building;
+    building_is = is;
+    opened = beside.reads.opened;
+    is_opened = beside.reads.is_opened;
+    began = began;
+    still = beside.reads.still;
+    otherwise = otherwise;
+    is = λ honest earlier begins. beside.told honest earlier begins list has;
+    told = told;
   }
 
   -- it began nothing

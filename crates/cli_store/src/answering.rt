@@ -13,7 +13,7 @@ ghost use Rattle.cli_record.specs.Beside.{OpensBeside, ReadsBeside};
 ghost use Rattle.cli_record.specs.declared.difference.Difference.{Difference as a_difference};
 ghost use Rattle.cli_record.specs.Replayed.{MayHave};
 ghost use Rattle.cli_store.specs.Guarded.{IsGuarded};
-ghost use Rattle.cli_store.specs.Otherwise.{TellsAtMost};
+ghost use Rattle.cli_store.specs.Otherwise.{SaysOtherwise, Tells};
 ghost use Rattle.cli_store.specs.Recorded.{Adds, IsRecorded, Records};
 
 use crate::clock_delivery::{ClockDelivery, read_asked};
@@ -91,12 +91,12 @@ where
     requires { P.IsAlwaysCallable list.open × O.IsAlwaysCallable database.opener }
     ensures building { IfOk result (λ desk. desk.building ≡ building) }
     ensures opened { IfOk result (λ desk. (otherwise : Option a_difference)
+        × Tells otherwise (F.contents fault.old) (F.contents fault.new)
         × OpensBeside S.standing (O.post database.entry.opener) database.entry.is_missing building base
         (MayHave (P.post list.entry.open) (reader_remaining R.remaining)) otherwise (S.standing desk.store)) }
     ensures refused { IfErr result (λ end. (left : S) → end.store ≡ Some left
         → ReadsBeside S.standing (O.post database.entry.opener) database.entry.is_missing building base
         (MayHave (P.post list.entry.open) (reader_remaining R.remaining)) (S.standing left)) }
-    ensures told { TellsAtMost (F.contents fault.old) (F.contents fault.new) }
 {
     match open_beside(alloc, building, list, base, database) {
         Ok(beside) => {
@@ -129,13 +129,13 @@ where
         → Opens (O.post database.entry.opener) (λ store. IsBehind building earlier deliveries (S.standing store))
         → IfOk result (λ it. (S.standing it.store).is_honest → IsBehind building earlier deliveries (S.standing it.store)) }
     ensures opened { IsSome path.entry → IfOk result (λ it. (otherwise : Option a_difference)
+        × Tells otherwise (F.contents fault.old) (F.contents fault.new)
         × OpensBeside S.standing (O.post database.entry.opener) database.entry.is_missing building base
         (MayHave (P.post reader) (reader_remaining R.remaining)) otherwise (S.standing it.store)) }
     ensures refused { IsSome path.entry → IfErr result (λ end. (left : S) → end.store ≡ Some left
         → ReadsBeside S.standing (O.post database.entry.opener) database.entry.is_missing building base
         (MayHave (P.post reader) (reader_remaining R.remaining)) (S.standing left)) }
     ensures quiet { path.entry ≡ None → Keeps (F.contents fault.old) (F.contents fault.new) }
-    ensures told { TellsAtMost (F.contents fault.old) (F.contents fault.new) }
 {
     let Some(path) = path else {
         return open_desk(alloc, building, database.opener);
@@ -304,7 +304,11 @@ where
         → IsGuarded S.standing (O.post opening.entry.database.opener) opening.entry.database.is_missing file_bytes
         opening.entry.recording.base list_bytes left) }
     ensures quiet { opening.entry.recording.path ≡ None → Keeps (F.contents fault.old) (F.contents fault.new) }
-    ensures told { TellsAtMost (F.contents fault.old) (F.contents fault.new) }
+    ensures told { IsSome opening.entry.recording.path → (file_bytes list_bytes : List ℕ)
+        → bytes_of B.remaining file.entry.reader ≡ Some file_bytes
+        → MayHave (P.post opening.entry.recording.reader) (reader_remaining R.remaining) list_bytes
+        → IfOk result (λ answered. SaysOtherwise S.standing (O.post opening.entry.database.opener) file_bytes
+        opening.entry.recording.base list_bytes (F.contents fault.old) (F.contents fault.new)) }
 {
     let Opening {
         database,

@@ -6,7 +6,7 @@ ghost use Rattle.cli_common.specs.Input.{bytes_of};
 ghost use Rattle.cli_store.specs.Answered.{Asks, IsAnswered};
 ghost use Rattle.cli_record.specs.Replayed.{MayHave};
 ghost use Rattle.cli_store.specs.Guarded.{IsGuarded};
-ghost use Rattle.cli_store.specs.Otherwise.{TellsAtMost};
+ghost use Rattle.cli_store.specs.Otherwise.{SaysOtherwise};
 ghost use Rattle.cli_store.specs.Recorded.{IsRecorded};
 
 use crate::answering::{Answered, answer};
@@ -25,8 +25,9 @@ use store::{OpenFault, Store};
 /// is kept, it is read through before the store is opened, and nothing is delivered to a store that is not its own.
 ///
 /// Where the building makes other values of the record than the store has, the first is printed to `fault` as a line, and
-/// the run goes on. A moment that can't be ticked is answered `bad_moment`, and the status says so. A fault is printed to `fault` as one
-/// line, as one of the list is, and then nothing is delivered; what the store answered before the output failed stands.
+/// the run goes on. A moment that can't be ticked is answered `bad_moment`, and the status says so. A fault is printed to
+/// `fault` as one line, as one of the list is, and then nothing is delivered; what the store answered before the output
+/// failed stands.
 pub fn deliver<
     'a,
     B: Read + Drop,
@@ -74,7 +75,11 @@ where
         opening.entry.recording.base list_bytes left }
     ensures quiet { result.ended.status ≡ Status.Done → opening.entry.recording.path ≡ None
         → Keeps (F.contents fault.old) (F.contents fault.new) }
-    ensures told { result.ended.status ≡ Status.Done → TellsAtMost (F.contents fault.old) (F.contents fault.new) }
+    ensures told { result.ended.status ≡ Status.Done → IsSome opening.entry.recording.path → (file_bytes list_bytes : List ℕ)
+        → bytes_of B.remaining file.entry.reader ≡ Some file_bytes
+        → MayHave (P.post opening.entry.recording.reader) (reader_remaining R.remaining) list_bytes
+        → SaysOtherwise S.standing (O.post opening.entry.database.opener) file_bytes opening.entry.recording.base list_bytes
+        (F.contents fault.old) (F.contents fault.new) }
 {
     match answer(alloc, file, asked, opening, out, fault) {
         Ok(Answered { reply, store, disk }) => Delivered {

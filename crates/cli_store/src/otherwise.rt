@@ -1,7 +1,6 @@
 //! The line of a start whose building file makes other values of the record than the database has.
-ghost use Rattle.std.specs.Prelude.{◌≡◌, IfOk, None, string_bytes};
-ghost use Rattle.std.specs.Io.KnownBytes.{Keeps};
-ghost use Rattle.cli_store.specs.Otherwise.{TellsAtMost, otherwise_line};
+ghost use Rattle.std.specs.Prelude.{◌≡◌, IfOk, string_bytes};
+ghost use Rattle.cli_store.specs.Otherwise.{Tells, otherwise_line};
 
 use cli_common::print_text;
 use cli_record::Difference;
@@ -17,7 +16,7 @@ fn otherwise_line(alloc: Global, difference: &Difference) -> Result<String, Allo
 
 /// Prints it, if there is one. The run goes on, also where memory for it is refused or the output fails.
 pub(crate) fn tell_otherwise<F: Write>(alloc: Global, otherwise: Option<Difference>, fault: &mut F)
-    ensures told { TellsAtMost (F.contents fault.old) (F.contents fault.new) }
+    ensures { Tells otherwise.entry (F.contents fault.old) (F.contents fault.new) }
 {
     let Some(difference) = otherwise else {
         return;

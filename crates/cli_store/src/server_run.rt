@@ -7,7 +7,7 @@ ghost use Rattle.cli_common.specs.Input.{bytes_of};
 ghost use Rattle.cli_record.specs.Replayed.{MayHave};
 ghost use Rattle.cli_store.specs.Guarded.{IsGuarded};
 ghost use Rattle.cli_store.specs.Listening.{listening_line};
-ghost use Rattle.cli_store.specs.Otherwise.{TellsAtMost};
+ghost use Rattle.cli_store.specs.Otherwise.{SaysOtherwise};
 
 use crate::answering::open_kept;
 use crate::ended::{Ended, Stopped};
@@ -37,8 +37,9 @@ pub struct Serving<'a> {
 
 /// Serves the desk of the building of a file over the store that is opened: `desk serve`. The store is opened after the
 /// building is read; if a record is kept, it is read through before, and a store that is not its own is not served; where
-/// the building makes other values of it than the store has, the first is printed to `fault` as a line. Then the address is listened on, which is printed as a line, and then connections are taken. A record that can't be written
-/// any more ends the run.
+/// the building makes other values of it than the store has, the first is printed to `fault` as a line. Then the address
+/// is listened on, which is printed as a line, and then connections are taken. A record that can't be written any more
+/// ends the run.
 ///
 /// A fault is printed to `fault` as one line. What the store answered stands, and it is handed back.
 pub fn serve<
@@ -78,7 +79,11 @@ where
         opening.entry.recording.base list_bytes left }
     ensures quiet { result.status ≡ Status.Done → opening.entry.recording.path ≡ None
         → Keeps (F.contents fault.old) (F.contents fault.new) }
-    ensures told { result.status ≡ Status.Done → TellsAtMost (F.contents fault.old) (F.contents fault.new) }
+    ensures told { result.status ≡ Status.Done → IsSome opening.entry.recording.path → (file_bytes list_bytes : List ℕ)
+        → bytes_of B.remaining file.entry.reader ≡ Some file_bytes
+        → MayHave (P.post opening.entry.recording.reader) (reader_remaining R.remaining) list_bytes
+        → SaysOtherwise S.standing (O.post opening.entry.database.opener) file_bytes opening.entry.recording.base list_bytes
+        (F.contents fault.old) (F.contents fault.new) }
 {
     match serve_over(rt, file, opening, serving, out, fault) {
         Ok(ended) => ended,
@@ -128,7 +133,11 @@ where
         opening.entry.recording.base list_bytes left) }
     ensures listening { OnOk result (Appends (W.contents out.old) (W.contents out.new) (listening_line serving.now.address.now)) }
     ensures quiet { opening.entry.recording.path ≡ None → Keeps (F.contents fault.old) (F.contents fault.new) }
-    ensures told { TellsAtMost (F.contents fault.old) (F.contents fault.new) }
+    ensures told { IsSome opening.entry.recording.path → (file_bytes list_bytes : List ℕ)
+        → bytes_of B.remaining file.entry.reader ≡ Some file_bytes
+        → MayHave (P.post opening.entry.recording.reader) (reader_remaining R.remaining) list_bytes
+        → IfOk result (λ ended. SaysOtherwise S.standing (O.post opening.entry.database.opener) file_bytes
+        opening.entry.recording.base list_bytes (F.contents fault.old) (F.contents fault.new)) }
 {
     let alloc = rt.alloc();
     let Opening {

@@ -9,7 +9,7 @@ use Rattle.desk_record.specs.Recorded.{IsBehind, listed}
 use Rattle.cli_store.specs.Recorded.{Records}
 use Rattle.deliveries.specs.Delivered.{Holds}
 use Rattle.cli_store.specs.declared.ended.Stopped.{Stopped}
-use Rattle.cli_store.proofs.GuardedLemmas.{began-own, none-left, only-read, passed-on}
+use Rattle.cli_store.proofs.GuardedLemmas.{began-own, began-telling, none-left, only-read, passed-on}
 use Rattle.cli_store.proofs.answering.answer.Goals as goal
 
 pub returns-in-Ok-clause-answered : goal.returns-in-Ok-clause-answered
@@ -68,13 +68,13 @@ returns-in-Ok-clause-recorded g c = λ kept file_bytes file.
 
 pub returns-in-Ok-clause-guarded : goal.returns-in-Ok-clause-guarded
 returns-in-Ok-clause-guarded g c = λ kept file_bytes list_bytes file list.
-    let (otherwise, beside) = c.in_ok-desk.ensures.opened kept in
+    let (otherwise, told, beside) = c.in_ok-desk.ensures.opened kept in
     began-own g.S.Store.standing _ _ c.in_ok-building.building _ _ file_bytes list_bytes c.in_ok-desk.desk.store c.into_store-store.result
     otherwise beside list (c.in_ok-building.ensures file_bytes file)
 
 pub returns-clause-stopped : goal.returns-clause-stopped
 returns-clause-stopped g c = λ kept file_bytes list_bytes file list left is.
-    let (otherwise, beside) = c.in_ok-desk.ensures.opened kept in
+    let (otherwise, told, beside) = c.in_ok-desk.ensures.opened kept in
     began-own g.S.Store.standing _ _ c.in_ok-building.building _ _ file_bytes list_bytes c.in_ok-desk.desk.store left
     otherwise beside list (c.in_ok-building.ensures file_bytes file)
 
@@ -91,3 +91,9 @@ pub returns-in_err-delivery-clause-stopped : goal.returns-in_err-delivery-clause
 returns-in_err-delivery-clause-stopped g c = λ kept file_bytes list_bytes file list.
     passed-on c.from_residual-in_err-delivery.result c.from_residual-in_err-delivery.ensures.1 (λ end none left is.
     absurd (none-left end.store left none is))
+
+pub returns-in-Ok-clause-told : goal.returns-in-Ok-clause-told
+returns-in-Ok-clause-told g c = λ kept file_bytes list_bytes file list.
+    let (otherwise, told, beside) = c.in_ok-desk.ensures.opened kept in
+    began-telling g.S.Store.standing _ _ c.in_ok-building.building _ _ file_bytes list_bytes c.in_ok-desk.desk.store _ _ otherwise told beside list
+    (c.in_ok-building.ensures file_bytes file)

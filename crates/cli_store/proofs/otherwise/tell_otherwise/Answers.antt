@@ -1,12 +1,9 @@
-use Rattle.std.proofs.Common.{◌∙◌, inr, subst}
+use Rattle.std.proofs.Common.{◌∙◌, Option, None, Some, refl, subst, sym}
+use Rattle.std.proofs.KnownBytes.{Appends-nil, Keeps-refl}
 use Rattle.points.specs.Beginnings.{AppendsStart}
+use Rattle.cli_store.specs.Otherwise.{Tells}
 use Rattle.cli_store.proofs.otherwise.tell_otherwise.Goals as goal
 
-pub returns-in-Ok : goal.returns-in-Ok
-returns-in-Ok g c = record {
-  told = inr (
-    c.in-Some.difference,
-    subst (AppendsStart (g.F.Write.contents c.args.fault.now) (g.F.Write.contents c.print_text-printed.new.out))
-        (c.as_bytes.ensures.value ∙ c.in-Ok.ensures) c.print_text-printed.ensures.no_more,
-  );
-}
+pub returns : goal.returns
+returns g c = subst (λ (otherwise : Option _). Tells otherwise (g.F.Write.contents c.args.fault.now) (g.F.Write.contents c.args.fault.now))
+    (sym c.in-None.is) (Keeps-refl (g.F.Write.contents c.args.fault.now))
