@@ -77,6 +77,10 @@ deliveries_app name = with_rule (file_app name) (needed_rule (codes "deliveries"
 abbrev pub until_rule : Rule
 until_rule = record (new_rule (codes "until")) { long = Some (codes "until"); value_names = 1 }
 
+-- a moment from which on a list is told
+abbrev pub from_rule : Rule
+from_rule = record (new_rule (codes "from")) { long = Some (codes "from"); value_names = 1 }
+
 -- `replay FILE DELIVERIES [--until AT]`
 abbrev pub replay_app : App
 replay_app = with_rule (deliveries_app (codes "replay")) until_rule
@@ -84,6 +88,10 @@ replay_app = with_rule (deliveries_app (codes "replay")) until_rule
 -- `why FILE DELIVERIES POINT [--until AT]`
 abbrev pub why_app : App
 why_app = with_rule (with_rule (deliveries_app (codes "why")) (needed_rule (codes "point"))) until_rule
+
+-- `overrides FILE DELIVERIES [--from AT] [--until AT]`
+abbrev pub overrides_app : App
+overrides_app = with_rule (with_rule (deliveries_app (codes "overrides")) from_rule) until_rule
 
 -- `straighten FILE DELIVERIES`
 abbrev pub straighten_app : App
@@ -126,10 +134,10 @@ serve_app = with_rule (with_rule (with_rule
 abbrev pub desk_app : App
 desk_app =
     with_subcommand (with_subcommand (with_subcommand (with_subcommand (with_subcommand (with_subcommand (with_subcommand
-    (with_subcommand (with_subcommand (with_subcommand (with_subcommand (with_subcommand
+    (with_subcommand (with_subcommand (with_subcommand (with_subcommand (with_subcommand (with_subcommand
     (on_top (λ s. record s { has_version = true; subcommand_required = true }) (new_app (codes "desk")))
-    check_app.top) describe_app.top) replay_app.top) why_app.top) straighten_app.top) import_app.top) tick_app.top) report_app.top)
-    serve_app.top) adopt_app.top) rebuild_app.top) days_app.top
+    check_app.top) describe_app.top) replay_app.top) why_app.top) overrides_app.top) straighten_app.top) import_app.top)
+    tick_app.top) report_app.top) serve_app.top) adopt_app.top) rebuild_app.top) days_app.top
 
 -- what is made, if memory is had, is the command `app`, with no argument for its subcommands too
 abbrev pub Makes : {E : Type 0} → App → Result Command E → Type 0
@@ -145,6 +153,7 @@ pub data LineValue : Type 0 where
   Describe : (file : Text) → LineValue
   Replay : (file : Text) → (deliveries : Text) → (until : Option Text) → LineValue
   Why : (file : Text) → (deliveries : Text) → (point : Text) → (until : Option Text) → LineValue
+  Overrides : (file deliveries : Text) → (from until : Option Text) → LineValue
   Straighten : (file : Text) → (deliveries : Text) → LineValue
   Import : (file : Text) → (database : Text) → (holidays : Text) → (dry_run : Bool) → (kept : Option Text) → LineValue
   Tick : (file : Text) → (database : Text) → (at : ℤ) → (kept : Option Text) → LineValue
@@ -164,6 +173,7 @@ line_value (line.Rebuild file of made) = Rebuild file.now of.now made.now
 line_value (line.Describe file) = Describe file.now
 line_value (line.Replay file deliveries until) = Replay file.now deliveries.now (text_of until)
 line_value (line.Why file deliveries point until) = Why file.now deliveries.now point.now (text_of until)
+line_value (line.Overrides file deliveries from until) = Overrides file.now deliveries.now (text_of from) (text_of until)
 line_value (line.Straighten file deliveries) = Straighten file.now deliveries.now
 line_value (line.Import file database holidays dry_run kept) = Import file.now database.now holidays.now dry_run (text_of kept)
 line_value (line.Tick file database at kept) = Tick file.now database.now at (text_of kept)
@@ -220,6 +230,11 @@ abbrev pub why_in : List Row → Option LineValue
 why_in rows = option_and_then (λ file. option_and_then (λ deliveries. option_map (λ point. Why file deliveries point (first_of (codes "until") rows))
     (first_of (codes "point") rows)) (first_of (codes "deliveries") rows)) (first_of (codes "file") rows)
 
+abbrev pub overrides_in : List Row → Option LineValue
+overrides_in rows = option_and_then (λ file. option_map (λ deliveries.
+    Overrides file deliveries (first_of (codes "from") rows) (first_of (codes "until") rows))
+    (first_of (codes "deliveries") rows)) (first_of (codes "file") rows)
+
 abbrev pub straighten_in : List Row → Option LineValue
 straighten_in rows = option_and_then (λ file. option_map (λ deliveries. Straighten file deliveries)
     (first_of (codes "deliveries") rows)) (first_of (codes "file") rows)
@@ -266,11 +281,12 @@ asked_in (name, rows) =
     else (if bytes_eq name (codes "describe") then describe_in rows
     else (if bytes_eq name (codes "replay") then replay_in rows
     else (if bytes_eq name (codes "why") then why_in rows
+    else (if bytes_eq name (codes "overrides") then overrides_in rows
     else (if bytes_eq name (codes "straighten") then straighten_in rows
     else (if bytes_eq name (codes "import") then import_in rows
     else (if bytes_eq name (codes "tick") then tick_in rows
     else (if bytes_eq name (codes "report") then report_in rows
-    else (if bytes_eq name (codes "serve") then serve_in rows else None)))))))))))
+    else (if bytes_eq name (codes "serve") then serve_in rows else None))))))))))))
 
 -- what the words ask, the program's name first
 abbrev pub asked : List Text → Option LineValue

@@ -2,8 +2,8 @@
 
 ghost use Rattle.std.specs.Prelude.{◌≡◌, false};
 ghost use Rattle.clap.specs.Words.{rule_of};
-ghost use Rattle.cli_words.specs.Line.{flag_rule, looked_over_rule, needed_rule, record_rule, rename_rule};
-ghost use Rattle.cli_words.specs.Line.{requests_rule, until_rule};
+ghost use Rattle.cli_words.specs.Line.{flag_rule, from_rule, looked_over_rule, needed_rule, record_rule};
+ghost use Rattle.cli_words.specs.Line.{rename_rule, requests_rule, until_rule};
 
 use clap::{Arg, ArgAction};
 use std::alloc::Global;
@@ -48,6 +48,16 @@ pub(crate) fn until_argument<'a>(alloc: Global) -> Arg<'a>
 {
     Arg::new(alloc, "until").long("until").value_name("AT").help(
         "Ends the list before its first tick later than this: 2026-11-29T14:00 of the building's clock, or hundredths of a second since 1970",
+    )
+}
+
+/// From when on a list is told.
+pub(crate) fn from_argument<'a>(alloc: Global) -> Arg<'a>
+    ensures rule { rule_of result ≡ from_rule }
+    ensures local { result.global ≡ false }
+{
+    Arg::new(alloc, "from").long("from").value_name("AT").help(
+        "Leaves out what ended at this moment or before it; AT as for --until",
     )
 }
 

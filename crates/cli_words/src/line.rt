@@ -10,6 +10,7 @@ ghost use Rattle.cli_words.specs.Line.{Makes, adopt_app, adopt_in, asked, asked_
 ghost use Rattle.cli_words.specs.Line.{count_in, count_of, database_app, deliveries_app};
 ghost use Rattle.cli_words.specs.Line.{describe_app, describe_in};
 ghost use Rattle.cli_words.specs.Line.{desk_app, file_app, import_app, import_in, is_set, moment_in};
+ghost use Rattle.cli_words.specs.Line.{overrides_app, overrides_in};
 ghost use Rattle.cli_words.specs.Line.{rebuild_app, rebuild_in, replay_app, replay_in};
 ghost use Rattle.cli_words.specs.Line.{report_app, report_in};
 ghost use Rattle.cli_words.specs.Line.{days_app, days_in, serve_app, serve_in, straighten_app};
@@ -17,8 +18,8 @@ ghost use Rattle.cli_words.specs.Line.{straighten_in, tick_app, tick_in, values_
 
 use crate::ArgFault;
 use crate::arguments::{
-    KEPT, flag, looked_over, needed, record_argument, rename_argument, requests_argument,
-    until_argument,
+    KEPT, flag, from_argument, looked_over, needed, record_argument, rename_argument,
+    requests_argument, until_argument,
 };
 use crate::version::VERSION;
 use clap::error::ErrorKind;
@@ -90,6 +91,18 @@ pub enum Line<'a> {
         deliveries: &'a str,
         /// The name of the point.
         point: &'a str,
+        /// As that of `replay`.
+        until: Option<&'a str>,
+    },
+    /// `overrides FILE DELIVERIES [--from AT] [--until AT]`: prints when the deliveries gave a point of the building the
+    /// value of a panel's command.
+    Overrides {
+        /// The path of the building file.
+        file: &'a str,
+        /// The path of the list of deliveries.
+        deliveries: &'a str,
+        /// The moment after which what is printed ended or still stands, as it was given.
+        from: Option<&'a str>,
         /// As that of `replay`.
         until: Option<&'a str>,
     },
@@ -192,6 +205,7 @@ fn desk_command<'a>(alloc: Global) -> Result<Command<'a>, AllocError>
     let desk = with_subcommand(desk, describe_command(alloc));
     let desk = with_subcommand(desk, replay_command(alloc));
     let desk = with_subcommand(desk, why_command(alloc));
+    let desk = with_subcommand(desk, overrides_command(alloc));
     let desk = with_subcommand(desk, straighten_command(alloc));
     let desk = with_subcommand(desk, import_command(alloc));
     let desk = with_subcommand(desk, tick_command(alloc));
@@ -303,6 +317,18 @@ fn why_command<'a>(alloc: Global) -> Result<Command<'a>, AllocError>
     let point = needed(alloc, "point", "POINT", "The name of the point");
     with_argument(
         with_argument(deliveries_command(alloc, "why", about), point),
+        until_argument(alloc),
+    )
+}
+
+/// The subcommand `overrides FILE DELIVERIES [--from AT] [--until AT]`.
+fn overrides_command<'a>(alloc: Global) -> Result<Command<'a>, AllocError>
+    ensures { Makes overrides_app result }
+{
+    let about = "Prints when panels' commands gave points their values, point by point";
+    let overrides = deliveries_command(alloc, "overrides", about);
+    with_argument(
+        with_argument(overrides, from_argument(alloc)),
         until_argument(alloc),
     )
 }
@@ -459,6 +485,7 @@ fn line_without_list<'a>(name: &str, inner: &ArgMatches<'a>) -> Option<Line<'a>>
         "describe" => describe_line(inner),
         "replay" => replay_line(inner),
         "why" => why_line(inner),
+        "overrides" => overrides_line(inner),
         "straighten" => straighten_line(inner),
         "import" => import_line(inner),
         "tick" => tick_line(inner),
@@ -607,6 +634,26 @@ fn why_line<'a>(matches: &ArgMatches<'a>) -> Option<Line<'a>>
             file,
             deliveries,
             point,
+            until,
+        })
+    } else {
+        None
+    }
+}
+
+/// What the arguments of `overrides` ask.
+fn overrides_line<'a>(matches: &ArgMatches<'a>) -> Option<Line<'a>>
+    ensures { option_map line_value result ≡ overrides_in (rows_of (found_of matches.now)) }
+{
+    if let Some(file) = text_at(matches, "file")
+        && let Some(deliveries) = text_at(matches, "deliveries")
+    {
+        let from = text_at(matches, "from");
+        let until = text_at(matches, "until");
+        Some(Line::Overrides {
+            file,
+            deliveries,
+            from,
             until,
         })
     } else {
