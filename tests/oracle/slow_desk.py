@@ -184,22 +184,32 @@ def present(building, places, name):
 
 @dataclass
 class Machine:
-    """The places with values, the answers of commands, what each schedule shows, imported pairs, the last tick."""
+    """The places with values, the command that gave each its value where one did, the answers of commands, what each
+    schedule shows, imported pairs, the last tick."""
 
     places: dict = field(default_factory=dict)
+    givers: dict = field(default_factory=dict)
     answers: dict = field(default_factory=dict)
     shown: dict = field(default_factory=dict)
     imported: set = field(default_factory=set)
     last: int | None = None
 
 
+def put(state, place, value, giver=None):
+    """Puts a value or NULL in a place, for a command or for a schedule."""
+    state.places.pop(place, None)
+    state.givers.pop(place, None)
+    if value is not None:
+        state.places[place] = value
+        if giver is not None:
+            state.givers[place] = giver
+
+
 def command(building, state, event):
     content, against = event.content, rule(building, event.panel, event.content)
     if against is not None:
         return ("refused", against)
-    state.places.pop((content.point, content.priority), None)
-    if content.value is not None:
-        state.places[content.point, content.priority] = content.value
+    put(state, (content.point, content.priority), content.value, event)
     return ("done", *present(building, state.places, content.point))
 
 
@@ -222,9 +232,7 @@ def settle(building, state, moment):
     written = {(target, each.priority): None for each in leaving for target in each.targets}
     written |= {(target, each.priority): values[each.name] for each in due for target in each.targets}
     for place, value in written.items():
-        state.places.pop(place, None)
-        if value is not None:
-            state.places[place] = value
+        put(state, place, value)
     state.shown = {name: (values[name],) for name in active}
     return sum(len(each.targets) for each in due + leaving)
 
@@ -263,6 +271,17 @@ def machine(building, events):
 
 
 # ---- what is replied and printed
+
+
+def time_text(now):
+    seconds, hundredths = divmod(now, 100)
+    return f"{seconds // 3600:02}:{seconds // 60 % 60:02}:{seconds % 60:02}.{hundredths:02}"
+
+
+def moment_text(building, moment):
+    """A moment on the building's clock."""
+    shown = local_time(building.zone, moment)
+    return str(moment) if shown is None else f"{shown[0].isoformat()} {time_text(shown[1])}"
 
 
 def answer_text(number, answer):
@@ -404,6 +423,72 @@ def straightened(building, deliveries):
     return "".join(delivery_line(each) + "\n" for each in reported + waiting)
 
 
+# ---- what was overridden
+
+
+@dataclass(frozen=True)
+class Override:
+    """A time in which a panel's command gave a point its value. Its moments are those of the last tick then, None before any;
+    of one that still stands at the end of the list the second one is the last of all."""
+
+    command: Command
+    begun: int | None
+    ended: int | None
+    stands: bool
+
+
+def givers_now(building, state):
+    """The command that gives each point its value; None where none does."""
+    priorities = {point.name: present(building, state.places, point.name)[1] for point in building.points}
+    return {name: state.givers.get((name, priority)) for name, priority in priorities.items()}
+
+
+def looks(building, earlier, deliveries):
+    """What is seen before the deliveries and after each of them: what gives each point its value, and the last tick. Of what
+    the earlier ones left there nobody knows who put it there."""
+    state, seen = Machine(), []
+    for count, events in enumerate([[], *events_along(building, [*earlier, *deliveries])[1]]):
+        for event in events:
+            act(building, state, event)
+        if count == len(earlier):
+            state.givers.clear()
+        if count >= len(earlier):
+            seen.append((givers_now(building, state), state.last))
+    return seen
+
+
+def overrides_of(seen, point):
+    """The overrides of a point in what is seen, in the order in which they began."""
+    overrides = []
+    for begin in range(1, len(seen)):
+        giver = seen[begin][0][point]
+        if giver is None or giver == seen[begin - 1][0][point]:
+            continue
+        ends = [later for later in range(begin, len(seen)) if seen[later][0][point] != giver]
+        overrides.append(Override(giver, seen[begin][1], seen[ends[0] if ends else -1][1], not ends))
+    return overrides
+
+
+def override_line(building, override):
+    begun, ended = ("before any tick" if each is None else moment_text(building, each) for each in (override.begun, override.ended))
+    lasted = f"since {begun}" if override.stands else f"from {begun} to {ended}"
+    if override.begun is not None:
+        minutes = (override.ended - override.begun) // 6000
+        lasted += f", {minutes // 60} h {minutes % 60:02} min"
+    content = override.command.content
+    shown = f"{content.point:<32}{content.value:>12} {content.priority:>2}"
+    return f"{shown}  panel {override.command.panel} #{override.command.number}, {lasted}"
+
+
+def overridden(building, earlier, deliveries, since=None):
+    """What is printed of the overrides in a list on the base of an earlier one; with a moment, of those that ended later or
+    still stand."""
+    seen = looks(building, earlier, deliveries)
+    overrides = [each for point in building.points for each in overrides_of(seen, point.name)]
+    told = [each for each in overrides if since is None or each.stands or each.ended is not None and each.ended > since]
+    return "".join(override_line(building, each) + "\n" for each in told)
+
+
 # ---- what a point and a day have
 
 
@@ -416,9 +501,7 @@ def point_text(building, places, point):
 
 
 def segment_line(time, value):
-    seconds, hundredths = divmod(time, 100)
-    clock = f"{seconds // 3600:02}:{seconds // 60 % 60:02}:{seconds % 60:02}.{hundredths:02}"
-    return f"{clock}{'NULL' if value is None else value:>13}"
+    return f"{time_text(time)}{'NULL' if value is None else value:>13}"
 
 
 def report_text(building, day, imported=frozenset(), places=None):

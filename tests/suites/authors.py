@@ -2,20 +2,19 @@
 point, up to the end of the list and up to moments about its ticks; and on worked lists.
 
 What put each value in its place is computed here from the events of the list: the last that wrote the place. The next change
-of a schedule is looked for at each later time that the day's lists name. A list that is read up to a moment has a line that is
-no delivery behind its end, which must not be read. Some lists stand on a base: of what was put there before, no more is told.
+of a schedule is looked for at each later time that the day's lists name. Some lists stand on a base: of what was put there
+before, no more is told.
 """
 import pathlib
 import random
-import subprocess
 import tempfile
 from concurrent.futures import ThreadPoolExecutor
 
 from helpers import random_lists
-from helpers.serving import SECONDS
+from helpers.listed import before, list_text, make_base, moment_words, run, some_base, some_moment, until_text
 from helpers.trying import IN_MEMORY, expect, expect_none, named
 from oracle.slow_desk import Building, Command, Content, Import, Machine, Panel, Point, Skip, Tick
-from oracle.slow_desk import act, calendars_now, events_along, point_line, printed, rule
+from oracle.slow_desk import act, calendars_now, events_along, moment_text, point_line, printed, rule, time_text
 from oracle.slow_schedules import Calendar, Exception_, Schedule, in_effect_on, list_value, local_time, schedule_value
 
 LISTS = 1500
@@ -32,20 +31,6 @@ WEEKDAYS = ["Monday", "Tuesday", "Wednesday", "Thursday", "Friday", "Saturday", 
 
 
 # ---- what put a value there
-
-
-def time_text(now):
-    return f"{now // HOUR:02}:{now // 6000 % 60:02}:{now // 100 % 60:02}.{now % 100:02}"
-
-
-def moment_text(building, moment):
-    shown = local_time(building.zone, moment)
-    return str(moment) if shown is None else f"{shown[0].isoformat()} {time_text(shown[1])}"
-
-
-def until_text(building, until):
-    """The last line of a list that is read up to a moment."""
-    return "" if until is None else f"until {moment_text(building, until)}\n"
 
 
 def source_text(schedule, calendars, day, now):
@@ -160,52 +145,12 @@ def explained(building, deliveries, point, earlier=()):
     return "".join(line + "\n" for line in lines + next_lines(building, state, point))
 
 
-# ---- lists up to a moment
-
-
-def before(deliveries, until):
-    """Those before the first tick that is later than the moment."""
-    late = (place for place, each in enumerate(deliveries) if isinstance(each, Tick) and until is not None and each.at > until)
-    return deliveries[: next(late, len(deliveries))]
-
-
-def some_moment(rng, deliveries):
-    """No moment, or one about a tick of the list, in 64 bits."""
-    moments = [each.at for each in deliveries if isinstance(each, Tick)]
-    if not moments or rng.random() < 0.3:
-        return None
-    return max(-(2**63), min(rng.choice(moments) + rng.choice([-1, 0, 0, 1]), 2**63 - 1))
+# ---- what the program prints
 
 
 def replayed(building, earlier, deliveries):
     """What `desk replay` prints of a list on the base of an earlier one."""
     return "".join(printed(building, [*earlier, *deliveries]).splitlines(keepends=True)[len(earlier):])
-
-
-def list_text(rng, deliveries, until):
-    lines = []
-    for delivery in deliveries:
-        lines += [rng.choice(random_lists.NOTHING)] * (rng.random() < 0.1) + [random_lists.line_of(rng, delivery)]
-    if len(before(deliveries, until)) < len(deliveries):
-        lines.append("no delivery\n")
-    return "".join(lines)
-
-
-def run(program, *words):
-    ran = subprocess.run([program, *words], capture_output=True, text=True, timeout=SECONDS)
-    return ran.stdout, ran.stderr, ran.returncode
-
-
-def until_words(until):
-    # one word, since a moment may begin with `-`
-    return [] if until is None else [f"--until={until}"]
-
-
-def make_base(program, file, listed, rng, earlier):
-    """Makes the base of a list, from an earlier list."""
-    before_it = listed.with_name("earlier.jsonl")
-    before_it.write_text(list_text(rng, earlier, None))
-    expect(run(program, "rebuild", file, before_it, f"{listed}.base")[1:], ("", 0))
 
 
 def look_at(program, building, deliveries, until, rng, earlier=None):
@@ -220,11 +165,11 @@ def look_at(program, building, deliveries, until, rng, earlier=None):
             make_base(program, file, listed, rng, earlier)
         earlier = earlier or []
         for point in building.points:
-            found = run(program, "why", file, listed, point.name, *until_words(until))
+            found = run(program, "why", file, listed, point.name, *moment_words("until", until))
             wanted = explained(building, cut, point, earlier) + until_text(building, until)
             expect((point.name, until, earlier, text, found), (point.name, until, earlier, text, (wanted, "", 0)))
         if not any(line in text for line in random_lists.NOTHING[2:]):
-            found = run(program, "replay", file, listed, *until_words(until))
+            found = run(program, "replay", file, listed, *moment_words("until", until))
             wanted = replayed(building, earlier, cut) + until_text(building, until)
             expect((until, earlier, text, found), (until, earlier, text, (wanted, "", 0)))
 
@@ -232,10 +177,7 @@ def look_at(program, building, deliveries, until, rng, earlier=None):
 def disagreement(program, seed, index):
     rng = random.Random(f"authors {seed} {index}")
     building = random_lists.some_building(rng)
-    deliveries, earlier = random_lists.some_deliveries(rng, building, LONGEST), None
-    if rng.random() < 0.3:
-        count = rng.randint(0, len(deliveries))
-        earlier, deliveries = deliveries[:count], deliveries[count:]
+    earlier, deliveries = some_base(rng, random_lists.some_deliveries(rng, building, LONGEST))
     try:
         look_at(program, building, deliveries, some_moment(rng, deliveries), rng, earlier)
     except AssertionError as error:
