@@ -1,7 +1,7 @@
 """Refuses each request for memory of a run in turn, alone and from there on, by a page of C put before the C library.
 
-A run of which a request was refused prints what it prints with memory, or a beginning of it (of `straighten` nothing, or
-a beginning once the whole list is known) and then the want of memory, with status 3; a request to a server gets its
+A run of which a request was refused prints what it prints with memory, or a beginning of it (of `straighten` and `overrides`
+nothing, or a beginning once the whole list is known) and then the want of memory, with status 3; a request to a server gets its
 response, the text of the want of memory, or nothing. Over a database the tables are then those before the delivery or
 those with it, and the same delivery, made again with memory, gets its reply and leaves the tables with it.
 
@@ -19,7 +19,7 @@ from helpers.runs import ByRequest, ByWords, Ended, Trial
 from helpers.serving import get, response
 from helpers.trying import expect
 from helpers.worked import BUILDING, EACH_KIND, PAST_1000, WAITING, light
-from oracle.slow_desk import Import, Skip, Tick, delivery_line, point_text, printed, report_text, run_of, straightened
+from oracle.slow_desk import Import, Skip, Tick, delivery_line, overridden, point_text, printed, report_text, run_of, straightened
 
 NO_MEMORY = b"desk: out of memory\n"
 NOT_PLACED = f"desk: cannot write {databases.NAME}\n".encode()
@@ -157,6 +157,11 @@ def straighten_prints_all_or_a_beginning(program, folder):
     try_words(program, folder, ("straighten", "building.toml", "list.jsonl"), straightened(BUILDING, EACH_KIND).encode())
 
 
+def overrides_prints_all_or_a_beginning(program, folder):
+    files_for(folder, EACH_KIND)
+    try_words(program, folder, ("overrides", "building.toml", "list.jsonl"), overridden(BUILDING, [], EACH_KIND).encode())
+
+
 # ---- deliveries to a database
 
 
@@ -283,6 +288,7 @@ TESTS = (
     describe_prints_all_or_nothing,
     replay_prints_all_or_a_beginning,
     straighten_prints_all_or_a_beginning,
+    overrides_prints_all_or_a_beginning,
     rebuild_makes_all_or_nothing,
     a_tick_makes_a_database,
     an_import_makes_a_database,

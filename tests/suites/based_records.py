@@ -110,6 +110,7 @@ def a_base_that_is_none_is_named(program, folder):
     stand(program, folder, BEFORE, [light(2)])
     (folder / BASE).write_text("no database\n" * 1000)
     for words in (("replay", "building.toml", recorded.NAME), ("why", "building.toml", recorded.NAME, "LIGHT"),
+                  ("overrides", "building.toml", recorded.NAME),
                   ("check", "building.toml", databases.NAME, *recorded.KEPT), ("rebuild", "building.toml", recorded.NAME, "new.db"),
                   ("tick", "building.toml", databases.NAME, str(EIGHT.at + 1), *recorded.KEPT)):
         out, told, status = run(program, folder, *words)

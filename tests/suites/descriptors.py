@@ -12,7 +12,7 @@ from helpers.runs import ByRequest, ByWords, Trial
 from helpers.serving import get, response
 from helpers.trying import expect
 from helpers.worked import BUILDING, EACH_KIND
-from oracle.slow_desk import Import, Tick, delivery_line, point_text, printed, report_text, run_of, straightened
+from oracle.slow_desk import Import, Tick, delivery_line, overridden, point_text, printed, report_text, run_of, straightened
 
 # The standard descriptors alone, and more than any run wants.
 LEAST, MOST = 3, 24
@@ -47,7 +47,8 @@ def the_file_that_cannot_be_read_is_named(program, folder):
     (folder / "list.jsonl").write_text("".join(delivery_line(each) + "\n" for each in EACH_KIND))
     answers = {("check", "building.toml"): CHECKED,
                ("replay", "building.toml", "list.jsonl"): printed(BUILDING, EACH_KIND).encode(),
-               ("straighten", "building.toml", "list.jsonl"): straightened(BUILDING, EACH_KIND).encode()}
+               ("straighten", "building.toml", "list.jsonl"): straightened(BUILDING, EACH_KIND).encode(),
+               ("overrides", "building.toml", "list.jsonl"): overridden(BUILDING, [], EACH_KIND).encode()}
     for words, answer in answers.items():
         expect_ends(lambda: (ByWords(words, answer), program, folder), [NO_BUILDING])
 

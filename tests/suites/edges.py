@@ -23,8 +23,9 @@ ON_DISK = True
 SECONDS = 60
 COMMAND = '{"number":1,"panel":"P1","point":"R101-SET","priority":8,"value":2150}\n'
 DONE = '{"answer":"done","number":1,"present":2150,"priority":8}\n'
+OVERRIDE = "R101-SET                                2150  8  panel P1 #1, since before any tick\n"
 # What a run of each subcommand that reads a list prints first of the command.
-OF_A_LIST = {"replay": DONE, "straighten": COMMAND}
+OF_A_LIST = {"replay": DONE, "straighten": COMMAND, "overrides": OVERRIDE}
 
 
 def opened_for_writing(pipe):

@@ -1,10 +1,11 @@
 """Tries the program: the cases, lines and words that are refused, and what two documents show.
 
 A case is a file of tests/cases, named for what it shows: a transcript, and the files that it reads, each after a line
-`-- NAME --`, building.toml among them (without one, the worked building). The transcript is commands that are run one after the other, each after `$ `, and under it what is wanted. A
-command is `desk` with its words, `sql` with a database and a statement, which the C library of SQLite runs; its rows are
-shown with `|` between the columns; or `cat` with a file, which is shown as it is. Of a `desk`, a line `desk: ..` is wanted
-on the standard error, a last line `status N` is the status (without it, 0), and where a fault is reported that ends the run each
+`-- NAME --`, building.toml among them (without one, the worked building). The transcript is commands that are run one after
+the other, each after `$ `, and under it what is wanted. Words before the first command say how that was worked out. A command
+is `desk` with its words, `sql` with a database and a statement, which the C library of SQLite runs; its rows are shown with
+`|` between the columns; or `cat` with a file, which is shown as it is. Of a `desk`, a line `desk: ..` is wanted on the
+standard error, a last line `status N` is the status (without it, 0), and where a fault is reported that ends the run each
 file has to be as it was before.
 """
 import contextlib
@@ -78,9 +79,11 @@ def try_case(program, case, room):
 def try_line(program, line, room):
     (room / "building.toml").write_text(tables.WORKED)
     (room / "list.jsonl").write_bytes(COMMAND + line + b"\n" + COMMAND)
-    replayed, straight = (run(program, [name, "building.toml", "list.jsonl"], room) for name in ("replay", "straighten"))
+    names = ("replay", "straighten", "overrides")
+    replayed, straight, overridden = (run(program, [name, "building.toml", "list.jsonl"], room) for name in names)
     reported = b"desk: line 2 is not a delivery\n"
-    return difference(replayed, 1, DONE, reported) or difference(straight, 1, b"", reported)
+    wrong = difference(replayed, 1, DONE, reported) or difference(straight, 1, b"", reported)
+    return wrong or difference(overridden, 1, b"", reported)
 
 
 def try_words(program, words, part, room):
