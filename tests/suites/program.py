@@ -122,6 +122,18 @@ def straightened_day_of_the_document(program, room):
     return wrong or ("" if before[-len(points):] == points else f"the day leaves {before!r}, wanted {points!r}")
 
 
+def overrides_of_the_document(program, room):
+    """The overrides that docs/RECORDS.md shows are those of the record that it shows."""
+    text = (ROOT / "docs" / "RECORDS.md").read_text()
+    shown, = re.findall(r"^```\n(\$ desk overrides .*?)^```$", text, re.S | re.M)
+    record, = re.findall(r"As `record.jsonl`:\n\n```\n(.*?)^```$", text, re.S | re.M)
+    (room / "examples").mkdir()
+    (room / "examples" / "building.toml").write_text(tables.WORKED)
+    (room / "record.jsonl").write_text(record)
+    command, printed = shown.split("\n", 1)
+    return difference(run(program, command.split()[2:], room), 0, printed.encode(), b"")
+
+
 def tried(name, look, *what):
     """The test that looks, with this, whether something is wrong."""
     return named(name, lambda program, folder: expect_none(look(program, *what, folder)))
@@ -133,4 +145,5 @@ TESTS = [
     *(tried(f"words refused: {words!r}, {part!r}", try_words, words, part) for words, part in tables.WORDS_REFUSED),
     tried("the first run of docs/FIRST_STEPS.md", first_run_of_the_document),
     tried("the straightened day of docs/RECORDS.md", straightened_day_of_the_document),
+    tried("the overrides of docs/RECORDS.md", overrides_of_the_document),
 ]
