@@ -48,8 +48,8 @@ def busy_deliveries(rng, building):
         content = Content(point.name, rng.choice(panel.priorities), rng.choice([None, point.low, point.high]))
         deliveries.append(Command(panel.name, numbers[panel], content))
     for _ in range(len(deliveries) // 6):
-        place, later = rng.randrange(len(deliveries)), rng.randrange(len(deliveries))
-        deliveries.insert(later, deliveries[place] if rng.random() < 0.5 else deliveries.pop(place))
+        place = rng.randrange(len(deliveries))
+        deliveries.insert(place + rng.randint(1, 8), deliveries[place] if rng.random() < 0.5 else deliveries.pop(place))
     return deliveries
 
 
