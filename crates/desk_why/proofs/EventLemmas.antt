@@ -11,9 +11,10 @@ use Rattle.points.specs.declared.numbered_row.NumberedRow.{NumberedRow}
 use Rattle.points.specs.Texts.{Text}
 use Rattle.window.specs.Drain.{contents_of}
 use Rattle.desk_why.specs.declared.author.Held.{Held}
-use Rattle.desk_why.specs.declared.author.Place.{Place}
-use Rattle.desk_why.specs.Authors.{held_after, held_after_command, held_along, held_before, held_of, place_at, places_of, priorities}
-use Rattle.desk_why.specs.Turns.{held_after_run, places_along, places_before}
+use Rattle.desk_why.specs.declared.authors.Authors.{Authors}
+use Rattle.desk_why.specs.Authors.{held_after, held_after_command, held_along, held_before, held_of, places_of, priorities}
+use Rattle.desk_why.specs.AuthorsTable.{IsHeld, held_in}
+use Rattle.desk_why.specs.Steps.{Becomes, held_after_run}
 
 pub held_along-append : (b : Building) (m : Machine) (xs ys : List Event) (point : Text) (priority : ℕ) (held : Option Held)
     → held_along b m (xs ++ ys) point priority held ≡ held_along b (run b m xs) ys point priority (held_along b m xs point priority held)
@@ -22,7 +23,7 @@ held_along-append b m (x ∷ xs) ys point priority held =
     held_along-append b (step b m x) xs ys point priority (held_after b m x point priority held)
 
 -- where a record that begins behind `first` goes on with one delivery more
-held_of-push : (b : Building) (first E : List Delivery) (d : Delivery) (point : Text) (priority : ℕ)
+pub held_of-push : (b : Building) (first E : List Delivery) (d : Delivery) (point : Text) (priority : ℕ)
     → held_of b first (E ++ d ∷ []) point priority
     ≡ held_along b (machine b (first ++ E)) (acted_on b (first ++ E) d) point priority (held_of b first E point priority)
 unfolding held_of
@@ -36,32 +37,26 @@ held_of-push b first E d point priority =
     ∙ ap (λ (m : Machine). held_along b m acted point priority (held_along b begun (events_after b first E) point priority held))
     (sym (machine-append b first E)))
 
-abbrev along : Building → Machine → List Event → Text → Place → Place
-along b m events point place =
-    record { priority = place.priority; held = held_along b m events point place.priority place.held }
+-- a point's places with one delivery more
+pub IsHeld-push : (b : Building) (first E : List Delivery) (d : Delivery) (old new : Authors) (point : Text)
+    → Becomes (held_along b (machine b (first ++ E)) (acted_on b (first ++ E) d)) old new
+    → IsHeld b first E old point → IsHeld b first (E ++ d ∷ []) new point
+IsHeld-push b first E d old new point along held = λ priority.
+    along point priority
+    ∙ (ap (held_along b (machine b (first ++ E)) (acted_on b (first ++ E) d) point priority) (held priority)
+    ∙ sym (held_of-push b first E d point priority))
 
-places-push : (b : Building) (first E : List Delivery) (d : Delivery) (point : Text) (ps : List ℕ)
-    → map (place_at b first (E ++ d ∷ []) point) ps
-    ≡ map (along b (machine b (first ++ E)) (acted_on b (first ++ E) d) point) (map (place_at b first E point) ps)
-places-push b first E d point [] = refl
-places-push b first E d point (p ∷ ps) = λ i.
-    record { priority = p; held = held_of-push b first E d point p i } ∷ places-push b first E d point ps i
+-- where a record begins, before any of its deliveries
+pub held_of-none : (b : Building) (first : List Delivery) (point : Text) (priority : ℕ)
+    → held_before ((machine b first).places point) priority ≡ held_of b first [] point priority
+unfolding held_of
+held_of-none b first point priority = refl
 
--- the places with one delivery more
-pub places-more : (b : Building) (first E more : List Delivery) (d : Delivery) (point : Text) (old new : List Place) → more ≡ E ++ d ∷ []
-    → old ≡ places_of b first E point → new ≡ places_along b (machine b (first ++ E)) (acted_on b (first ++ E) d) point old
-    → new ≡ places_of b first more point
+-- the sixteen places that a table has
+pub places-held : (b : Building) (first E : List Delivery) (authors : Authors) (point : Text) → IsHeld b first E authors point
+    → map (λ priority. record { priority = priority; held = held_in authors point priority }) priorities ≡ places_of b first E point
 unfolding places_of
-places-more b first E more d point old new is so_far after =
-    after ∙ (ap (λ (places : List Place). places_along b (machine b (first ++ E)) (acted_on b (first ++ E) d) point places) so_far
-    ∙ (sym (places-push b first E d point priorities)
-    ∙ ap (λ (ds : List Delivery). map (place_at b first ds point) priorities) (sym is)))
-
--- the places where a record begins, before any of its deliveries
-pub places-none : (b : Building) (first : List Delivery) (point : Text)
-    → places_before ((machine b first).places point) ≡ places_of b first [] point
-unfolding places_of held_of
-places-none b first point = refl
+places-held b first E authors point held = λ i. map (λ priority. record { priority = priority; held = held priority i }) priorities
 
 pub tables-places : (b : Building) (E : List Delivery) → (tables b E).places ≡ (machine b E).places
 unfolding tables

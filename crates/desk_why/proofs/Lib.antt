@@ -1,5 +1,6 @@
 pub mod LawLemmas
 pub mod EventLemmas
+pub mod BeginLemmas
 pub mod RunLemmas
 pub mod SettleLemmas
 pub mod TurnLemmas

@@ -1,5 +1,5 @@
--- One schedule more.
-use Rattle.std.proofs.Common.{◌≡◌, ℕ, ℤ, Bool, true, false, ◌&&◌, ◌||◌, cond, List, ◌∷◌, ◌++◌, Option, Some, None, option_map, []}
+-- One schedule more, in the table of authors.
+use Rattle.std.proofs.Common.{◌≡◌, ℕ, ℤ, Bool, true, false, ◌&&◌, ◌||◌, cond, List, ◌∷◌, ◌++◌, Option, Some, None, []}
 use Rattle.std.proofs.Common.{refl, sym, ap, ◌∙◌}
 use Rattle.std.specs.List.{list_any}
 use Rattle.std.proofs.lemmas.List.Folds.{list_any-append}
@@ -9,21 +9,10 @@ use Rattle.deliveries.specs.SettlingLaws.{is_due_at, last_of, leaves_at, or_else
 use Rattle.points.specs.Texts.{Text}
 use Rattle.desk_why.specs.declared.author.Held.{Held}
 use Rattle.desk_why.specs.declared.author.Settling.{Settling}
-use Rattle.desk_why.specs.declared.turns.Turns.{Turns}
-use Rattle.desk_why.specs.Settling.{held_by_schedule}
-use Rattle.desk_why.specs.Turns.{TakesTurn, TurnsSoFar}
-
-and_right : (b : Bool) → (b && false) ≡ false
-and_right true = refl
-and_right false = refl
-
-and_true : (b : Bool) → (b && true) ≡ b
-and_true true = refl
-and_true false = refl
-
-or_false : (b : Bool) → (b || false) ≡ b
-or_false true = refl
-or_false false = refl
+use Rattle.desk_why.specs.declared.authors.Authors.{Authors}
+use Rattle.desk_why.specs.AuthorsTable.{held_in}
+use Rattle.desk_why.specs.Settling.{held_by_schedule, held_or}
+use Rattle.desk_why.specs.Steps.{Becomes, put_where}
 
 last_of-push : (test : NamedSchedule → Bool) (xs : List NamedSchedule) (x : NamedSchedule)
     → last_of test (xs ++ x ∷ []) ≡ or_else (cond (test x) (Some x) None) (last_of test xs)
@@ -40,51 +29,83 @@ last_of-push test (y ∷ xs) x =
     by (Some s) b c = refl
     by None b c = refl
 
-module _ (now : Now) (shown : Shown) (settling : Settling) (point : Text) (priority : ℕ) where
-  due-push : (xs : List NamedSchedule) (s : NamedSchedule) (old : Option (Option Held))
-      → old ≡ option_map (held_by_schedule now settling) (last_of (is_due_at now shown point priority) xs)
-      → cond (is_due_at now shown point priority s) (Some (held_by_schedule now settling s)) old
-      ≡ option_map (held_by_schedule now settling) (last_of (is_due_at now shown point priority) (xs ++ s ∷ []))
-  due-push xs s old so_far =
-      by (is_due_at now shown point priority s) refl
-      ∙ ap (option_map (held_by_schedule now settling)) (sym (last_of-push (is_due_at now shown point priority) xs s))
+-- ---- one schedule, which shows what was read
+
+and_assoc : (a b c : Bool) → (a && (b && c)) ≡ ((a && b) && c)
+and_assoc true b c = refl
+and_assoc false b c = refl
+
+pub leaves-read : (now : Now) (shown : Shown) (s : NamedSchedule) (read : Option (Option ℤ)) → read ≡ shown s.name
+    → (point : Text) (priority : ℕ)
+    → leaves_at now shown point priority s ≡ ((falls_quiet now (λ name. read) s && releases s.on_leave) && targets point priority s)
+unfolding falls_quiet
+leaves-read now shown s read is point priority =
+    ap (λ (value : Option (Option ℤ)). falls_quiet now (λ name. value) s && (releases s.on_leave && targets point priority s)) (sym is)
+    ∙ and_assoc (falls_quiet now (λ name. read) s) (releases s.on_leave) (targets point priority s)
+
+pub due-read : (now : Now) (shown : Shown) (s : NamedSchedule) (read : Option (Option ℤ)) → read ≡ shown s.name
+    → (point : Text) (priority : ℕ) → is_due_at now shown point priority s ≡ (is_due now (λ name. read) s && targets point priority s)
+unfolding is_due
+due-read now shown s read is point priority =
+    ap (λ (value : Option (Option ℤ)). is_due now (λ name. value) s && targets point priority s) (sym is)
+
+-- what a test puts that is passed here, where something is done, or nowhere
+module _ (yes : Bool) (test here : Text → ℕ → Bool) (put : Option Held)
+    (is : (point : Text) (priority : ℕ) → test point priority ≡ (yes && here point priority)) where
+  pub put-done : (old new : Authors) → yes ≡ true → Becomes (put_where here put) old new → Becomes (put_where test put) old new
+  put-done old new done becomes = λ point priority.
+      becomes point priority
+      ∙ ap (λ (b : Bool). cond b put (held_in old point priority))
+      (sym (is point priority ∙ ap (λ (b : Bool). b && here point priority) done))
+
+  pub put-not : (old : Authors) → yes ≡ false → Becomes (put_where test put) old old
+  put-not old not_done = λ point priority.
+      ap (λ (b : Bool). cond b put (held_in old point priority))
+      (sym (is point priority ∙ ap (λ (b : Bool). b && here point priority) not_done))
+
+-- ---- one schedule more, by a test for each place
+
+module _ (test : Text → ℕ → NamedSchedule → Bool) (xs more : List NamedSchedule) (s : NamedSchedule) (is : more ≡ xs ++ s ∷ [])
+    (old mid new : Authors) where
+  any-push : (point : Text) (priority : ℕ)
+      → list_any (test point priority) more ≡ (list_any (test point priority) xs || test point priority s)
+  any-push point priority =
+      ap (list_any (test point priority)) is
+      ∙ (list_any-append (test point priority) xs (s ∷ [])
+      ∙ ap (λ b. list_any (test point priority) xs || b) (or_false (test point priority s)))
     where
-      by : (b : Bool) → is_due_at now shown point priority s ≡ b
-          → cond (is_due_at now shown point priority s) (Some (held_by_schedule now settling s)) old
-          ≡ option_map (held_by_schedule now settling)
-          (or_else (cond (is_due_at now shown point priority s) (Some s) None) (last_of (is_due_at now shown point priority) xs))
-      by true e = rw e refl
-      by false e = rw e so_far
+      or_false : (b : Bool) → (b || false) ≡ b
+      or_false true = refl
+      or_false false = refl
 
-  -- one more
-  pub turns-more : (xs more : List NamedSchedule) (s : NamedSchedule) (old new : Turns) → more ≡ xs ++ s ∷ []
-      → TurnsSoFar now shown settling point priority xs old → TakesTurn now shown settling point priority s old new
-      → TurnsSoFar now shown settling point priority more new
-  turns-more xs more s old new is so_far turn = record {
-    due = turn.due ∙ (due-push xs s old.due so_far.due
-        ∙ ap (λ passed. option_map (held_by_schedule now settling) (last_of (is_due_at now shown point priority) passed)) (sym is));
-    leaves =
-        let leaves = leaves_at now shown point priority in
-        turn.leaves ∙ (ap (λ b. b || leaves s) so_far.leaves
-        ∙ (ap (λ b. list_any leaves xs || b) (sym (or_false (leaves s)))
-        ∙ (sym (list_any-append leaves xs (s ∷ [])) ∙ ap (list_any leaves) (sym is))));
-  }
+  pub left-more : Becomes (put_where (λ point priority. list_any (test point priority) xs) None) old mid
+      → Becomes (put_where (λ point priority. test point priority s) None) mid new
+      → Becomes (put_where (λ point priority. list_any (test point priority) more) None) old new
+  left-more so_far leaves = λ point priority.
+      leaves point priority
+      ∙ (ap (cond (test point priority s) None) (so_far point priority)
+      ∙ (by (test point priority s) (list_any (test point priority) xs) (held_in old point priority)
+      ∙ ap (λ (b : Bool). cond b None (held_in old point priority)) (sym (any-push point priority))))
+    where
+      by : (here before : Bool) (held : Option Held) → cond here None (cond before None held) ≡ cond (before || here) None held
+      by true true held = refl
+      by true false held = refl
+      by false true held = refl
+      by false false held = refl
 
-  -- one of this place: what it does depends on what it shows itself
-  pub turn-here : (s : NamedSchedule) (read : Option (Option ℤ)) (old new : Turns) → targets point priority s ≡ true → read ≡ shown s.name
-      → new.due ≡ cond (is_due now (λ name. read) s) (Some (held_by_schedule now settling s)) old.due
-      → new.leaves ≡ (old.leaves || (falls_quiet now (λ name. read) s && releases s.on_leave))
-      → TakesTurn now shown settling point priority s old new
-  unfolding is_due falls_quiet
-  turn-here s read old new here is due leaves = record {
-    due =
-        let own : is_due now (λ name. read) s ≡ is_due_at now shown point priority s =
-        ap (λ (value : Option (Option ℤ)). is_due now (λ name. value) s) is
-        ∙ (sym (and_true (is_due now shown s)) ∙ ap (λ b. is_due now shown s && b) (sym here)) in
-        due ∙ ap (λ (b : Bool). cond b (Some (held_by_schedule now settling s)) old.due) own;
-    leaves =
-        let own : (falls_quiet now (λ name. read) s && releases s.on_leave) ≡ leaves_at now shown point priority s =
-        ap (λ (value : Option (Option ℤ)). falls_quiet now (λ name. value) s && releases s.on_leave) is
-        ∙ ap (λ b. falls_quiet now shown s && b) (sym (ap (λ b. releases s.on_leave && b) here ∙ and_true (releases s.on_leave))) in
-        leaves ∙ ap (λ (b : Bool). old.leaves || b) own;
-  }
+  pub put-more : (now : Now) (settling : Settling)
+      → Becomes (λ point priority held. held_or now settling (last_of (test point priority) xs) held) old mid
+      → Becomes (put_where (λ point priority. test point priority s) (held_by_schedule now settling s)) mid new
+      → Becomes (λ point priority held. held_or now settling (last_of (test point priority) more) held) old new
+  put-more now settling so_far puts = λ point priority.
+      puts point priority
+      ∙ (ap (cond (test point priority s) (held_by_schedule now settling s)) (so_far point priority)
+      ∙ (by (test point priority s) (last_of (test point priority) xs) (held_in old point priority)
+      ∙ ap (λ (found : Option NamedSchedule). held_or now settling found (held_in old point priority))
+      (sym (ap (last_of (test point priority)) is ∙ last_of-push (test point priority) xs s))))
+    where
+      by : (here : Bool) (last : Option NamedSchedule) (held : Option Held)
+          → cond here (held_by_schedule now settling s) (held_or now settling last held)
+          ≡ held_or now settling (or_else (cond here (Some s) None) last) held
+      by true last held = refl
+      by false last held = refl

@@ -1,6 +1,7 @@
 pub mod Settling
 pub mod Authors
-pub mod Turns
+pub mod AuthorsTable
+pub mod Steps
 pub mod Laws
 pub mod NextChanges
 pub mod Words

@@ -1,14 +1,16 @@
-//! The places of a point after a panel's commands that are acted on.
-ghost use Rattle.std.specs.Prelude.{◌≡◌, IfOk, fold, is_none, map};
-ghost use Rattle.desk_why.specs.declared.author.Place.{Place as a_place};
-ghost use Rattle.desk_why.specs.Authors.{held_after_command, held_by_command, writes_place};
-ghost use Rattle.desk_why.specs.Turns.{held_after_run};
+//! The places after a panel's commands that are acted on.
+ghost use Rattle.std.specs.Prelude.{◌≡◌, ◌&&◌, ◌==◌, false, OnOk, is_none, option_copied};
+ghost use Rattle.std.specs.Str.{bytes_eq};
+ghost use Rattle.desk_why.specs.Authors.{held_after_command, held_by_command};
+ghost use Rattle.desk_why.specs.Steps.{Becomes, held_after_run, put_where};
 ghost use Rattle.deliveries.specs.Machine.{place_of, rule_for};
+ghost use Rattle.points.specs.Rights.{names_no_place};
 
-use crate::author::{Author, Held, Place};
+use crate::author::{Author, Held};
+use crate::authors::Authors;
 use building::Building;
 use points::{Content, Name, NumberedRow};
-use std::alloc::{AllocError, Global};
+use std::alloc::AllocError;
 
 // Whether no rule is against a panel's content.
 fn is_permitted(building: &Building, panel: &Name, content: &Content) -> bool
@@ -18,27 +20,6 @@ fn is_permitted(building: &Building, panel: &Name, content: &Content) -> bool
         Some(panel) => building.permit(panel, content).is_ok(),
         None => false,
     }
-}
-
-// The place that a permitted priority names.
-fn place_of(priority: i64) -> u64
-    ensures { result ≡ place_of priority }
-{
-    if priority < 0 { 0 } else { priority as u64 }
-}
-
-// Whether a panel's content is permitted, and for this place.
-fn writes_place(
-    building: &Building,
-    panel: &Name,
-    content: &Content,
-    point: &Name,
-    priority: u8,
-) -> bool
-    ensures { result ≡ writes_place building.now panel.now content.now point.now priority }
-{
-    let is_here = content.point == *point && place_of(content.priority) == priority as u64;
-    is_here && is_permitted(building, panel, content)
 }
 
 // What a command puts.
@@ -61,69 +42,50 @@ fn held_by_command(
     })
 }
 
-// What a place holds after a command that is acted on.
-fn held_after_command(
+// Puts what a permitted content puts in its place.
+fn put_content(
+    authors: &mut Authors,
+    content: &Content,
+    held: Option<&Held>,
+) -> Result<(), AllocError>
+    requires { names_no_place content.now.priority ≡ false }
+    ensures { OnOk result (Becomes (put_where (λ q r. bytes_eq content.now.point q && place_of content.now.priority == r)
+        (option_copied held.entry)) authors.old authors.new) }
+{
+    authors.put(&content.point, content.priority as u8, held)
+}
+
+// Acts on a command.
+fn act_on(
+    authors: &mut Authors,
     building: &Building,
     after: Option<i64>,
     panel: &Name,
     entry: &NumberedRow,
-    point: &Name,
-    priority: u8,
-    held: Option<Held>,
-) -> Option<Held>
-    ensures { result ≡ held_after_command building.now after panel.now entry.now.number entry.now.row.content point.now priority held }
+) -> Result<(), AllocError>
+    ensures { OnOk result (Becomes (held_after_command building.now after panel.now entry.now.number entry.now.row.content)
+        authors.old authors.new) }
 {
-    if writes_place(building, panel, &entry.row.content, point, priority) {
-        held_by_command(panel, entry.number, after, entry.row.content.value)
-    } else {
-        held
+    let content = &entry.row.content;
+    if !is_permitted(building, panel, content) {
+        return Ok(());
     }
+    let held = held_by_command(panel, entry.number, after, content.value);
+    put_content(authors, content, held.as_ref())
 }
 
-// A place after the commands of a run.
-fn place_after_run(
+/// Acts on the commands of a run, after this last tick.
+pub fn act_on_run(
+    authors: &mut Authors,
     building: &Building,
     after: Option<i64>,
     panel: &Name,
     run: &[NumberedRow],
-    point: &Name,
-    place: &Place,
-) -> Place
-    ensures { result ≡ record {
-      priority = place.now.priority;
-      held =
-          held_after_run building.now after panel.now run.now point.now place.now.priority place.now.held;
-    } }
+) -> Result<(), AllocError>
+    ensures { OnOk result (Becomes (held_after_run building.now after panel.now run.now) authors.old authors.new) }
 {
-    let mut held = place.held;
     for entry in run {
-        held = held_after_command(building, after, panel, entry, point, place.priority, held);
+        act_on(authors, building, after, panel, entry)?;
     }
-    Place {
-        priority: place.priority,
-        held,
-    }
-}
-
-/// The places of a point after the commands of a run, which were acted on after this last tick.
-pub fn places_after_run(
-    alloc: Global,
-    building: &Building,
-    after: Option<i64>,
-    panel: &Name,
-    run: &[NumberedRow],
-    point: &Name,
-    places: &[Place],
-) -> Result<Vec<Place>, AllocError>
-    ensures { IfOk result (λ all. all.items ≡ map (λ (place : a_place). record {
-      priority = place.priority;
-      held =
-          held_after_run building.now after panel.now run.now point.now place.priority place.held;
-    }) places.now) }
-{
-    let mut all = Vec::new(alloc);
-    for place in places {
-        all.push(place_after_run(building, after, panel, run, point, place))?;
-    }
-    Ok(all)
+    Ok(())
 }

@@ -1,24 +1,27 @@
-//! The places of a point after one delivery more.
-ghost use Rattle.std.specs.Prelude.{◌≡◌, ◌≤◌, ◌++◌, ◌∷◌, [], IfOk, List, OnOk, Some, map};
-ghost use Rattle.desk_why.specs.Turns.{moment_of, place_at_last, place_at_time, places_along};
+//! One delivery more, over the table of authors.
+ghost use Rattle.std.specs.Prelude.{◌≡◌, ◌≤◌, ◌++◌, ◌∷◌, [], IfOk, List, OnOk, Some};
+ghost use Rattle.desk_why.specs.Authors.{held_along, held_at_last};
+ghost use Rattle.desk_why.specs.Settling.{held_at};
+ghost use Rattle.desk_why.specs.Steps.{Becomes, moment_of};
 ghost use Rattle.deliveries.specs.declared.delivery.Delivery.{Delivery as a_delivery};
 ghost use Rattle.deliveries.specs.declared.delivery.Delivery.TheVariants as delivery_of;
 ghost use Rattle.deliveries.specs.Delivered.{Holds};
-ghost use Rattle.deliveries.specs.Events.{acted_on, machine};
+ghost use Rattle.deliveries.specs.Events.{acted_on, is_later, machine};
 ghost use Rattle.deliveries.specs.Machine.{local_of};
+ghost use Rattle.deliveries.specs.Reply.{reply};
 ghost use Rattle.desk_straighten.specs.Kept.{HoldsSome};
-ghost use Rattle.desk_straighten.specs.Steps.{is_imported, is_ticked};
 ghost use Rattle.store_memory.specs.Memory.{standing_of};
 ghost use Rattle.points.specs.Run.{rows_between};
 ghost use Rattle.desk_settling.specs.Calendars.{Tells, with_items};
 ghost use Rattle.store.specs.Standing.{IsOpen};
 ghost use Rattle.points.specs.Texts.{Text};
 
-use crate::author::{Place, Settling};
-use crate::commands::places_after_run;
-use crate::settled_places::settled_places;
+use crate::author::Settling;
+use crate::authors::Authors;
+use crate::commands::act_on_run;
+use crate::settling::settle;
 use building::Building;
-use deliveries::Reply;
+use deliveries::{Delivery, Reply, refused_record};
 use desk_clock::{added_items, deliver_import, deliver_tick};
 use desk_commands::{deliver_command, deliver_skip};
 use local_times::{LocalTime, local_time};
@@ -48,89 +51,55 @@ fn passed_rows(
     Ok(run)
 }
 
-/// Delivers a command, and has the places after what its panel's next number passed.
-pub fn follow_command(
+// Delivers a command, and acts on what its panel's next number passed.
+fn make_command(
     alloc: Global,
     store: &mut MemStore,
     building: &Building,
-    point: &Name,
-    places: &[Place],
+    authors: &mut Authors,
     panel: &Name,
     number: i64,
     content: &Content,
-) -> Result<Vec<Place>, StoreFault>
+) -> Result<Reply, StoreFault>
+    ensures replies { (earlier : List a_delivery) → Holds building.now earlier (standing_of store.old)
+        → IfOk result (λ reported. reported ≡ reply building.now earlier (delivery_of.Command panel.now number content.now)) }
     ensures holds { (earlier : List a_delivery) → Holds building.now earlier (standing_of store.old)
         → OnOk result (Holds building.now (earlier ++ delivery_of.Command panel.now number content.now ∷ []) (standing_of store.new)) }
-    ensures places { (earlier : List a_delivery) → Holds building.now earlier (standing_of store.old)
-        → IfOk result (λ after. after.items ≡ places_along building.now (machine building.now earlier)
-        (acted_on building.now earlier (delivery_of.Command panel.now number content.now)) point.now places.now) }
+    ensures along { (earlier : List a_delivery) → Holds building.now earlier (standing_of store.old)
+        → OnOk result (Becomes (held_along building.now (machine building.now earlier)
+        (acted_on building.now earlier (delivery_of.Command panel.now number content.now))) authors.old authors.new) }
 {
     let last = store.last_tick()?;
     let before = store.panel_next(panel)?;
-    deliver_command(alloc, store, building, panel, number, content)?;
+    let reply = deliver_command(alloc, store, building, panel, number, content)?;
     let run = passed_rows(store, building, panel, before)?;
-    Ok(places_after_run(alloc, building, last, panel, run.as_slice(), point, places)?)
+    act_on_run(authors, building, last, panel, run.as_slice())?;
+    Ok(reply)
 }
 
-/// Delivers a skip, and has the places after what its panel's next number passed.
-pub fn follow_skip(
+// Delivers a skip, and acts on what its panel's next number passed.
+fn make_skip(
     alloc: Global,
     store: &mut MemStore,
     building: &Building,
-    point: &Name,
-    places: &[Place],
+    authors: &mut Authors,
     panel: &Name,
     upto: i64,
-) -> Result<Vec<Place>, StoreFault>
+) -> Result<Reply, StoreFault>
+    ensures replies { (earlier : List a_delivery) → Holds building.now earlier (standing_of store.old)
+        → IfOk result (λ reported. reported ≡ reply building.now earlier (delivery_of.Skip panel.now upto)) }
     ensures holds { (earlier : List a_delivery) → Holds building.now earlier (standing_of store.old)
         → OnOk result (Holds building.now (earlier ++ delivery_of.Skip panel.now upto ∷ []) (standing_of store.new)) }
-    ensures places { (earlier : List a_delivery) → Holds building.now earlier (standing_of store.old)
-        → IfOk result (λ after. after.items ≡ places_along building.now (machine building.now earlier)
-        (acted_on building.now earlier (delivery_of.Skip panel.now upto)) point.now places.now) }
+    ensures along { (earlier : List a_delivery) → Holds building.now earlier (standing_of store.old)
+        → OnOk result (Becomes (held_along building.now (machine building.now earlier)
+        (acted_on building.now earlier (delivery_of.Skip panel.now upto))) authors.old authors.new) }
 {
     let last = store.last_tick()?;
     let before = store.panel_next(panel)?;
-    deliver_skip(alloc, store, building, panel, upto)?;
+    let reply = deliver_skip(alloc, store, building, panel, upto)?;
     let run = passed_rows(store, building, panel, before)?;
-    Ok(places_after_run(alloc, building, last, panel, run.as_slice(), point, places)?)
-}
-
-fn is_ticked(reply: &Reply) -> bool
-    ensures { result ≡ is_ticked reply.now }
-{
-    matches!(reply, Reply::Ticked { .. })
-}
-
-// The places once the schedules have settled at a moment, if it has a local time, with these items imported.
-fn settled_at(
-    alloc: Global,
-    store: &mut MemStore,
-    building: &Building,
-    items: &[ImportedEntry],
-    settling: Settling,
-    point: &Name,
-    places: &[Place],
-) -> Result<Vec<Place>, StoreFault>
-    requires open { IsOpen (standing_of store.old) }
-    ensures same { OnOk result ((standing_of store.new).content ≡ (standing_of store.old).content) }
-    ensures places { (imported : Text → List Text) → Tells (standing_of store.old).content.tables.imported imported
-        → IfOk result (λ after. after.items ≡ map (place_at_time building.now (with_items imported items.now)
-        (standing_of store.old).content.tables.shown settling (local_of building.now (Some (moment_of settling)))
-        point.now) places.now) }
-{
-    match local_then(building, settling) {
-        Some(local) => settled_places(
-            alloc, store, building, items, local, settling, point, places,
-        ),
-        None => Ok(Vec::from_slice(alloc, places)?),
-    }
-}
-
-// The local time at which the schedules settle.
-fn local_then(building: &Building, settling: Settling) -> Option<LocalTime>
-    ensures { result ≡ local_of building.now (Some (moment_of settling)) }
-{
-    local_time(building.zone(), moment_of(settling))
+    act_on_run(authors, building, last, panel, run.as_slice())?;
+    Ok(reply)
 }
 
 // The moment at which the schedules settle.
@@ -143,93 +112,177 @@ fn moment_of(settling: Settling) -> i64
     }
 }
 
-/// Delivers a tick, and has the places after it.
-pub fn follow_tick(
+// The local time at which the schedules settle.
+fn local_then(building: &Building, settling: Settling) -> Option<LocalTime>
+    ensures { result ≡ local_of building.now (Some (moment_of settling)) }
+{
+    local_time(building.zone(), moment_of(settling))
+}
+
+// Settles the schedules at a moment, if it has a local time, with these items imported.
+fn settle_at(
     alloc: Global,
     store: &mut MemStore,
     building: &Building,
-    point: &Name,
-    places: &[Place],
-    at: i64,
-) -> Result<Vec<Place>, StoreFault>
-    ensures holds { (earlier : List a_delivery) → Holds building.now earlier (standing_of store.old)
-        → OnOk result (Holds building.now (earlier ++ delivery_of.Tick at ∷ []) (standing_of store.new)) }
-    ensures places { (earlier : List a_delivery) → Holds building.now earlier (standing_of store.old)
-        → IfOk result (λ after. after.items ≡ places_along building.now (machine building.now earlier)
-        (acted_on building.now earlier (delivery_of.Tick at)) point.now places.now) }
+    authors: &mut Authors,
+    items: &[ImportedEntry],
+    settling: Settling,
+) -> Result<(), StoreFault>
+    requires open { IsOpen (standing_of store.old) }
+    ensures same { OnOk result ((standing_of store.new).content ≡ (standing_of store.old).content) }
+    ensures settled { (imported : Text → List Text) → Tells (standing_of store.old).content.tables.imported imported
+        → OnOk result (Becomes (held_at building.now (with_items imported items.now)
+        (standing_of store.old).content.tables.shown settling (local_of building.now (Some (moment_of settling))))
+        authors.old authors.new) }
 {
-    let _last = store.last_tick()?;
-    let settling = Settling::Tick { at };
-    let settled = settled_at(alloc, store, building, &[], settling, point, places)?;
-    let reply = deliver_tick(alloc, store, building, at)?;
-    if is_ticked(&reply) {
-        Ok(settled)
-    } else {
-        Ok(Vec::from_slice(alloc, places)?)
+    match local_then(building, settling) {
+        Some(local) => settle(alloc, store, building, authors, items, local, settling),
+        None => Ok(()),
     }
 }
 
-fn is_imported(reply: &Reply) -> bool
-    ensures { result ≡ is_imported reply.now }
-{
-    matches!(reply, Reply::Imported { .. })
-}
-
-// The places once the schedules have settled at the last tick, if there was one, with these items imported.
-fn settled_at_last(
+// Settles the schedules at the last tick, if there was one, with these items imported.
+fn settle_at_last(
     alloc: Global,
     store: &mut MemStore,
     building: &Building,
+    authors: &mut Authors,
     items: &[ImportedEntry],
     last: Option<i64>,
-    point: &Name,
-    places: &[Place],
-) -> Result<Vec<Place>, StoreFault>
+) -> Result<(), StoreFault>
     requires open { IsOpen (standing_of store.old) }
     ensures same { OnOk result ((standing_of store.new).content ≡ (standing_of store.old).content) }
-    ensures places { (imported : Text → List Text) → Tells (standing_of store.old).content.tables.imported imported
-        → IfOk result (λ after. after.items ≡ map (place_at_last building.now (with_items imported items.now)
-        (standing_of store.old).content.tables.shown last point.now) places.now) }
+    ensures settled { (imported : Text → List Text) → Tells (standing_of store.old).content.tables.imported imported
+        → OnOk result (Becomes (held_at_last building.now (with_items imported items.now)
+        (standing_of store.old).content.tables.shown last) authors.old authors.new) }
 {
     match last {
         Some(after) => {
             let settling = Settling::Import { after };
-            settled_at(alloc, store, building, items, settling, point, places)
+            settle_at(alloc, store, building, authors, items, settling)
         }
-        None => Ok(Vec::from_slice(alloc, places)?),
+        None => Ok(()),
     }
 }
 
-/// Delivers an import, and has the places after it.
-pub fn follow_import(
+fn is_later(last: Option<i64>, moment: i64) -> bool
+    ensures { result ≡ is_later last moment }
+{
+    match last {
+        Some(last) => last < moment,
+        None => true,
+    }
+}
+
+// Settles the schedules at a tick, if it is later than the last one. The store is only read.
+fn settle_tick(
     alloc: Global,
     store: &mut MemStore,
     building: &Building,
-    point: &Name,
-    places: &[Place],
-    rows: &[CalendarEntry],
-) -> Result<Vec<Place>, StoreFault>
-    ensures holds { (earlier : List a_delivery) → Holds building.now earlier (standing_of store.old)
-        → OnOk result (Holds building.now (earlier ++ delivery_of.Import rows.now ∷ []) (standing_of store.new)) }
-    ensures places { (earlier : List a_delivery) → Holds building.now earlier (standing_of store.old)
-        → IfOk result (λ after. after.items ≡ places_along building.now (machine building.now earlier)
-        (acted_on building.now earlier (delivery_of.Import rows.now)) point.now places.now) }
+    authors: &mut Authors,
+    at: i64,
+) -> Result<(), StoreFault>
+    ensures same { OnOk result ((standing_of store.new).content ≡ (standing_of store.old).content) }
+    ensures along { (earlier : List a_delivery) → Holds building.now earlier (standing_of store.old)
+        → OnOk result (Becomes (held_along building.now (machine building.now earlier)
+        (acted_on building.now earlier (delivery_of.Tick at))) authors.old authors.new) }
 {
     let last = store.last_tick()?;
+    if !is_later(last, at) {
+        return Ok(());
+    }
+    let settling = Settling::Tick { at };
+    settle_at(alloc, store, building, authors, &[], settling)
+}
+
+// Settles the schedules at a tick, and delivers it.
+fn make_tick(
+    alloc: Global,
+    store: &mut MemStore,
+    building: &Building,
+    authors: &mut Authors,
+    at: i64,
+) -> Result<Reply, StoreFault>
+    ensures replies { (earlier : List a_delivery) → Holds building.now earlier (standing_of store.old)
+        → IfOk result (λ reported. reported ≡ reply building.now earlier (delivery_of.Tick at)) }
+    ensures holds { (earlier : List a_delivery) → Holds building.now earlier (standing_of store.old)
+        → OnOk result (Holds building.now (earlier ++ delivery_of.Tick at ∷ []) (standing_of store.new)) }
+    ensures along { (earlier : List a_delivery) → Holds building.now earlier (standing_of store.old)
+        → OnOk result (Becomes (held_along building.now (machine building.now earlier)
+        (acted_on building.now earlier (delivery_of.Tick at))) authors.old authors.new) }
+{
+    settle_tick(alloc, store, building, authors, at)?;
+    deliver_tick(alloc, store, building, at)
+}
+
+// Settles the schedules at an import of which each row has its calendar. The store is only read.
+fn settle_import(
+    alloc: Global,
+    store: &mut MemStore,
+    building: &Building,
+    authors: &mut Authors,
+    rows: &[CalendarEntry],
+) -> Result<(), StoreFault>
+    ensures same { OnOk result ((standing_of store.new).content ≡ (standing_of store.old).content) }
+    ensures along { (earlier : List a_delivery) → Holds building.now earlier (standing_of store.old)
+        → OnOk result (Becomes (held_along building.now (machine building.now earlier)
+        (acted_on building.now earlier (delivery_of.Import rows.now))) authors.old authors.new) }
+{
+    let last = store.last_tick()?;
+    if refused_record(building, rows).is_some() {
+        return Ok(());
+    }
     let items = added_items(alloc, store, building, rows)?;
-    let settled = settled_at_last(
-        alloc,
-        store,
-        building,
-        items.as_slice(),
-        last,
-        point,
-        places,
-    )?;
-    let reply = deliver_import(alloc, store, building, rows)?;
-    if is_imported(&reply) {
-        Ok(settled)
-    } else {
-        Ok(Vec::from_slice(alloc, places)?)
+    settle_at_last(alloc, store, building, authors, items.as_slice(), last)?;
+    Ok(())
+}
+
+// Settles the schedules at an import, and delivers it.
+fn make_import(
+    alloc: Global,
+    store: &mut MemStore,
+    building: &Building,
+    authors: &mut Authors,
+    rows: &[CalendarEntry],
+) -> Result<Reply, StoreFault>
+    ensures replies { (earlier : List a_delivery) → Holds building.now earlier (standing_of store.old)
+        → IfOk result (λ reported. reported ≡ reply building.now earlier (delivery_of.Import rows.now)) }
+    ensures holds { (earlier : List a_delivery) → Holds building.now earlier (standing_of store.old)
+        → OnOk result (Holds building.now (earlier ++ delivery_of.Import rows.now ∷ []) (standing_of store.new)) }
+    ensures along { (earlier : List a_delivery) → Holds building.now earlier (standing_of store.old)
+        → OnOk result (Becomes (held_along building.now (machine building.now earlier)
+        (acted_on building.now earlier (delivery_of.Import rows.now))) authors.old authors.new) }
+{
+    settle_import(alloc, store, building, authors, rows)?;
+    deliver_import(alloc, store, building, rows)
+}
+
+/// Delivers one delivery more, with what each place holds after what it makes happen.
+pub fn make_delivery(
+    alloc: Global,
+    store: &mut MemStore,
+    building: &Building,
+    authors: &mut Authors,
+    delivery: &Delivery,
+) -> Result<Reply, StoreFault>
+    ensures replies { (earlier : List a_delivery) → Holds building.now earlier (standing_of store.old)
+        → IfOk result (λ reported. reported ≡ reply building.now earlier delivery.now) }
+    ensures holds { (earlier : List a_delivery) → Holds building.now earlier (standing_of store.old)
+        → OnOk result (Holds building.now (earlier ++ delivery.now ∷ []) (standing_of store.new)) }
+    ensures along { (earlier : List a_delivery) → Holds building.now earlier (standing_of store.old)
+        → OnOk result (Becomes (held_along building.now (machine building.now earlier)
+        (acted_on building.now earlier delivery.now)) authors.old authors.new) }
+{
+    match delivery {
+        Delivery::Command {
+            panel,
+            number,
+            content,
+        } => make_command(alloc, store, building, authors, panel, *number, content),
+        Delivery::Skip { panel, upto } => {
+            make_skip(alloc, store, building, authors, panel, *upto)
+        }
+        Delivery::Tick { at } => make_tick(alloc, store, building, authors, *at),
+        Delivery::Import { rows } => make_import(alloc, store, building, authors, rows.as_slice()),
     }
 }

@@ -1,27 +1,22 @@
 //! The places of a point after the deliveries of a record.
-ghost use Rattle.std.specs.FinMap.{get};
-ghost use Rattle.std.specs.Prelude.{◌≡◌, ◌++◌, ◌∷◌, [], IfOk, List, OnOk};
-ghost use Rattle.desk_why.specs.Authors.{held_before, places_of};
+ghost use Rattle.std.specs.Prelude.{◌≡◌, ◌++◌, IfOk, List};
+ghost use Rattle.desk_why.specs.Authors.{places_of};
 ghost use Rattle.desk_why.specs.NextChanges.{next_changes};
-ghost use Rattle.desk_why.specs.Turns.{place_before, places_along, places_before};
 ghost use Rattle.deliveries.specs.declared.delivery.Delivery.{Delivery as a_delivery};
 ghost use Rattle.deliveries.specs.Delivered.{Holds};
-ghost use Rattle.deliveries.specs.Events.{acted_on, machine};
+ghost use Rattle.deliveries.specs.Events.{machine};
 ghost use Rattle.store_memory.specs.Memory.{standing_of};
 ghost use Rattle.points.specs.PriorityArray.{present_of};
 
-use crate::author::{Author, Held, Place};
+use crate::author::Place;
+use crate::authors::Authors;
 use crate::scheduled::{ScheduledChange, next_changes};
-use crate::steps::{follow_command, follow_import, follow_skip, follow_tick};
 use building::Building;
 use deliveries::Delivery;
-use points::{LOWEST_PRIORITY, Name, Point, PriorityArray};
-use std::alloc::{AllocError, Global};
+use points::Point;
+use std::alloc::Global;
 use store::{Store, StoreFault};
 use store_memory::MemStore;
-
-/// The priorities of a point's places.
-const PRIORITIES: [u8; 16] = [1, 2, 3, 4, 5, 6, 7, 8, 9, 10, 11, 12, 13, 14, 15, 16];
 
 /// What a point presents, what its places hold, and when the schedules that target it change next.
 #[derive(Drop)]
@@ -34,86 +29,6 @@ pub struct PointAtEnd {
     pub places: Vec<Place>,
     /// The next changes on the local day of the last tick, in the order of the schedules in the file.
     pub next: Vec<ScheduledChange>,
-}
-
-// Delivers one delivery, and has the places after it.
-fn follow(
-    alloc: Global,
-    store: &mut MemStore,
-    building: &Building,
-    point: &Name,
-    places: &[Place],
-    delivery: &Delivery,
-) -> Result<Vec<Place>, StoreFault>
-    ensures holds { (earlier : List a_delivery) → Holds building.now earlier (standing_of store.old)
-        → OnOk result (Holds building.now (earlier ++ delivery.now ∷ []) (standing_of store.new)) }
-    ensures places { (earlier : List a_delivery) → Holds building.now earlier (standing_of store.old)
-        → IfOk result (λ after. after.items ≡ places_along building.now (machine building.now earlier)
-        (acted_on building.now earlier delivery.now) point.now places.now) }
-{
-    match delivery {
-        Delivery::Command {
-            panel,
-            number,
-            content,
-        } => follow_command(
-            alloc, store, building, point, places, panel, *number, content,
-        ),
-        Delivery::Skip { panel, upto } => follow_skip(
-            alloc, store, building, point, places, panel, *upto,
-        ),
-        Delivery::Tick { at } => follow_tick(alloc, store, building, point, places, *at),
-        Delivery::Import { rows } => follow_import(
-            alloc,
-            store,
-            building,
-            point,
-            places,
-            rows.as_slice(),
-        ),
-    }
-}
-
-// What a place holds where a record begins.
-fn place_before(array: &PriorityArray, priority: u8) -> Place
-    ensures { result ≡ place_before array.now priority }
-{
-    Place {
-        priority,
-        held: held_before(array, priority),
-    }
-}
-
-fn held_before(array: &PriorityArray, priority: u8) -> Option<Held>
-    ensures { result ≡ held_before array.now priority }
-{
-    let value = value_in(array, priority)?;
-    Some(Held {
-        value,
-        author: Author::BeforeRecord,
-    })
-}
-
-// The value at a priority, if there is one.
-fn value_in(array: &PriorityArray, priority: u8) -> Option<i64>
-    ensures { result ≡ get array.now priority }
-{
-    // what an array says of other priorities
-    let _lowest = array.value_at(LOWEST_PRIORITY);
-    if priority == 0 || LOWEST_PRIORITY < priority {
-        return None;
-    }
-    array.value_at(priority)
-}
-
-// The sixteen places where a record begins.
-fn places_before(alloc: Global, array: &PriorityArray) -> Result<Vec<Place>, AllocError>
-    ensures { IfOk result (λ places. places.items ≡ places_before array.now) }
-{
-    PRIORITIES
-        .iter()
-        .map(|priority| place_before(array, *priority))
-        .collect(alloc)
 }
 
 /// What a point of a building presents after the deliveries of a record, and what put each value in its places, whatever
@@ -137,19 +52,12 @@ pub fn point_at_end(
     ensures next { (earlier : List a_delivery) → Holds building.now earlier (standing_of store.old)
         → IfOk result (λ at_end. at_end.next.items ≡ next_changes building.now (earlier ++ deliveries.now) point.now.name) }
 {
-    let array = store.array(&point.name)?;
-    let mut places = places_before(alloc, &array)?;
+    let mut authors = Authors::before_at(alloc, store, &point.name)?;
     for delivery in deliveries {
-        places = follow(
-            alloc,
-            store,
-            building,
-            &point.name,
-            places.as_slice(),
-            delivery,
-        )?;
+        authors.follow(alloc, store, building, delivery)?;
     }
     let (present, priority) = store.array(&point.name)?.present(point.relinquish_default);
+    let places = authors.places(alloc, &point.name)?;
     let next = next_changes(alloc, store, building, &point.name)?;
     Ok(PointAtEnd {
         present,
