@@ -1,22 +1,21 @@
 //! What the places of a building's points hold, and what put it there.
 ghost use Rattle.std.specs.Prelude.{◌≡◌, ◌≤◌, ◌++◌, ◌∷◌, [], ◌&&◌, ◌||◌, ◌==◌, Bool, false, IfOk, List, OnOk, map, option_copied};
-ghost use Rattle.std.specs.List.{list_any};
 ghost use Rattle.std.specs.Str.{bytes_eq};
 ghost use Rattle.building.specs.Building.{Building as a_building};
 ghost use Rattle.deliveries.specs.declared.delivery.Delivery.{Delivery as a_delivery};
 ghost use Rattle.deliveries.specs.Delivered.{Holds};
 ghost use Rattle.deliveries.specs.Reply.{reply};
+ghost use Rattle.deliveries.specs.SettlingLaws.{targets};
 ghost use Rattle.points.specs.PriorityArray.{HasSixteenPlaces, Places};
 ghost use Rattle.points.specs.Texts.{Text};
 ghost use Rattle.store_memory.specs.Memory.{standing_of};
-ghost use Rattle.desk_why.specs.declared.author.Place.{Place as a_place};
 ghost use Rattle.desk_why.specs.Authors.{held_before, priorities};
 ghost use Rattle.desk_why.specs.AuthorsTable.{AreHeld, IsHeld, held_in};
 ghost use Rattle.desk_why.specs.Steps.{Becomes, HaveBegun, put_where};
 
 use crate::author::{Author, Held, Place};
 use crate::steps::make_delivery;
-use building::Building;
+use building::{Building, NamedSchedule};
 use deliveries::{Delivery, Reply};
 use points::{LOWEST_PRIORITY, Name, PriorityArray};
 use std::alloc::{AllocError, Global};
@@ -178,18 +177,17 @@ impl Authors {
         Ok(())
     }
 
-    /// Puts the same in the places of some points.
-    pub(crate) fn put_in_each(
+    /// Puts the same in each place to which a schedule writes.
+    pub(crate) fn put_at_targets(
         &mut self,
-        points: &[Name],
-        priority: u8,
+        schedule: &NamedSchedule,
         held: Option<&Held>,
     ) -> Result<(), AllocError>
-        ensures { OnOk result (Becomes (put_where (λ q r. priority == r && list_any (λ point. bytes_eq point q) points.now)
-            (option_copied held.entry)) self.old self.new) }
+        ensures { OnOk result (Becomes (put_where (λ point priority. targets point priority schedule.now) (option_copied held.entry))
+            self.old self.new) }
     {
-        for point in points {
-            self.put(point, priority, held)?;
+        for point in schedule.targets.as_slice() {
+            self.put(point, schedule.priority, held)?;
         }
         Ok(())
     }

@@ -107,7 +107,7 @@ fn leave(
 {
     let shown = store.shown(&schedule.name)?;
     if leaves(schedule, shown, today) {
-        authors.put_in_each(schedule.targets.as_slice(), schedule.priority, None)?;
+        authors.put_at_targets(schedule, None)?;
     }
     Ok(())
 }
@@ -144,11 +144,7 @@ fn put_due(
     let shown = store.shown(&schedule.name)?;
     if is_due(schedule, shown, today) {
         let held = held_by_schedule(schedule, today);
-        authors.put_in_each(
-            schedule.targets.as_slice(),
-            schedule.priority,
-            held.as_ref(),
-        )?;
+        authors.put_at_targets(schedule, held.as_ref())?;
     }
     Ok(())
 }

@@ -195,26 +195,6 @@ fn settle_tick(
     settle_at(alloc, store, building, authors, &[], settling)
 }
 
-// Settles the schedules at a tick, and delivers it.
-fn make_tick(
-    alloc: Global,
-    store: &mut MemStore,
-    building: &Building,
-    authors: &mut Authors,
-    at: i64,
-) -> Result<Reply, StoreFault>
-    ensures replies { (earlier : List a_delivery) → Holds building.now earlier (standing_of store.old)
-        → IfOk result (λ reported. reported ≡ reply building.now earlier (delivery_of.Tick at)) }
-    ensures holds { (earlier : List a_delivery) → Holds building.now earlier (standing_of store.old)
-        → OnOk result (Holds building.now (earlier ++ delivery_of.Tick at ∷ []) (standing_of store.new)) }
-    ensures along { (earlier : List a_delivery) → Holds building.now earlier (standing_of store.old)
-        → OnOk result (Becomes (held_along building.now (machine building.now earlier)
-        (acted_on building.now earlier (delivery_of.Tick at))) authors.old authors.new) }
-{
-    settle_tick(alloc, store, building, authors, at)?;
-    deliver_tick(alloc, store, building, at)
-}
-
 // Settles the schedules at an import of which each row has its calendar. The store is only read.
 fn settle_import(
     alloc: Global,
@@ -235,26 +215,6 @@ fn settle_import(
     let items = added_items(alloc, store, building, rows)?;
     settle_at_last(alloc, store, building, authors, items.as_slice(), last)?;
     Ok(())
-}
-
-// Settles the schedules at an import, and delivers it.
-fn make_import(
-    alloc: Global,
-    store: &mut MemStore,
-    building: &Building,
-    authors: &mut Authors,
-    rows: &[CalendarEntry],
-) -> Result<Reply, StoreFault>
-    ensures replies { (earlier : List a_delivery) → Holds building.now earlier (standing_of store.old)
-        → IfOk result (λ reported. reported ≡ reply building.now earlier (delivery_of.Import rows.now)) }
-    ensures holds { (earlier : List a_delivery) → Holds building.now earlier (standing_of store.old)
-        → OnOk result (Holds building.now (earlier ++ delivery_of.Import rows.now ∷ []) (standing_of store.new)) }
-    ensures along { (earlier : List a_delivery) → Holds building.now earlier (standing_of store.old)
-        → OnOk result (Becomes (held_along building.now (machine building.now earlier)
-        (acted_on building.now earlier (delivery_of.Import rows.now))) authors.old authors.new) }
-{
-    settle_import(alloc, store, building, authors, rows)?;
-    deliver_import(alloc, store, building, rows)
 }
 
 /// Delivers one delivery more, with what each place holds after what it makes happen.
@@ -282,7 +242,13 @@ pub fn make_delivery(
         Delivery::Skip { panel, upto } => {
             make_skip(alloc, store, building, authors, panel, *upto)
         }
-        Delivery::Tick { at } => make_tick(alloc, store, building, authors, *at),
-        Delivery::Import { rows } => make_import(alloc, store, building, authors, rows.as_slice()),
+        Delivery::Tick { at } => {
+            settle_tick(alloc, store, building, authors, *at)?;
+            deliver_tick(alloc, store, building, *at)
+        }
+        Delivery::Import { rows } => {
+            settle_import(alloc, store, building, authors, rows.as_slice())?;
+            deliver_import(alloc, store, building, rows.as_slice())
+        }
     }
 }

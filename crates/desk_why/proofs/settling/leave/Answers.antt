@@ -1,25 +1,20 @@
-use Rattle.std.proofs.Common.{◌∙◌, ◌&&◌, ◌==◌, List, None, sym, subst}
-use Rattle.std.specs.List.{list_any}
-use Rattle.std.specs.Str.{bytes_eq}
+use Rattle.std.proofs.Common.{◌∙◌, ◌&&◌, None, sym}
 use Rattle.store_memory.specs.Memory.{standing_of}
-use Rattle.points.specs.Texts.{Text}
 use Rattle.deliveries.specs.SettlingLaws.{leaves_at, targets}
 use Rattle.desk_settling.specs.Settled.{falls_quiet, releases}
-use Rattle.desk_why.specs.Steps.{Becomes, put_where, today_of}
+use Rattle.desk_why.specs.Steps.{today_of}
 use Rattle.desk_why.proofs.TurnLemmas.{leaves-read, put-done, put-not}
 use Rattle.desk_why.proofs.settling.leave.Goals as goal
 
-pub returns-in_ok-put_in_each-clause-left : goal.returns-in_ok-put_in_each-clause-left
-returns-in_ok-put_in_each-clause-left c =
+pub returns-in_ok-put_at_targets-clause-left : goal.returns-in_ok-put_at_targets-clause-left
+returns-in_ok-put_at_targets-clause-left c =
     let now = today_of c.args.today.now in
     let shown = (standing_of c.args.store.now).content.tables.shown in
     let s = c.args.schedule.now in
     let read = c.in_ok-shown.shown in
     put-done (falls_quiet now (λ name. read) s && releases s.on_leave) (λ point priority. leaves_at now shown point priority s)
     (λ point priority. targets point priority s) None (leaves-read now shown s read (c.in_ok-shown.ensures.value tt))
-    c.args.authors.now c.put_in_each.new.self (sym c.leaves.ensures ∙ c.if-leaves.true)
-    (subst (λ (names : List Text). Becomes (put_where (λ q r. s.priority == r && list_any (λ point. bytes_eq point q) names) None)
-    c.args.authors.now c.put_in_each.new.self) c.as_slice.ensures c.in_ok-put_in_each.ensures)
+    c.args.authors.now c.put_at_targets.new.self (sym c.leaves.ensures ∙ c.if-leaves.true) c.in_ok-put_at_targets.ensures
 
 pub returns-else-leaves-clause-left : goal.returns-else-leaves-clause-left
 returns-else-leaves-clause-left c =
