@@ -5,4 +5,4 @@ pub mod ReplayLemmas
 pub mod StopLemmas
 pub mod StraightenLemmas
 pub mod FloatLemmas
-pub mod WhyLemmas
+pub mod ExplainedLemmas

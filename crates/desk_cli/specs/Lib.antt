@@ -6,4 +6,5 @@ pub mod ListLines
 pub mod Straighten
 pub mod Description
 pub mod ZoneText
-pub mod Why
+pub mod Question
+pub mod Explained

@@ -10,7 +10,7 @@ use cli_common::{Input, ListInput, Status, print_fault};
 use cli_days::Bounds;
 use cli_store::Serving;
 use cli_words::{ArgFault, Line};
-use desk_cli::{describe, replay, straighten, why};
+use desk_cli::{Question, describe, explain, replay, straighten};
 use std::env;
 use std::fs::{self, File};
 use std::io::{self, BufReader, BufWriter, Write};
@@ -124,9 +124,9 @@ enum ListRun<'a> {
     },
     /// The list that a perfect network would have brought: `desk straighten`.
     Straighten,
-    /// What each place of a point has, up to a moment, and why: `desk why`.
-    Why {
-        point: &'a str,
+    /// What the list explains, up to a moment: `desk why` and `desk overrides`.
+    Explain {
+        question: Question<'a>,
         until: Option<&'a str>,
     },
 }
@@ -172,9 +172,9 @@ fn run_list(
     Ok(match run {
         ListRun::Replay { until } => { replay(alloc, building, list, base, until, &mut out, fault) }
         ListRun::Straighten => straighten(alloc, building, list, &mut out, fault),
-        ListRun::Why { point, until } => {
-            why(alloc, building, list, base, point, until, &mut out, fault)
-        }
+        ListRun::Explain { question, until } => explain(
+            alloc, building, list, base, question, until, &mut out, fault,
+        ),
     })
 }
 
@@ -283,7 +283,21 @@ fn run(rt: &HostRuntime, words: &[String]) -> io::Result<Status> {
                 point,
                 until,
             },
-        ) => run_list(rt, file, deliveries, ListRun::Why { point, until }),
+        ) => {
+            let question = Question::Why { point };
+            run_list(rt, file, deliveries, ListRun::Explain { question, until })
+        }
+        Ok(
+            Line::Overrides {
+                file,
+                deliveries,
+                from,
+                until,
+            },
+        ) => {
+            let question = Question::Overrides { from };
+            run_list(rt, file, deliveries, ListRun::Explain { question, until })
+        }
         Ok(Line::Straighten { file, deliveries }) => {
             run_list(rt, file, deliveries, ListRun::Straighten)
         }

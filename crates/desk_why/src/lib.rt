@@ -26,6 +26,7 @@ pub use laws::place_has_its_authors_value;
 pub use place_lines::why_text;
 pub use scheduled::ScheduledChange;
 pub use walking::{PointAtEnd, point_at_end};
+pub use words::{left_in, right_in};
 
 mod author;
 mod author_texts;

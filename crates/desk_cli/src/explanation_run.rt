@@ -1,5 +1,5 @@
-//! The run that says why a point has its value.
-ghost use Rattle.std.specs.Prelude.{◌≡◌, List, ℕ, IfOk, Ok, OnOk, Some, option_copied, string_bytes};
+//! The run that says what a list explains.
+ghost use Rattle.std.specs.Prelude.{◌≡◌, List, ℕ, Ok, OnOk, Some};
 ghost use Rattle.std.specs.Io.Buffered.{reader_remaining};
 ghost use Rattle.std.specs.Io.KnownBytes.{Keeps};
 ghost use Rattle.building.specs.Building.{contents_of};
@@ -8,44 +8,42 @@ ghost use Rattle.cli_base.specs.Base.{StandsOn};
 ghost use Rattle.cli_common.specs.Input.{bytes_of};
 ghost use Rattle.deliveries.specs.Delivered.{Holds};
 ghost use Rattle.deliveries.specs.declared.delivery.Delivery.{Delivery as a_delivery};
+ghost use Rattle.desk_cli.specs.Explained.{Explains, ExplainsNoMore};
 ghost use Rattle.desk_cli.specs.Replay.{Opens};
 ghost use Rattle.desk_cli.specs.Until.{said_in};
-ghost use Rattle.desk_cli.specs.Why.{Explains, ExplainsNoMore, explanation, point_of};
 ghost use Rattle.store_memory.specs.Memory.{standing_of};
 
 use crate::list_reading::list_deliveries;
-use crate::until::{until_line, until_of};
+use crate::question::{Question, asked_of, explanation};
+use crate::until::until_of;
 use building::Building;
 use cli_base::desk_on;
 use cli_common::{Input, ListInput, RunFault, Status, flush, print_text, read_building};
-use deliveries::Delivery;
-use desk_why::{point_at_end, why_text};
-use points::{Point, name_of};
 use std::alloc::Global;
 use std::io::{self, BufReader, Read, Write};
-use store::StoreFault;
 use store_memory::MemStore;
 
-/// Prints what a point of the building of a file presents after the deliveries of a list, what put each value in its
-/// places, and when the schedules that target it change next on the local day of the last tick: `desk why`. The list
-/// begins on the tables of its base, or on empty ones where it has none; of what they have in a place no more is told than
-/// that it was put there before the record. Empty lines of the list are passed over, also with a CR, and so is an import
+/// Prints what is asked of the deliveries of a list: what a point of the building of a file presents after them, what put
+/// each value in its places, and when the schedules that target it change next on the local day of the last tick, `desk
+/// why`; or when panels' commands gave points their values, `desk overrides`. The list begins on the tables of its base, or
+/// on empty ones where it has none; of what they have in a place no more is told than that it was put there before the
+/// record. Empty lines of the list are passed over, also with a CR, and so is an import
 /// whose holiday list is at fault. Where `until` is a moment (`moments`), the list ends before its first line that has a
 /// tick later than it, that line and those after it are not looked at, and a last line tells which moment of the building's
 /// clock that was.
 ///
-/// The building is read, and refused, then the base, over which a desk is to open, before the point is looked for, then the
+/// The building is read, and refused, then the base, over which a desk is to open, before the question's own words, then the
 /// moment, and then the list is opened; the whole list is read before anything is printed. A fault is one line on `fault`,
 /// in one write, and ends the run: a file that can't be read or is no building, a base that does not suit it, a name of no
 /// point of it, a line that is no delivery, lack of memory, or an output that fails. By then nothing is printed, or, where
 /// the output ended the run, a beginning of the text. `out` is flushed at the end of the run, whatever it was; if that
 /// loses output, this is the fault.
-pub fn why<B: Read + Drop, D: Read + Drop, O, W: Write, F: Write>(
+pub fn explain<B: Read + Drop, D: Read + Drop, O, W: Write, F: Write>(
     alloc: Global,
     file: Input<'_, B>,
     list: ListInput<'_, O>,
     base: Option<MemStore>,
-    point: &str,
+    question: Question<'_>,
     until: Option<&str>,
     out: &mut W,
     fault: &mut F,
@@ -57,15 +55,15 @@ where
         → bytes_of B.remaining file.entry.reader ≡ Some file_bytes
         → Opens (O.post list.entry.open) (bytes_of (reader_remaining D.remaining)) list_bytes
         → StandsOn base file_bytes earlier
-        → Explains file_bytes earlier list_bytes point.now (said_in until.entry) (W.contents out.old) (W.contents out.new) }
+        → Explains file_bytes earlier list_bytes question.entry (said_in until.entry) (W.contents out.old) (W.contents out.new) }
     ensures quiet { result ≡ Status.Done → Keeps (F.contents fault.old) (F.contents fault.new) }
     ensures no_more { (file_bytes list_bytes : List ℕ) (earlier : List a_delivery)
         → bytes_of B.remaining file.entry.reader ≡ Some file_bytes
         → Opens (O.post list.entry.open) (bytes_of (reader_remaining D.remaining)) list_bytes
         → StandsOn base file_bytes earlier
-        → ExplainsNoMore file_bytes earlier list_bytes point.now (said_in until.entry) (W.contents out.old) (W.contents out.new) }
+        → ExplainsNoMore file_bytes earlier list_bytes question.entry (said_in until.entry) (W.contents out.old) (W.contents out.new) }
 {
-    match why_over(alloc, file, list, base, point, until, out) {
+    match explain_over(alloc, file, list, base, question, until, out) {
         Ok(()) => Status::Done,
         Err(end) => {
             let end = end.after(out.flush());
@@ -75,12 +73,12 @@ where
     }
 }
 
-fn why_over<'a, B: Read + Drop, D: Read + Drop, O, W: Write>(
+fn explain_over<'a, B: Read + Drop, D: Read + Drop, O, W: Write>(
     alloc: Global,
     file: Input<'a, B>,
     list: ListInput<'a, O>,
     base: Option<MemStore>,
-    name: &'a str,
+    question: Question<'a>,
     said: Option<&'a str>,
     out: &mut W,
 ) -> Result<(), RunFault<'a>>
@@ -91,28 +89,28 @@ where
         → bytes_of B.remaining file.entry.reader ≡ Some file_bytes
         → Opens (O.post list.entry.open) (bytes_of (reader_remaining D.remaining)) list_bytes
         → StandsOn base file_bytes earlier
-        → Explains file_bytes earlier list_bytes name.now (said_in said.entry) (W.contents out.old) (W.contents out.new)) }
+        → Explains file_bytes earlier list_bytes question.entry (said_in said.entry) (W.contents out.old) (W.contents out.new)) }
     ensures no_more { (file_bytes list_bytes : List ℕ) (earlier : List a_delivery)
         → bytes_of B.remaining file.entry.reader ≡ Some file_bytes
         → Opens (O.post list.entry.open) (bytes_of (reader_remaining D.remaining)) list_bytes
         → StandsOn base file_bytes earlier
-        → ExplainsNoMore file_bytes earlier list_bytes name.now (said_in said.entry) (W.contents out.old) (W.contents out.new) }
+        → ExplainsNoMore file_bytes earlier list_bytes question.entry (said_in said.entry) (W.contents out.old) (W.contents out.new) }
 {
     let building = read_building(alloc, file)?;
     let desk = desk_on(alloc, building, base)?;
     let (building, store) = desk.into_parts();
     let mut store = store;
-    explain(alloc, &building, &mut store, list, name, said, out)
+    explain_asked(alloc, &building, &mut store, list, question, said, out)
 }
 
-/// Prints the text of a point after the deliveries of the list, which are made to the store. It is lent, so that no exit
+/// Prints what is asked after the deliveries of the list, which are made to the store. It is lent, so that no exit
 /// here drops it.
-fn explain<'a, D: Read + Drop, O, W: Write>(
+fn explain_asked<'a, D: Read + Drop, O, W: Write>(
     alloc: Global,
     building: &Building,
     store: &mut MemStore,
     list: ListInput<'a, O>,
-    name: &'a str,
+    question: Question<'a>,
     said: Option<&'a str>,
     out: &mut W,
 ) -> Result<(), RunFault<'a>>
@@ -123,45 +121,17 @@ where
         → building_of file_bytes ≡ Ok (contents_of building.now)
         → Opens (O.post list.entry.open) (bytes_of (reader_remaining D.remaining)) list_bytes
         → Holds building.now earlier (standing_of store.old)
-        → Explains file_bytes earlier list_bytes name.now (said_in said.entry) (W.contents out.old) (W.contents out.new)) }
+        → Explains file_bytes earlier list_bytes question.entry (said_in said.entry) (W.contents out.old) (W.contents out.new)) }
     ensures no_more { (file_bytes list_bytes : List ℕ) (earlier : List a_delivery)
         → building_of file_bytes ≡ Ok (contents_of building.now)
         → Opens (O.post list.entry.open) (bytes_of (reader_remaining D.remaining)) list_bytes
         → Holds building.now earlier (standing_of store.old)
-        → ExplainsNoMore file_bytes earlier list_bytes name.now (said_in said.entry) (W.contents out.old) (W.contents out.new) }
+        → ExplainsNoMore file_bytes earlier list_bytes question.entry (said_in said.entry) (W.contents out.old) (W.contents out.new) }
 {
-    let Some(point) = point_of(building, name) else {
-        return Err(RunFault::NoPoint { name });
-    };
+    let asked = asked_of(building, question)?;
     let until = until_of(building, said)?;
     let deliveries = list_deliveries(alloc, building, list, until)?;
-    let text = explanation(alloc, building, store, deliveries.as_slice(), point, until)?;
+    let text = explanation(alloc, building, store, deliveries.as_slice(), asked, until)?;
     print_text(out, text.as_bytes())?;
     flush(out)
-}
-
-/// The point of a name.
-fn point_of<'b>(building: &'b Building, name: &str) -> Option<&'b Point>
-    ensures { option_copied result ≡ point_of building.now name.now }
-{
-    building.find_point(&name_of(name)?)
-}
-
-/// What is printed of a point after deliveries up to a moment, which are made to the store.
-fn explanation(
-    alloc: Global,
-    building: &Building,
-    store: &mut MemStore,
-    deliveries: &[Delivery],
-    point: &Point,
-    until: Option<i64>,
-) -> Result<String, StoreFault>
-    ensures { (earlier : List a_delivery) → Holds building.now earlier (standing_of store.old)
-        → IfOk result (λ text. string_bytes text ≡ explanation building.now earlier deliveries.now point.now until) }
-{
-    let at_end = point_at_end(alloc, building, store, deliveries, point)?;
-    let mut text = why_text(alloc, building, point, &at_end)?;
-    let until = until_line(alloc, building, until)?;
-    text.push_str(until.as_str())?;
-    Ok(text)
 }

@@ -1,6 +1,6 @@
 use Rattle.cli_common.proofs.PrintedLemmas.{Keeps-same}
-use Rattle.desk_cli.proofs.WhyLemmas.{explains-Keeps}
-use Rattle.desk_cli.proofs.why_run.why.Goals as goal
+use Rattle.desk_cli.proofs.ExplainedLemmas.{explains-Keeps}
+use Rattle.desk_cli.proofs.explanation_run.explain.Goals as goal
 
 pub returns-in-Ok : goal.returns-in-Ok
 returns-in-Ok g c = record { done = λ e. c.in-Ok.ensures.done; quiet = λ e. Keeps-same _; no_more = c.in-Ok.ensures.no_more }

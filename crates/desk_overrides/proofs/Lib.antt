@@ -1,0 +1,3 @@
+pub mod LookLemmas
+pub mod WatchLemmas
+pub mod WatchingLemmas

@@ -1,0 +1,3 @@
+pub mod Overrides
+pub mod Lines
+pub mod Watched
