@@ -114,15 +114,15 @@ noted-same ended standing seen look known same = λ later.
       ended = if test then ended_in standing.given later else Some (record { last = look.last });
     } ∷ (begun (Some standing.given) look.given look.last later ++ overrides look.given later))) same
     ∙ (ap (λ first. ended ++ (override_by standing.given standing.began later ∷ (first ++ overrides look.given later)))
-        (begun-same standing.given look.given look.last later same)
+    (begun-same standing.given look.given look.last later same)
     ∙ ap (λ rest. ended ++ (override_by standing.given standing.began later ∷ rest))
-        (overrides-same standing.given look.given later same))))
+    (overrides-same standing.given look.given later same))))
 
 -- what stood ends
 pub noted-other : (ended : List Override) (standing : Standing) (seen : List Look) (look : Look) → AreKnown ended (Some standing) seen
     → is_given look.given standing.given ≡ false
     → AreKnown (ended ++ record { given = standing.given; began = standing.began; ended = Some (record { last = look.last }) } ∷ [])
-        (standing_from look) (seen ++ look ∷ [])
+    (standing_from look) (seen ++ look ∷ [])
 noted-other ended standing seen look known other = λ later.
     let over : Override = record { given = standing.given; began = standing.began; ended = Some (record { last = look.last }) } in
     ap (overrides None) (append_assoc seen (look ∷ []) later)

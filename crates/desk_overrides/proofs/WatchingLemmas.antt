@@ -74,7 +74,7 @@ pub watched-more : (b : Building) (E ds : List Delivery) (d : Delivery) (authors
     → AreWatched b E ds old → AreHeld b E (ds ++ d ∷ []) authors → last ≡ (machine b (E ++ (ds ++ d ∷ []))).last_tick
     → map (λ (watch : Watch). watch.point) new ≡ map (λ (watch : Watch). watch.point) old
     → All (λ (watch : Watch). Knows watch (looks b E [] ds watch.point
-        ++ record { given = given_from (held_in authors watch.point); last = last } ∷ [])) new
+    ++ record { given = given_from (held_in authors watch.point); last = last } ∷ [])) new
     → AreWatched b E (ds ++ d ∷ []) new
 watched-more b E ds d authors last old new watched held is points known =
     let named = points ∙ watched.points in

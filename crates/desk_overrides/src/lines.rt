@@ -11,7 +11,9 @@ use std::alloc::{AllocError, Global};
 
 /// The places of a point's name, of a value and of a priority, as in a `POINT` line.
 const NAME_WIDTH: usize = 32;
+
 const VALUE_WIDTH: usize = 12;
+
 const PRIORITY_WIDTH: usize = 2;
 
 fn last_text(alloc: Global, building: &Building, last: Option<i64>) -> Result<String, AllocError>

@@ -21,7 +21,7 @@ loop-watch-preserved c = record {
       let items : into_iter_items c.into_iter-watch-iterator.result ≡ c.args.watches.items = search rules in
       let count : into_iter_len c.into_iter-watch-iterator.result ≡ length c.args.watches.items = search rules in
       let turn = YieldsList-turn (YieldsList-from_vec c.args.watches.items items count) c.loop-watch.yielded c.loop-watch.watch-iterator c.loop-watch.yielded_by _ c.next.new.self
-          c.in-Some.watch c.in-Some.is c.next.ensures.steps in
+      c.in-Some.watch c.in-Some.is c.next.ensures.steps in
       let before : Knows c.in-Some.watch (seen c.in-Some.watch.point) =
       subst (λ (watch : Watch). Knows watch (seen watch.point)) (sym turn.1) (known _ c.in-Some.watch turn.0) in
       let seen_now : Text → Look = λ point. record { given = given_from (held_in c.args.authors.now point); last = c.args.last } in
