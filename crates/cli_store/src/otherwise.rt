@@ -16,7 +16,7 @@ fn otherwise_line(alloc: Global, difference: &Difference) -> Result<String, Allo
 
 /// Prints it, if there is one. The run goes on, also where memory for it is refused or the output fails.
 pub(crate) fn tell_otherwise<F: Write>(alloc: Global, otherwise: Option<Difference>, fault: &mut F)
-    ensures { Tells otherwise.entry (F.contents fault.old) (F.contents fault.new) }
+    ensures { Tells otherwise (F.contents fault.old) (F.contents fault.new) }
 {
     let Some(difference) = otherwise else {
         return;
