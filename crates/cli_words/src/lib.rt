@@ -10,5 +10,6 @@ pub use version::VERSION;
 
 mod arg_fault;
 mod arguments;
+mod commands;
 mod line;
 mod version;

@@ -1,7 +1,7 @@
 use Rattle.std.proofs.Common.{rules, true, codes}
 use Rattle.clap.specs.Simple.{on_top}
 use Rattle.clap.specs.Words.{App, new_app}
-use Rattle.cli_words.proofs.line.desk_command.Goals as goal
+use Rattle.cli_words.proofs.commands.desk_command.Goals as goal
 
 pub returns : goal.returns
 returns c =
