@@ -12,8 +12,10 @@
 //! byte.
 #![tactic(auto)]
 
+pub use opening::look_over;
 pub use operating::Desk;
-pub use point_state::PointState;
+pub use point_state::{PointState, read_point};
+pub use whole_report::day_report;
 
 mod opening;
 mod operating;

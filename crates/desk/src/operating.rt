@@ -17,7 +17,7 @@ ghost use Rattle.desk.specs.Opening.{Opens};
 ghost use Rattle.desk.specs.PointState.{state_of};
 
 use crate::opening::look_over;
-use crate::point_state::PointState;
+use crate::point_state::{PointState, read_point};
 use crate::whole_report::day_report;
 use building::Building;
 use dates::Day;
@@ -196,18 +196,7 @@ impl<S: Store + Drop> Desk<S> {
             ≡ state_of ((S.standing self.old.store).content.tables.places name.now) (point_named self.old.building.points name.now)) }
         ensures building { self.new.building ≡ self.old.building }
     {
-        let Some(point) = self.building.find_point(name) else {
-            // A store that is shut answers before all else. It isn't asked for the name: a client may choose any.
-            let _last = self.store.last_tick()?;
-            return Ok(None);
-        };
-        let places = self.store.array(name)?;
-        let (present, priority) = places.present(point.relinquish_default);
-        Ok(Some(PointState {
-            places,
-            present,
-            priority,
-        }))
+        read_point(&mut self.store, &self.building, name)
     }
 
     /// The report of a day over the tables as they are: when each schedule has which value, and how each point is.
