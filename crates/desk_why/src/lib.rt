@@ -20,12 +20,12 @@
 #![tactic(auto)]
 
 pub use author::{Author, Held, Place, Settling};
-pub use author_texts::moment_text;
+pub use author_texts::{author_text, moment_text, source_text};
 pub use authors::Authors;
 pub use laws::place_has_its_authors_value;
 pub use place_lines::why_text;
 pub use scheduled::ScheduledChange;
-pub use walking::{PointAtEnd, point_at_end};
+pub use walking::{PointAtEnd, point_at_end, point_now};
 pub use words::{left_in, right_in};
 
 mod author;

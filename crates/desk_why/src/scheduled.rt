@@ -1,5 +1,5 @@
 //! When the schedules that target a point change next.
-ghost use Rattle.std.specs.Prelude.{◌≡◌, IfOk, List};
+ghost use Rattle.std.specs.Prelude.{◌≡◌, IfOk, List, OnOk};
 ghost use Rattle.std.specs.List.{filter_map};
 ghost use Rattle.desk_why.specs.NextChanges.{change_at, change_of, changes_at, targets_point};
 ghost use Rattle.deliveries.specs.Machine.{local_of};
@@ -99,7 +99,8 @@ pub fn next_changes(
     building: &Building,
     point: &Name,
 ) -> Result<Vec<ScheduledChange>, StoreFault>
-    ensures { (imported : Text → List Text) → Tells (standing_of store.old).content.tables.imported imported
+    ensures same { OnOk result ((standing_of store.new).content ≡ (standing_of store.old).content) }
+    ensures changes { (imported : Text → List Text) → Tells (standing_of store.old).content.tables.imported imported
         → IfOk result (λ changes. changes.items ≡ changes_at building.now imported
         (local_of building.now (standing_of store.old).content.tables.last_tick) point.now) }
 {

@@ -1,6 +1,7 @@
 //! The places of a point after the deliveries of a record.
-ghost use Rattle.std.specs.Prelude.{◌≡◌, ◌++◌, IfOk, List};
+ghost use Rattle.std.specs.Prelude.{◌≡◌, ◌++◌, IfOk, List, OnOk};
 ghost use Rattle.desk_why.specs.Authors.{places_of};
+ghost use Rattle.desk_why.specs.AuthorsTable.{IsHeld};
 ghost use Rattle.desk_why.specs.NextChanges.{next_changes};
 ghost use Rattle.deliveries.specs.declared.delivery.Delivery.{Delivery as a_delivery};
 ghost use Rattle.deliveries.specs.Delivered.{Holds};
@@ -31,9 +32,39 @@ pub struct PointAtEnd {
     pub next: Vec<ScheduledChange>,
 }
 
+/// What a point of a building presents in a store, what its places hold by the table of authors, and for each schedule
+/// that targets the point the next change on the local day of the last tick, after its time: `specs/NextChanges.antt`. The
+/// store, which has the tables of all deliveries so far, is only read.
+pub fn point_now(
+    alloc: Global,
+    building: &Building,
+    store: &mut MemStore,
+    authors: &Authors,
+    point: &Point,
+) -> Result<PointAtEnd, StoreFault>
+    ensures same { OnOk result ((standing_of store.new).content ≡ (standing_of store.old).content) }
+    ensures present { (deliveries : List a_delivery) → Holds building.now deliveries (standing_of store.old)
+        → IfOk result (λ now. (now.present, now.priority)
+        ≡ present_of ((machine building.now deliveries).places point.now.name) point.now.relinquish_default) }
+    ensures places { (earlier deliveries : List a_delivery) → IsHeld building.now earlier deliveries authors.now point.now.name
+        → IfOk result (λ now. now.places.items ≡ places_of building.now earlier deliveries point.now.name) }
+    ensures next { (deliveries : List a_delivery) → Holds building.now deliveries (standing_of store.old)
+        → IfOk result (λ now. now.next.items ≡ next_changes building.now deliveries point.now.name) }
+{
+    let (present, priority) = store.array(&point.name)?.present(point.relinquish_default);
+    let places = authors.places(alloc, &point.name)?;
+    let next = next_changes(alloc, store, building, &point.name)?;
+    Ok(PointAtEnd {
+        present,
+        priority,
+        places,
+        next,
+    })
+}
+
 /// What a point of a building presents after the deliveries of a record, and what put each value in its places, whatever
-/// is repeated, late, differing, given up or parked there: `specs/Authors.antt`. And for each schedule that targets the
-/// point the next change on the local day of the last tick, after its time: `specs/NextChanges.antt`.
+/// is repeated, late, differing, given up or parked there: `specs/Authors.antt`. And the next changes, as `point_now` has
+/// them.
 ///
 /// The deliveries are made to the store, which has the tables where the record begins. Of what its places hold then no
 /// more is told than that it was put before the record.
@@ -56,13 +87,5 @@ pub fn point_at_end(
     for delivery in deliveries {
         authors.follow(alloc, store, building, delivery)?;
     }
-    let (present, priority) = store.array(&point.name)?.present(point.relinquish_default);
-    let places = authors.places(alloc, &point.name)?;
-    let next = next_changes(alloc, store, building, &point.name)?;
-    Ok(PointAtEnd {
-        present,
-        priority,
-        places,
-        next,
-    })
+    point_now(alloc, building, store, &authors, point)
 }

@@ -10,8 +10,8 @@ use Rattle.desk_why.specs.NextChanges.{change_at}
 use Rattle.desk_why.proofs.NextLemmas.{changes-now}
 use Rattle.desk_why.proofs.scheduled.next_changes.Goals as goal
 
-pub returns : goal.returns
-returns c = λ imported tells.
+pub returns-clause-changes : goal.returns-clause-changes
+returns-clause-changes c = λ imported tells.
     let b = c.args.building.now in
     let local = c.in-Some.local in
     let schedules = c.schedules-schedules.result.now in
