@@ -7,7 +7,6 @@
 //! the points, a line each (`lines`, `specs/Lines.antt`).
 #![tactic(auto)]
 
-pub use overriding::{Ended, Given, Override};
 pub use watching::overrides_text;
 
 mod lines;
