@@ -191,6 +191,11 @@ not-refused : (b : Building) (route : RouteValue) (body : List ℕ) (refusal : R
     → IsRequestTo b route body (Refused refusal) → ⊥
 not-refused b (routes.Point segment) body refusal other is = absurd (cc is)
 not-refused b (routes.Report segment) body refusal other (day, is, spells) = absurd (cc is)
+not-refused b routes.Points body refusal other is = absurd (cc is)
+not-refused b (routes.Why segment) body refusal other is = absurd (cc is)
+not-refused b (routes.Panel segment) body refusal other is = absurd (cc is)
+not-refused b routes.Record body refusal other is = absurd (cc is)
+not-refused b routes.Metrics body refusal other is = absurd (cc is)
 not-refused b (routes.Commands segment) body refusal other is = command-refused segment body refusal other is
 not-refused b (routes.Skip segment) body refusal other is = skip-refused segment body refusal other is
 not-refused b routes.Tick body refusal other is = tick-refused body refusal other is

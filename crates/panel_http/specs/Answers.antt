@@ -11,6 +11,7 @@ use Rattle.deliveries.specs.declared.reply.Reply.TheVariants as reply_of
 use Rattle.desk.specs.PointState.{state_of}
 use Rattle.desk.specs.declared.point_state.PointState.{PointState}
 use Rattle.points.specs.Rights.{point_named}
+use Rattle.panel_http.specs.declared.refusal.Refusal.TheVariants.{NoRoute}
 use Rattle.panel_http.specs.declared.request.Request.{Request}
 use Rattle.panel_http.specs.declared.request.Request.TheVariants as asked
 use Rattle.panel_http.specs.Response.{Said, Says}
@@ -38,7 +39,7 @@ abbrev pub IsPointSaid : Building → Tables → Option Text → Said → Type 0
 IsPointSaid building now None said = said ≡ no_point_said
 IsPointSaid building now (Some name) said = said ≡ state_said name (state_of (now.places name) (point_named building.points name))
 
--- to a request, over the tables of the deliveries before it
+-- to a request, over the tables of the deliveries before it; the desk has no route of a view
 abbrev pub IsSaid : Building → List Delivery → Request → Said → Type 0
 IsSaid building earlier (asked.Refused refusal) said = said ≡ refusal_said refusal
 IsSaid building earlier (asked.Delivery delivery) said = said ≡ reply_said (reply building earlier delivery)
@@ -48,6 +49,7 @@ IsSaid building earlier (asked.Point name) said = IsPointSaid building (tables b
 IsSaid building earlier (asked.Report None) said = said ≡ no_day_said
 IsSaid building earlier (asked.Report (Some day)) said = (imported : Text → List Text) → Tells (tables building earlier).imported imported
     → said ≡ report_said (report_text building imported (tables building earlier).places day)
+IsSaid building earlier (asked.View view) said = said ≡ refusal_said NoRoute
 
 -- ---- what is left
 
@@ -59,6 +61,7 @@ after earlier asked.NoPanel = earlier
 after earlier (asked.RefusedImport fault) = earlier
 after earlier (asked.Point name) = earlier
 after earlier (asked.Report day) = earlier
+after earlier (asked.View view) = earlier
 
 -- a store that has failed in this call is shut, and opened again it holds the one or the other; one that was shut
 -- before holds what it held

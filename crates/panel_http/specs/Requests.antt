@@ -1,4 +1,4 @@
--- What the bytes of an input ask of the desk of a building.
+-- What the bytes of an input ask of the desk of a building, or of its follower.
 use Rattle.std.specs.Prelude.{◌≡◌, ◌<◌, ◌≤◌, ◌↔◌, ◌⊎◌, ℕ, List, [], length, take, Option, Some, None, Result, Ok, Err}
 use Rattle.jiff_core.specs.declared.civil.date.Date.{Date}
 use Rattle.building.specs.Building.{Building}
@@ -13,7 +13,8 @@ use Rattle.panel_http.specs.Routes.{RouteValue}
 use Rattle.panel_http.specs.declared.refusal.Refusal.{Refusal}
 use Rattle.panel_http.specs.declared.refusal.Refusal.TheVariants.{CutBody, NoHead, NotDelivery}
 use Rattle.panel_http.specs.declared.request.Request.{Request}
-use Rattle.panel_http.specs.declared.request.Request.TheVariants.{Point, Refused, Report}
+use Rattle.panel_http.specs.declared.request.Request.TheVariants.{Point, Refused, Report, View}
+use Rattle.panel_http.specs.declared.view.View.TheVariants as view
 
 -- ---- by the route
 
@@ -35,6 +36,11 @@ IsRequestTo building routes.Tick body request = request ≡ or_refused (tick_bod
 IsRequestTo building routes.Imports body request = request ≡ of_import (import_of building body)
 IsRequestTo building (routes.Point segment) body request = request ≡ Point (named segment)
 IsRequestTo building (routes.Report segment) body request = (day : Option Date) × (request ≡ Report day) × IsDay segment day
+IsRequestTo building routes.Points body request = request ≡ View view.Points
+IsRequestTo building (routes.Why segment) body request = request ≡ View (view.Why (named segment))
+IsRequestTo building (routes.Panel segment) body request = request ≡ View (view.Panel (named segment))
+IsRequestTo building routes.Record body request = request ≡ View view.Record
+IsRequestTo building routes.Metrics body request = request ≡ View view.Metrics
 
 -- ---- by the head
 

@@ -1,4 +1,4 @@
--- The routes of the desk, and which of them a request asks.
+-- The routes of the desk and of its follower, and which of them a request asks.
 use Rattle.std.specs.Prelude.{ℕ, List, [], ◌∷◌, Bool, Option, None, Some, Result, Ok, Err, codes}
 use Rattle.std.specs.Prelude.{if◌then◌else◌, ltb, option_and_then, option_map}
 use Rattle.std.specs.List.{list_all}
@@ -40,7 +40,12 @@ post_rows =
 abbrev pub get_rows : Rows
 get_rows =
     with_row (codes "/points/{point}") row.Point
-    (with_row (codes "/reports/{date}") row.Report [])
+    (with_row (codes "/reports/{date}") row.Report
+    (with_row (codes "/points") row.Points
+    (with_row (codes "/points/{point}/why") row.Why
+    (with_row (codes "/panels/{panel}") row.Panel
+    (with_row (codes "/record") row.Record
+    (with_row (codes "/metrics") row.Metrics []))))))
 
 -- those of a method, which is the bytes of its token, with regard to case (RFC 9110)
 abbrev pub rows_of : Text → Option Rows
@@ -58,6 +63,11 @@ pub data RouteValue : Type 0 where
   Imports : RouteValue
   Point : (point : Option Text) → RouteValue
   Report : (date : Option Text) → RouteValue
+  Points : RouteValue
+  Why : (point : Option Text) → RouteValue
+  Panel : (panel : Option Text) → RouteValue
+  Record : RouteValue
+  Metrics : RouteValue
 
 abbrev pub route_value : Route → RouteValue
 route_value (route.Commands panel) = Commands (option_map (λ s. s.now) panel)
@@ -66,6 +76,11 @@ route_value route.Tick = Tick
 route_value route.Imports = Imports
 route_value (route.Point point) = Point (option_map (λ s. s.now) point)
 route_value (route.Report date) = Report (option_map (λ s. s.now) date)
+route_value route.Points = Points
+route_value (route.Why point) = Why (option_map (λ s. s.now) point)
+route_value (route.Panel panel) = Panel (option_map (λ s. s.now) panel)
+route_value route.Record = Record
+route_value route.Metrics = Metrics
 
 abbrev pub route_with : Row → Option Text → RouteValue
 route_with row.Commands parameter = Commands parameter
@@ -74,6 +89,11 @@ route_with row.Tick parameter = Tick
 route_with row.Imports parameter = Imports
 route_with row.Point parameter = Point parameter
 route_with row.Report parameter = Report parameter
+route_with row.Points parameter = Points
+route_with row.Why parameter = Why parameter
+route_with row.Panel parameter = Panel parameter
+route_with row.Record parameter = Record
+route_with row.Metrics parameter = Metrics
 
 -- what the first parameter took
 abbrev pub first_part : List (Text × Text) → Option Text
@@ -106,3 +126,8 @@ limit_of Tick = Some 65536
 limit_of Imports = Some 262144
 limit_of (Point point) = None
 limit_of (Report date) = None
+limit_of Points = None
+limit_of (Why point) = None
+limit_of (Panel panel) = None
+limit_of Record = None
+limit_of Metrics = None

@@ -9,6 +9,7 @@ ghost use Rattle.panel_http.specs.Keeping.{KeepsStep};
 ghost use Rattle.panel_http.specs.declared.request.Request.TheVariants as asked;
 
 use crate::looking::{point_answer, report_answer};
+use crate::refusal::Refusal;
 use crate::refusals::refusal_response;
 use crate::replies::{import_refused_response, reply_response};
 use crate::request::Request;
@@ -20,7 +21,8 @@ use desk_record::{Recorder, deliver};
 use std::alloc::Global;
 use store::Store;
 
-/// Answers a request: makes its delivery, or looks at what it asks for.
+/// Answers a request: makes its delivery, or looks at what it asks for. A view, which a follower alone answers, has no
+/// route here.
 pub(crate) fn answer<S: Store + Drop, K: Recorder>(
     alloc: Global,
     desk: &mut Desk<S>,
@@ -46,6 +48,9 @@ pub(crate) fn answer<S: Store + Drop, K: Recorder>(
         }
         Request::Point(name) => point_answer(alloc, desk, *name),
         Request::Report(day) => report_answer(alloc, desk, *day),
+        Request::View(_) => {
+            refusal_response(alloc, Refusal::NoRoute).or(Err(Unanswered::NoMemory))
+        }
     }
 }
 

@@ -57,7 +57,7 @@ fn named_point_answer<S: Store + Drop>(
 }
 
 /// The response with the state of a point, or that there is none.
-fn state_response(
+pub fn state_response(
     alloc: Global,
     name: &Name,
     state: &Option<PointState>,

@@ -1,12 +1,13 @@
 //! What an input asks.
 
 use crate::refusal::Refusal;
+use crate::view::View;
 use building_holidays::ImportFault;
 use dates::Day;
 use deliveries::Delivery;
 use points::Name;
 
-/// What an input asks of the desk.
+/// What an input asks of the desk, or of its follower.
 #[derive(Drop)]
 pub enum Request {
     /// It is refused.
@@ -21,4 +22,6 @@ pub enum Request {
     Point(Option<Name>),
     /// It asks for the report of a day; `None` where its segment of the target spells none.
     Report(Option<Day>),
+    /// It asks for a view, which a follower alone answers.
+    View(View),
 }

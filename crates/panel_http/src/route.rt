@@ -1,4 +1,4 @@
-//! What a request asks of the desk.
+//! What a request asks of the desk, or of its follower.
 
 /// What a request asks, with the parameter of its route: one segment of the target that isn't empty, as it
 /// stands. Where the target has a byte past ASCII the parameter is `None`: no name and no date has such a byte.
@@ -28,6 +28,22 @@ pub enum Route<'a> {
         /// The day.
         date: Option<&'a str>,
     },
+    /// `GET /points`: answers how each point is, at a follower.
+    Points,
+    /// `GET /points/{point}/why`: answers why a point has its value, at a follower.
+    Why {
+        /// The point's name.
+        point: Option<&'a str>,
+    },
+    /// `GET /panels/{panel}`: answers how a panel stands, at a follower.
+    Panel {
+        /// The panel's name.
+        panel: Option<&'a str>,
+    },
+    /// `GET /record`: answers how far the record is read, at a follower.
+    Record,
+    /// `GET /metrics`: answers what is counted, at a follower.
+    Metrics,
 }
 
 /// A route that is found, and the greatest number of bytes in its body.

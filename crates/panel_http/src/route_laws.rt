@@ -2,7 +2,7 @@
 
 ghost use Rattle.panel_http.specs.RouteLaws.{EachRouteIsFound};
 
-/// Each of the six routes is found at a target of its form, and no other method has it.
+/// Each of the eleven routes is found at a target of its form, and no other method has it.
 pub fn each_route_is_found()
     ensures { EachRouteIsFound }
 {}

@@ -11,6 +11,7 @@ use crate::panel_bodies::named;
 use crate::refusal::Refusal;
 use crate::request::Request;
 use crate::route::Route;
+use crate::view::View;
 use building::Building;
 use dates::Day;
 use delivery_json::LineFault;
@@ -32,6 +33,11 @@ pub(crate) fn request_to(
         Route::Imports => or_refused(import_body(alloc, building, body)),
         Route::Point { point } => Ok(Request::Point(named(*point))),
         Route::Report { date } => Ok(Request::Report(day_of(*date))),
+        Route::Points => Ok(Request::View(View::Points)),
+        Route::Why { point } => Ok(Request::View(View::Why(named(*point)))),
+        Route::Panel { panel } => Ok(Request::View(View::Panel(named(*panel)))),
+        Route::Record => Ok(Request::View(View::Record)),
+        Route::Metrics => Ok(Request::View(View::Metrics)),
     }
 }
 

@@ -21,9 +21,14 @@ enum Row {
     Imports,
     Point,
     Report,
+    Points,
+    Why,
+    Panel,
+    Record,
+    Metrics,
 }
 
-/// The routes of the desk.
+/// The routes of the desk and of its follower.
 #[derive(Drop)]
 pub struct Routes {
     posts: Router<Row>,
@@ -95,6 +100,11 @@ fn route_with(row: Row, parameter: Option<&str>) -> FoundRoute<'_>
         Row::Imports => (Route::Imports, Some(262_144)),
         Row::Point => (Route::Point { point: parameter }, None),
         Row::Report => (Route::Report { date: parameter }, None),
+        Row::Points => (Route::Points, None),
+        Row::Why => (Route::Why { point: parameter }, None),
+        Row::Panel => (Route::Panel { panel: parameter }, None),
+        Row::Record => (Route::Record, None),
+        Row::Metrics => (Route::Metrics, None),
     };
     FoundRoute { route, limit }
 }
@@ -136,6 +146,11 @@ fn gets(alloc: Global) -> Result<Router<Row>, AllocError>
     ensures { IfOk result (λ router. router ≡ get_rows) }
 {
     let mut router = Router::new(alloc);
+    add(&mut router, "/metrics", Row::Metrics)?;
+    add(&mut router, "/record", Row::Record)?;
+    add(&mut router, "/panels/{panel}", Row::Panel)?;
+    add(&mut router, "/points/{point}/why", Row::Why)?;
+    add(&mut router, "/points", Row::Points)?;
     add(&mut router, "/reports/{date}", Row::Report)?;
     add(&mut router, "/points/{point}", Row::Point)?;
     Ok(router)

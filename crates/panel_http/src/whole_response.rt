@@ -10,14 +10,18 @@ use std::fmt;
 /// A response: its status, and its whole text.
 #[derive(Drop)]
 pub struct Response {
+    /// The status, which the text has in its first line.
     pub status: StatusCode,
+    /// The text: the head, and the body behind it.
     pub text: String,
 }
 
 /// The type of a body.
 #[derive(Clone, Copy)]
-pub(crate) enum ContentType {
+pub enum ContentType {
+    /// `application/json`.
     Json,
+    /// `text/plain`.
     PlainText,
 }
 
@@ -40,7 +44,7 @@ const HEAD_ROOM: usize = 128;
 
 /// The response of a status with a body.
 #[tactic(auto, unfolding(crate::specs::Response::response_text))]
-pub(crate) fn respond(
+pub fn respond(
     alloc: Global,
     status: StatusCode,
     content: ContentType,

@@ -12,8 +12,9 @@ use crate::whole_response::Response;
 use http::StatusCode;
 use std::io::Write;
 
-/// Writes the response that an answer has.
-pub(crate) fn write_answer<W: Write>(
+/// Writes the response that an answer has. Where there is none of its own, that is one which takes no memory, or nothing
+/// is written.
+pub fn write_answer<W: Write>(
     writer: &mut Counted<W>,
     answer: Result<Response, Unanswered>,
 ) -> Served

@@ -11,6 +11,11 @@ returns c = record {
   imports = refl;
   point = refl;
   report = refl;
+  points = refl;
+  why = refl;
+  panel = refl;
+  «record» = refl;
+  metrics = refl;
   other_method = refl;
   other_target = refl;
 }
