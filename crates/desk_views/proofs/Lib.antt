@@ -1,0 +1,2 @@
+pub mod DividedLemmas
+pub mod PlaceLemmas
